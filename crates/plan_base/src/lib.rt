@@ -1,0 +1,18 @@
+// Numbers, snapshots, plans and claims, with every definition on them.
+#![tactic(auto)]
+
+mod claim;
+mod list;
+mod name;
+mod number;
+mod parts;
+mod span;
+mod verdict;
+
+pub use claim::{Claim, Placement, Prices, QuotaPrices, Settings};
+pub use list::ListOf;
+pub use name::{NAME_BYTES, Name};
+pub use number::{GroupNo, RequestNo, Sec, SiteNo, SliceNo, TargetNo, TelescopeNo};
+pub use parts::{GroupPart, Op, Parts, RequestPart, Sky, TelescopePart};
+pub use span::Span;
+pub use verdict::{Reason, Verdict};

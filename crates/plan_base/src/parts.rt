@@ -1,0 +1,82 @@
+// What a snapshot holds: the telescopes, skies and groups of one desk at one version.
+
+use crate::list::ListOf;
+use crate::number::{GroupNo, RequestNo, SiteNo, SliceNo, TargetNo, TelescopeNo};
+use crate::span::Span;
+
+/// How the requests of a group belong together.
+#[derive(Clone, Copy, Debug, PartialEq, Eq)]
+pub enum Op {
+    /// One request.
+    Single,
+    /// Any of the requests may be placed.
+    Many,
+    /// At most one of the requests may be placed.
+    OneOf,
+    /// All of the requests are placed, or none.
+    And,
+}
+
+/// A telescope; its number is its place in the snapshot's list.
+#[derive(Debug, Drop, PartialEq, Eq)]
+pub struct TelescopePart {
+    pub site: SiteNo,
+    /// When it can observe, sorted with gaps between the spans.
+    pub usable: ListOf<Span>,
+}
+
+/// When a target can be observed from a site, sorted with gaps between the spans.
+#[derive(Debug, Drop, PartialEq, Eq)]
+pub struct Sky {
+    pub target: TargetNo,
+    pub site: SiteNo,
+    pub spans: ListOf<Span>,
+}
+
+/// An observation that is asked for.
+#[derive(Debug, Drop, PartialEq, Eq)]
+pub struct RequestPart {
+    pub request: RequestNo,
+    /// How long it takes, 1 to 86,400 seconds.
+    pub seconds: u32,
+    /// What it is worth at its earliest slice, 1 to 288,000,000.
+    pub value: u32,
+    /// It lies inside one of these.
+    pub windows: ListOf<Span>,
+    /// The telescopes that can take it, in rising order.
+    pub telescopes: ListOf<TelescopeNo>,
+    /// All of these have to be visible while it is taken.
+    pub targets: ListOf<TargetNo>,
+    /// The thousandths of the value, 0 to 1,000, that are lost with each slice of delay after the earliest slice.
+    pub fade: u16,
+}
+
+/// A request group.
+#[derive(Debug, Drop, PartialEq, Eq)]
+pub struct GroupPart {
+    pub group: GroupNo,
+    pub op: Op,
+    pub requests: ListOf<RequestPart>,
+    /// The place in the snapshot's list of quotas of the one that the group counts towards, if there is one.
+    pub quota: Option<u16>,
+}
+
+/// The parts of a snapshot. Requests are counted through the list of groups.
+#[derive(Debug, Drop, PartialEq, Eq)]
+pub struct Parts {
+    /// How many changes the desk had accepted, 0 to 524,288.
+    pub version: u64,
+    /// How long a slice is, 60 to 3,600 seconds.
+    pub len: u32,
+    /// The first slice of the horizon, 0 to 4,223,371,680.
+    pub first: SliceNo,
+    /// How many slices the horizon has, 1 to 1,440.
+    pub slices: u32,
+    pub telescopes: ListOf<TelescopePart>,
+    /// In rising order of target, then site.
+    pub skies: ListOf<Sky>,
+    /// In rising order of group and of request.
+    pub groups: ListOf<GroupPart>,
+    /// The most seconds, 0 to 100,000,000, that a plan may place of the groups that name each quota.
+    pub quotas: ListOf<u64>,
+}
