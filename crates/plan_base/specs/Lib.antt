@@ -1,0 +1,13 @@
+pub mod Sums
+pub mod Requests
+pub mod Snapshot
+pub mod Starts
+pub mod Feasible
+pub mod Bound
+pub mod Saturated
+pub mod Fill
+pub mod Canonical
+pub mod Round
+pub mod Repaired
+pub mod Verdict
+pub mod Planned

@@ -2,6 +2,7 @@
 #![tactic(auto)]
 
 mod claim;
+mod fault;
 mod list;
 mod name;
 mod number;
@@ -10,6 +11,7 @@ mod span;
 mod verdict;
 
 pub use claim::{Claim, Placement, Prices, QuotaPrices, Settings};
+pub use fault::{Counted, SnapshotFault};
 pub use list::ListOf;
 pub use name::{NAME_BYTES, Name};
 pub use number::{GroupNo, RequestNo, Sec, SiteNo, SliceNo, TargetNo, TelescopeNo};
