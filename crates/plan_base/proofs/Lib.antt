@@ -1,0 +1,5 @@
+pub mod OneFill
+pub mod OneRound
+pub mod OneVerdict
+pub mod Orders
+pub mod Single
