@@ -3,3 +3,4 @@ pub mod OneRound
 pub mod OneVerdict
 pub mod Orders
 pub mod Single
+pub mod Sizes
