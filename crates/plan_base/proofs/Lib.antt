@@ -1,3 +1,4 @@
+pub mod FaultLemmas
 pub mod OneFill
 pub mod OneRound
 pub mod OneVerdict

@@ -1,6 +1,8 @@
 pub mod Sums
 pub mod Requests
 pub mod Snapshot
+pub mod Faults
+pub mod Rows
 pub mod Starts
 pub mod Feasible
 pub mod Bound

@@ -1,12 +1,15 @@
 // Numbers, snapshots, plans and claims, with every definition on them.
 #![tactic(auto)]
 
+mod build;
 mod claim;
 mod fault;
+mod limits;
 mod list;
 mod name;
 mod number;
 mod parts;
+mod rows;
 mod span;
 mod verdict;
 

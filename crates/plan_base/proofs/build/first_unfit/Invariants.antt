@@ -1,0 +1,10 @@
+use Rattle.std.proofs.Common.{◌≡◌, ◌∷◌, not, drop, map, Some}
+use Rattle.std.specs.List.{find, zip}
+use Rattle.std.specs.Option.{option_map}
+use Rattle.plan_base.specs.Snapshot.{fits_after}
+use Rattle.plan_base.specs.Faults.{first_unfit}
+use Rattle.plan_base.proofs.FaultLemmas.{unfit_from}
+use Rattle.plan_base.proofs.build.first_unfit.Given as goal
+
+abbrev pub invariant-loop-telescope : goal.invariant-loop-telescope
+invariant-loop-telescope l = unfit_from l.count l.last (drop l.telescope-index l.telescopes) ≡ first_unfit l.count l.telescopes
