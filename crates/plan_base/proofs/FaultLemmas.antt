@@ -69,7 +69,7 @@ list_any-flat_map p f (x ∷ xs) = list_any-append p (f x) (flat_map f xs) ∙ a
 pub find_position : {X : Type 0} (p : X → Bool) (xs : List X) → find p xs ≡ option_and_then (λ i. slice_get xs i) (position p xs)
 find_position p xs =
     let past : (b : Bool) → b ≡ ltb (position_or_len p xs) (length xs) → slice_get xs (position_or_len p xs) ≡ option_and_then (λ i. slice_get xs i) (cond b (Some (position_or_len p xs)) None)
-        = λ b. elim b as (λ v. v ≡ ltb (position_or_len p xs) (length xs) → slice_get xs (position_or_len p xs) ≡ option_and_then (λ i. slice_get xs i) (cond v (Some (position_or_len p xs)) None)) [ true ↦ λ _. refl | false ↦ λ e. slice_get_past xs _ (grind arith) ]
+    = λ b. elim b as (λ v. v ≡ ltb (position_or_len p xs) (length xs) → slice_get xs (position_or_len p xs) ≡ option_and_then (λ i. slice_get xs i) (cond v (Some (position_or_len p xs)) None)) [ true ↦ λ _. refl | false ↦ λ e. slice_get_past xs _ (grind arith) ]
     in find_at p xs ∙ past _ refl
 
 pub second-zip : {X Y : Type 0} (xs : List X) (ys : List Y) (i : ℕ) → length ys ≤ length xs → option_map (λ p. p.1) (slice_get (zip xs ys) i) ≡ slice_get ys i
@@ -130,7 +130,7 @@ limits_joined s =
 pub list_any-all_spans : (p : Span → Bool) (s : Parts) → list_any p (all_spans s) ≡ (list_any (λ t. list_any p t.usable) s.telescopes || list_any (λ y. list_any p y.spans) s.skies || list_any (λ q. list_any p q.windows) (all_requests s.groups))
 list_any-all_spans p s =
     let windows : flat_map (λ x. x.request.windows) (listed s) ≡ flat_map (λ q. q.windows) (all_requests s.groups)
-        = sym (flat_map-map (λ q. q.windows) (λ x. x.request) (listed s)) ∙ ap (flat_map (λ q. q.windows)) (requests-listed 0 s.groups)
+    = sym (flat_map-map (λ q. q.windows) (λ x. x.request) (listed s)) ∙ ap (flat_map (λ q. q.windows)) (requests-listed 0 s.groups)
     in simp (list_any-append, windows, list_any-flat_map)
 
 -- ---- the orders
@@ -138,7 +138,7 @@ list_any-all_spans p s =
 pub fall_position : {X : Type 0} (number : X → ℕ) (xs : List X) → first_fall number xs ≡ option_and_then (λ i. slice_get xs (suc i)) (position (λ p. nat_le (number p.1) (number p.0)) (zip xs (drop 1 xs)))
 fall_position number xs =
     let each : (o : Option ℕ) → option_map (λ p. p.1) (option_and_then (λ i. slice_get (zip xs (drop 1 xs)) i) o) ≡ option_and_then (λ i. slice_get xs (suc i)) o
-        = λ o. elim o as (λ v. option_map (λ p. p.1) (option_and_then (λ i. slice_get (zip xs (drop 1 xs)) i) v) ≡ option_and_then (λ i. slice_get xs (suc i)) v) [ None ↦ refl | Some i ↦ later-zip xs i ]
+    = λ o. elim o as (λ v. option_map (λ p. p.1) (option_and_then (λ i. slice_get (zip xs (drop 1 xs)) i) v) ≡ option_and_then (λ i. slice_get xs (suc i)) v) [ None ↦ refl | Some i ↦ later-zip xs i ]
     in ap (option_map (λ p. p.1)) (find_position (λ p. nat_le (number p.1) (number p.0)) (zip xs (drop 1 xs))) ∙ each _
 
 pub fall_absent : {X : Type 0} (number : X → ℕ) (xs : List X) → None ≡ position (λ p. nat_le (number p.1) (number p.0)) (zip xs (drop 1 xs)) → None ≡ first_fall number xs
@@ -155,7 +155,7 @@ fall_found number xs i d h e =
 pub fall-map : {X Y : Type 0} (number : Y → ℕ) (f : X → Y) (xs : List X) → first_fall number (map f xs) ≡ option_map f (first_fall (λ x. number (f x)) xs)
 fall-map number f xs =
     let pairs : zip (map f xs) (drop 1 (map f xs)) ≡ map (λ p. (f p.0, f p.1)) (zip xs (drop 1 xs))
-        = ap (zip (map f xs)) (drop-map f 1 xs) ∙ zip-map f xs (drop 1 xs)
+    = ap (zip (map f xs)) (drop-map f 1 xs) ∙ zip-map f xs (drop 1 xs)
     in ap (λ ps. option_map (λ p. p.1) (find (λ p. nat_le (number p.1) (number p.0)) ps)) pairs
     ∙ ap (option_map (λ p. p.1)) (find-map (λ p. nat_le (number p.1) (number p.0)) (λ p. (f p.0, f p.1)) (zip xs (drop 1 xs)))
     ∙ option_map-map (λ p. p.1) (λ p. (f p.0, f p.1)) (find (λ p. nat_le (number (f p.1)) (number (f p.0))) (zip xs (drop 1 xs)))
@@ -193,10 +193,10 @@ pub telescope_fault_is : (s : Parts) → option_map (λ t. NoSuchTelescope t) (f
 telescope_fault_is s =
     let test : Option TelescopeNo × TelescopeNo → Bool = λ p. not (fits_after (length s.telescopes) p) in
     ap (option_map (λ t. NoSuchTelescope t))
-        (sym (first_some-flat_map (λ q. first_unfit (length s.telescopes) q.telescopes) (λ x. x.requests) s.groups)
-        ∙ ap first_some (sym (map-listed (λ q. first_unfit (length s.telescopes) q.telescopes) s) ∙ sym (map-map (option_map (λ p. p.1)) (λ x. find test (with_last x.request.telescopes)) (listed s)))
-        ∙ sym (option_map-first_some (λ p. p.1) (map (λ x. find test (with_last x.request.telescopes)) (listed s)))
-        ∙ ap (option_map (λ p. p.1)) (sym (find-flat_map test (λ x. with_last x.request.telescopes) (listed s))))
+    (sym (first_some-flat_map (λ q. first_unfit (length s.telescopes) q.telescopes) (λ x. x.requests) s.groups)
+    ∙ ap first_some (sym (map-listed (λ q. first_unfit (length s.telescopes) q.telescopes) s) ∙ sym (map-map (option_map (λ p. p.1)) (λ x. find test (with_last x.request.telescopes)) (listed s)))
+    ∙ sym (option_map-first_some (λ p. p.1) (map (λ x. find test (with_last x.request.telescopes)) (listed s)))
+    ∙ ap (option_map (λ p. p.1)) (sym (find-flat_map test (λ x. with_last x.request.telescopes) (listed s))))
     ∙ option_map-map (λ t. NoSuchTelescope t) (λ p. p.1) (find test (flat_map (λ x. with_last x.request.telescopes) (listed s)))
 
 pub fade_fault_is : (s : Parts) → option_map (λ r. FadeRange r) (option_map (λ q. q.request) (find (λ q. nat_lt 1000 q.fade) (all_requests s.groups))) ≡ fade_fault s

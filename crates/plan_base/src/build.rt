@@ -3,7 +3,9 @@
 ghost use Rattle.std.specs.Prelude.{◌≡◌, ℕ, ◌+◌, ◌≤◌, ◌<◌, nat_lt, nat_le, ◌&&◌, ◌||◌, [], ◌∷◌, ◌++◌, length, map, drop, Option, find, position, IfSome};
 ghost use Rattle.std.specs.List.{list_any, list_all, zip, flat_map};
 ghost use Rattle.std.specs.Option.{option_map};
-ghost use Rattle.plan_base.specs.Snapshot.{all_spans, is_apart, sky_below, skies_rise, most_requests, has_shape, fits_after, names_quota, first_some, span_fault, apart_fault, group_fault, shape_fault, telescope_fault, fade_fault, quota_fault, quota_range_fault};
+ghost use Rattle.plan_base.specs.Snapshot.{all_spans, is_apart, sky_below, skies_rise, most_requests, has_shape, fits_after, names_quota, first_some, span_fault, apart_fault, group_fault, request_fault, shape_fault, telescope_fault, fade_fault, quota_fault, quota_range_fault};
+ghost use Rattle.plan_base.specs.Rows.{rows_from};
+ghost use Rattle.plan_base.specs.declared.parts.Parts.{Parts};
 ghost use Rattle.plan_base.specs.Faults.{all_requests, has_empty, first_fall, first_unfit, unfit_in, fault_within_limits};
 
 use crate::fault::SnapshotFault;
@@ -11,6 +13,23 @@ use crate::number::{RequestNo, TelescopeNo};
 use crate::parts::{GroupPart, Op, Parts, RequestPart, Sky};
 use crate::rows::Row;
 use crate::span::Span;
+
+/// The first fault of parts within the limits, whose requests have these rows.
+pub(crate) fn fault_within_limits(parts: &Parts, rows: &[Row]) -> Option<SnapshotFault>
+    requires few { length parts.now.quotas ≤ 1024 }
+    requires rows { rows.now ≡ rows_from 0 parts.now.groups }
+    ensures { result ≡ fault_within_limits parts.now }
+{
+    span_fault(parts)
+        .or_else(|| apart_fault(parts))
+        .or_else(|| group_fault(parts))
+        .or_else(|| request_fault(rows))
+        .or_else(|| shape_fault(parts))
+        .or_else(|| telescope_fault(parts))
+        .or_else(|| fade_fault(parts))
+        .or_else(|| quota_fault(parts))
+        .or_else(|| quota_range_fault(parts))
+}
 
 fn span_fault(parts: &Parts) -> Option<SnapshotFault>
     ensures { result ≡ span_fault parts.now }
@@ -25,8 +44,8 @@ fn span_fault(parts: &Parts) -> Option<SnapshotFault>
 fn has_empty_span(parts: &Parts) -> bool
     ensures { result
         ≡ (list_any (λ t. has_empty t.usable) parts.now.telescopes
-            || list_any (λ y. has_empty y.spans) parts.now.skies
-            || list_any (λ q. has_empty q.windows) (all_requests parts.now.groups)) }
+        || list_any (λ y. has_empty y.spans) parts.now.skies
+        || list_any (λ q. has_empty q.windows) (all_requests parts.now.groups)) }
 {
     has_empty_usable(parts) || has_empty_sky(parts) || has_empty_window(parts)
 }
@@ -140,7 +159,7 @@ fn falling_group(groups: &[GroupPart]) -> Option<usize>
 }
 
 fn request_fault(rows: &[Row]) -> Option<SnapshotFault>
-    ensures { result ≡ option_map (λ r. SnapshotFault.RequestOrder r.request) (first_fall (λ r. r.request.0) rows.now) }
+    ensures { (s : Parts) → rows.now ≡ rows_from 0 s.groups → result ≡ request_fault s }
 {
     match falling_row(rows) {
         None => None,

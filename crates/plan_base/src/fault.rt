@@ -1,6 +1,7 @@
 // Why parts aren't a snapshot.
 
 use crate::number::{GroupNo, RequestNo, TelescopeNo};
+use std::alloc::AllocError;
 use thiserror::Error;
 
 /// What is counted in a snapshot's parts, in the order in which the counts are tested.
@@ -64,4 +65,15 @@ pub enum SnapshotFault {
     /// There is no memory left.
     #[error("out of memory")]
     NoMemory,
+}
+
+impl From<AllocError> for SnapshotFault {
+    ghost use Rattle.std.specs.Prelude.{◌≡◌};
+    ghost use Rattle.plan_base.specs.declared.fault.SnapshotFault.TheVariants.{NoMemory};
+
+    ghost from_gives = { λ _ fault. fault ≡ NoMemory };
+
+    fn from(_: AllocError) -> Self {
+        SnapshotFault::NoMemory
+    }
 }

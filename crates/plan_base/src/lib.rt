@@ -10,6 +10,7 @@ mod name;
 mod number;
 mod parts;
 mod rows;
+mod snapshot;
 mod span;
 mod verdict;
 
@@ -19,5 +20,6 @@ pub use list::ListOf;
 pub use name::{NAME_BYTES, Name};
 pub use number::{GroupNo, RequestNo, Sec, SiteNo, SliceNo, TargetNo, TelescopeNo};
 pub use parts::{GroupPart, Op, Parts, RequestPart, Sky, TelescopePart};
+pub use snapshot::Snapshot;
 pub use span::Span;
 pub use verdict::{Reason, Verdict};

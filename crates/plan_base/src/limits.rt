@@ -128,7 +128,9 @@ fn sky_spans(skies: &[Sky]) -> Option<u64>
 fn request_count(parts: &Parts) -> Option<u64>
     ensures { IfSome result (λ n. n ≡ length (listed parts.now)) }
 {
-    parts.groups.as_slice()
+    parts
+        .groups
+        .as_slice()
         .iter()
         .try_fold(0u64, |sum, x| sum.checked_add(x.requests.len() as u64))
 }
