@@ -46,7 +46,6 @@ within_all (u ∷ us) j m a h = by_place (place_cases j (length (u ∷ us)))
   where
     place_cases : (a b : ℕ) → (a < b) ⊎ (b ≤ a)
     place_cases a b = grind arith
-
     by_place : (j < length (u ∷ us)) ⊎ (length (u ∷ us) ≤ j) → ⊥
     by_place (inl l) = let most : slice_index_or (u ∷ us) j 0 ≤ m = a j 0 l in omega arith
     by_place (inr l) = let none : slice_index_or (u ∷ us) j 0 ≡ 0 = get_or_past (u ∷ us) j 0 l in omega arith
