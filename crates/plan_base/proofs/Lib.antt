@@ -3,3 +3,6 @@ pub mod OneRound
 pub mod OneVerdict
 pub mod Orders
 pub mod Single
+pub mod Totals
+pub mod Split
+pub mod Duality
