@@ -3,6 +3,9 @@ pub mod OneRound
 pub mod OneVerdict
 pub mod Orders
 pub mod Single
+pub mod Lists
 pub mod Totals
 pub mod Split
+pub mod Known
 pub mod Duality
+pub mod Limits
