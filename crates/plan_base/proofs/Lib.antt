@@ -1,6 +1,12 @@
+pub mod Duality
+pub mod Known
+pub mod Limits
+pub mod Lists
 pub mod OneFill
 pub mod OneRound
 pub mod OneVerdict
 pub mod Orders
+pub mod Rebates
 pub mod Single
-pub mod Sizes
+pub mod Split
+pub mod Totals
