@@ -2,6 +2,7 @@ pub mod Duality
 pub mod Known
 pub mod Limits
 pub mod Lists
+pub mod Members
 pub mod OneFill
 pub mod OneRound
 pub mod OneVerdict
