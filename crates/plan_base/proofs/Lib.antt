@@ -10,4 +10,5 @@ pub mod Orders
 pub mod Rebates
 pub mod Single
 pub mod Split
+pub mod Tables
 pub mod Totals
