@@ -5,6 +5,7 @@ pub mod Lists
 pub mod Members
 pub mod OneFill
 pub mod OneRound
+pub mod OneSpan
 pub mod OneVerdict
 pub mod Orders
 pub mod Rebates
