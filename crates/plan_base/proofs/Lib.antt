@@ -4,3 +4,6 @@ pub mod OneVerdict
 pub mod Orders
 pub mod Single
 pub mod Sizes
+pub mod Totals
+pub mod Split
+pub mod Duality
