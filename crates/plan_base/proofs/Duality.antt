@@ -1,42 +1,30 @@
 -- Weak duality: the three parts of a plan's value, by telescope, by group and by quota.
-use Rattle.std.proofs.Common.{◌+◌, suc, ◌≡◌, ◌≢◌, ℕ, ◌*◌, ◌≤◌, ◌<◌, ◌⊎◌, inl, inr, true, ◌==◌, ℤ, pos, ◌+ℤ◌, ◌≤ℤ◌, List, [], ◌∷◌, length, map, slice_index_or, filter, sum_by, All, AllPairs, Contains, Option, Some, None, refl, sym, ap, subst, arith}
+use Rattle.std.proofs.Common.{◌≡◌, ◌≢◌, ℕ, ◌*◌, ◌≤◌, ◌<◌, ◌⊎◌, inl, inr, true, ◌==◌, ℤ, pos, ◌+ℤ◌, ◌≤ℤ◌, List, [], ◌∷◌, length, slice_index_or, filter, sum_by, All, AllPairs, Contains, Option, Some, None, refl, sym, ap, subst, arith}
 use Rattle.std.specs.Option.{ForSome}
 use Rattle.std.proofs.lemmas.Int.{ints}
 use Rattle.std.proofs.lemmas.Nat.{mul-le}
-use Rattle.std.proofs.lemmas.List.{length-map}
-use Rattle.std.proofs.lemmas.List.Elements.{All-nil, All-head, All-tail, All-append, All-map, All-filter, All-contains, All-contains_itself, filter_passes, filter_agree}
+use Rattle.std.proofs.lemmas.List.Elements.{All-filter, All-contains, All-contains_itself, filter_passes, filter_agree}
 use Rattle.std.proofs.lemmas.List.Kept.{AllPairs-filter}
 use Rattle.std.proofs.lemmas.Bool.Decides.{nat_tests}
 use Rattle.plan_base.specs.declared.parts.Parts.{Parts}
-use Rattle.plan_base.specs.declared.parts.GroupPart.{GroupPart}
 use Rattle.plan_base.specs.declared.parts.Op.TheVariants.{OneOf}
 use Rattle.plan_base.specs.declared.claim.Placement.{Placement}
 use Rattle.plan_base.specs.Sums.{total, IsSumOf}
-use Rattle.plan_base.specs.Requests.{Listed, listed_from, listed, place_of, known_or, IsKnown, group_of, quota_of, seconds_of, telescopes_of, IsOf, IsKind, AllOrNone}
+use Rattle.plan_base.specs.Requests.{IsKnown, group_of, quota_of, seconds_of, IsOf, IsKind, AllOrNone}
 use Rattle.plan_base.specs.Snapshot.{IsOrderly}
 use Rattle.plan_base.specs.Starts.{IsPossibleStart, ShareSlice, worth_at, value_of_plan}
 use Rattle.plan_base.specs.Feasible.{AreOfOneOneOf, requests_of, is_quota, quota_at, IsFeasible}
 use Rattle.plan_base.specs.Bound.{price, weight, IsStartList, surplus, IsBest, charge, net_price, IsAllowedChoice, IsRebate, IsQuotaPart, IsBound}
+use Rattle.plan_base.proofs.Known.{telescope_known, requests_known, group_known, quota_known}
+use Rattle.plan_base.proofs.Lists.{contains_filter}
 use Rattle.plan_base.proofs.Totals.{total_map, total_add, total_times, total_of_naturals}
-use Rattle.plan_base.proofs.Split.{split, contains_filter}
+use Rattle.plan_base.proofs.Split.{split}
 
 same_from_test : (a b : ℕ) → (a == b) ≡ true → a ≡ b
 same_from_test a b h = grind (arith, nat_tests)
 
 test_from_same : (a b : ℕ) → a ≡ b → (a == b) ≡ true
 test_from_same a b h = grind (arith, nat_tests)
-
--- what holds of each listed request holds of what is known of r
-pub known_has : {X : Type 0} (P : X → Type 0) (f : Listed → X) (d : X) (s : Parts) (r : ℕ) → All (λ x. P (f x)) (listed s) → IsKnown s r → P (known_or f d s r)
-known_has P f d s r a k =
-    let len : length (map f (listed s)) ≡ length (listed s) = length-map (listed s) f in
-    All-map P f (listed s) a (place_of s r) d (omega arith)
-
--- the telescope of a possible start is one of the snapshot's
-pub telescope_known : (s : Parts) (p : Placement) → IsOrderly s → IsPossibleStart s p → p.telescope.0 < length s.telescopes
-telescope_known s p o h =
-    All-contains (λ t. t.0 < length s.telescopes) (telescopes_of s p.request.0) p.telescope
-    (known_has (λ ts. All (λ t. t.0 < length s.telescopes) ts) (λ x. x.request.telescopes) [] s p.request.0 o.telescopes h.known) h.able
 
 -- by telescope: the placements of each are a list of its starts
 starts_on : (s : Parts) (plan : List Placement) (t : ℕ) → IsFeasible s plan → IsStartList s t s.first.0 (filter (λ p. p.telescope.0 == t) plan)
@@ -53,19 +41,6 @@ telescope_part s prices plan b o f sum =
     (λ i d l. inr (telescope_known s _ o (f.possible i d l))) (λ t y l best. best.bound (filter (λ p. p.telescope.0 == t) plan) (starts_on s plan t f))
 
 -- by group: the requests placed of each are an allowed choice
-pub requests_known : (s : Parts) (plan : List Placement) → IsFeasible s plan → All (λ r. IsKnown s r) (requests_of plan)
-requests_known s plan f = All-map (λ r. IsKnown s r) (λ p. p.request.0) plan (λ i d l. (f.possible i d l).known)
-
-listed_groups : (g n : ℕ) (xs : List GroupPart) → g + length xs ≡ n → All (λ x. x.group < n) (listed_from g xs)
-listed_groups g n [] e = All-nil (λ x. x.group < n)
-listed_groups g n (x ∷ xs) e =
-    All-append (λ y. y.group < n) (map (λ q. record { group = g; quota = x.quota; request = q }) x.requests) (listed_from (suc g) xs)
-    (All-map (λ y. y.group < n) (λ q. record { group = g; quota = x.quota; request = q }) x.requests (λ i d l. omega arith)) (listed_groups (suc g) n xs (omega arith))
-
--- the group of a known request is one of the snapshot's
-pub group_known : (s : Parts) (r : ℕ) → IsKnown s r → group_of s r < length s.groups
-group_known s r k = known_has (λ g. g < length s.groups) (λ x. x.group) 0 s r (listed_groups 0 (length s.groups) s.groups (omega arith)) k
-
 at_most_one : (s : Parts) (g : ℕ) (rs : List ℕ) → All (IsOf s g) rs → AllPairs (λ a b. ¬ (AreOfOneOneOf s a b)) rs → IsKind s OneOf g → length rs ≤ 1
 at_most_one s g [] m n k = omega arith
 at_most_one s g (a ∷ []) m n k = omega arith
@@ -105,17 +80,6 @@ charge_of s quota_prices r = pos (charge quota_prices (seconds_of s r) (quota_of
 abbrev quota_or : ℕ → Option ℕ → ℕ
 quota_or n None = n
 quota_or n (Some q) = q
-
-listed_quotas : (P : ℕ → Type 0) (g : ℕ) (xs : List GroupPart) → All (λ x. ForSome x.quota P) xs → All (λ x. ForSome x.quota P) (listed_from g xs)
-listed_quotas P g [] a = All-nil (λ x. ForSome x.quota P)
-listed_quotas P g (x ∷ xs) a =
-    All-append (λ y. ForSome y.quota P) (map (λ q. record { group = g; quota = x.quota; request = q }) x.requests) (listed_from (suc g) xs)
-    (All-map (λ y. ForSome y.quota P) (λ q. record { group = g; quota = x.quota; request = q }) x.requests (λ i d l. All-head (λ y. ForSome y.quota P) x xs a))
-    (listed_quotas P (suc g) xs (All-tail (λ y. ForSome y.quota P) x xs a))
-
--- the quota that a known request counts towards is one of the snapshot's
-pub quota_known : (s : Parts) (r : ℕ) → IsOrderly s → IsKnown s r → ForSome (quota_of s r) (λ q. q < length s.quotas)
-quota_known s r o k = known_has (λ x. ForSome x (λ q. q < length s.quotas)) (λ x. x.quota) None s r (listed_quotas (λ q. q < length s.quotas) 0 s.groups o.quotas) k
 
 free_or_known : (quota_prices : List ℕ) (seconds n : ℕ) (o : Option ℕ) → ForSome o (λ q. q < n) → (pos (charge quota_prices seconds o) ≡ pos 0) ⊎ (quota_or n o < n)
 free_or_known quota_prices seconds n None h = inl refl

@@ -1,10 +1,11 @@
 -- A sum over a list is split by classes, of which each element has one.
-use Rattle.std.proofs.Common.{◌≡◌, ◌≢◌, ℕ, zero, suc, ◌+◌, ◌≤◌, ◌<◌, ◌⊎◌, inl, inr, Bool, true, false, cond, not, ◌==◌, ℤ, pos, ◌+ℤ◌, ◌≤ℤ◌, List, [], ◌∷◌, length, slice_index_or, filter, All, Contains, refl, sym, ◌∙◌, ap, subst, arith}
+use Rattle.std.proofs.Common.{◌≡◌, ◌≢◌, ℕ, suc, ◌+◌, ◌≤◌, ◌<◌, ◌⊎◌, inl, inr, Bool, true, false, cond, not, ◌==◌, ℤ, pos, ◌+ℤ◌, ◌≤ℤ◌, List, [], ◌∷◌, ◌*◌, length, slice_index_or, filter, All, refl, sym, subst, arith}
 use Rattle.std.proofs.lemmas.Int.{ints}
-use Rattle.std.proofs.lemmas.List.Elements.{All-filter, filter_passes}
+use Rattle.std.proofs.lemmas.List.Elements.{All-filter, All-from_get_or, filter_passes}
 use Rattle.std.proofs.lemmas.Bool.Decides.{nat_tests}
 use Rattle.plan_base.specs.Sums.{total, IsSumOf}
-use Rattle.plan_base.proofs.Totals.{total_none, total_not_negative}
+use Rattle.plan_base.proofs.Lists.{filter_within}
+use Rattle.plan_base.proofs.Totals.{total_none, total_not_negative, total_at_most}
 
 split_step : {X : Type 0} (f : X → ℤ) (b : Bool) (x : X) (ys zs : List X) (t : ℤ) → t ≡ total f ys +ℤ total f zs
     → f x +ℤ t ≡ total f (cond b (x ∷ ys) ys) +ℤ total f (cond (not b) (x ∷ zs) zs)
@@ -15,15 +16,6 @@ split_step f false x ys zs t e = omega (arith, ints)
 pub total_split : {X : Type 0} (f : X → ℤ) (p : X → Bool) (xs : List X) → total f xs ≡ total f (filter p xs) +ℤ total f (filter (λ x. not (p x)) xs)
 total_split f p [] = refl
 total_split f p (x ∷ xs) = split_step f (p x) x (filter p xs) (filter (λ y. not (p y)) xs) (total f xs) (total_split f p xs)
-
-within_step : {X : Type 0} (q : X → Bool) (b : Bool) (x : X) (ys zs : List X) → (q x ≡ true → b ≡ true) → filter q ys ≡ zs → filter q (cond b (x ∷ ys) ys) ≡ cond (q x) (x ∷ zs) zs
-within_step q true x ys zs h e = ap (λ (l : List _). cond (q x) (x ∷ l) l) e
-within_step q false x ys zs h e = elim (q x) as (λ v. (v ≡ true → false ≡ true) → filter q ys ≡ cond v (x ∷ zs) zs) [ true ↦ λ g. let bad : false ≡ true = g refl in cc | false ↦ λ g. e ] h
-
--- a filter within another that keeps all that it keeps
-pub filter_within : {X : Type 0} (p q : X → Bool) (xs : List X) → ((x : X) → q x ≡ true → p x ≡ true) → filter q (filter p xs) ≡ filter q xs
-filter_within p q [] h = refl
-filter_within p q (x ∷ xs) h = within_step q (p x) x (filter p xs) (filter q xs) (h x) (filter_within p q xs h)
 
 not_same : (a b : ℕ) → not (a == b) ≡ true → a ≢ b
 not_same a b h = grind (arith, nat_tests)
@@ -98,19 +90,19 @@ gather {X} f class xs n P b s a h =
     subst (λ (k : ℕ). slice_index_or s.parts i (pos 0) ≤ℤ total f (filter (λ x. class x == k) xs)) same (h i (slice_index_or s.parts i (pos 0)) below (s.each i below))) in
     subst (λ (c : ℤ). c ≤ℤ total f xs) s.sum all
 
-in_rest : {X : Type 0} (x y : X) (ys : List X) → Contains ys x → Contains (y ∷ ys) x
-in_rest x y ys c = (suc c.0, omega arith, c.2)
+-- what holds of part i holds of the i-th of the numbers
+part_has : (n : ℕ) (P : ℕ → ℤ → Type 0) (b : ℤ) (Q : ℤ → Type 0) (s : IsSumOf n P b) → ((i : ℕ) (y : ℤ) → i < n → P i y → Q y) → All Q s.parts
+part_has n P b Q s h = All-from_get_or Q s.parts (pos 0) (λ i l. let below : i < n = omega (arith, s.count) in h i _ below (s.each i below))
 
-keeps_first : {X : Type 0} (b : Bool) (x y : X) (ys : List X) → y ≡ x → b ≡ true → Contains (cond b (y ∷ ys) ys) x
-keeps_first true x y ys e h = (0, omega arith, e)
-keeps_first false x y ys e h = cc
+-- the sum of n numbers that are not negative
+pub sum_not_negative : (n : ℕ) (P : ℕ → ℤ → Type 0) (b : ℤ) → IsSumOf n P b → ((i : ℕ) (y : ℤ) → i < n → P i y → pos 0 ≤ℤ y) → pos 0 ≤ℤ b
+sum_not_negative n P b s h = subst (λ (c : ℤ). pos 0 ≤ℤ c) s.sum (total_not_negative (λ y. y) s.parts (part_has n P b (λ y. pos 0 ≤ℤ y) s h))
 
-keeps_rest : {X : Type 0} (b : Bool) (x y : X) (ys : List X) → Contains ys x → Contains (cond b (y ∷ ys) ys) x
-keeps_rest true x y ys c = in_rest x y ys c
-keeps_rest false x y ys c = c
-
--- a filter keeps what passes
-pub contains_filter : {X : Type 0} (p : X → Bool) (xs : List X) (x : X) → Contains xs x → p x ≡ true → Contains (filter p xs) x
-contains_filter p [] x (k, l, e) h = absurd (omega arith)
-contains_filter p (y ∷ xs) x (zero, l, e) h = keeps_first (p y) x y (filter p xs) e (ap p e ∙ h)
-contains_filter p (y ∷ xs) x (suc k, l, e) h = keeps_rest (p y) x y (filter p xs) (contains_filter p xs x (k, omega arith, e) h)
+-- the sum of n numbers from 0 to m
+pub sum_between : (n m : ℕ) (P : ℕ → ℤ → Type 0) (b : ℤ)
+    → IsSumOf n P b
+    → ((i : ℕ) (y : ℤ) → i < n → P i y → (pos 0 ≤ℤ y) × (y ≤ℤ pos m))
+    → (pos 0 ≤ℤ b) × (b ≤ℤ pos (n * m))
+sum_between n m P b s h =
+    let most : total (λ y. y) s.parts ≤ℤ pos (length s.parts * m) = total_at_most (λ y. y) m s.parts (part_has n P b (λ y. y ≤ℤ pos m) s (λ i y l p. (h i y l p).1)) in
+    (sum_not_negative n P b s (λ i y l p. (h i y l p).0), subst (λ (k : ℕ). b ≤ℤ pos (k * m)) s.count (subst (λ (c : ℤ). c ≤ℤ pos (length s.parts * m)) s.sum most))

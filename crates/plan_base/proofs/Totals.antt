@@ -45,6 +45,13 @@ total_at_most f m (x ∷ xs) a =
     let more : length (x ∷ xs) * m ≡ m + length xs * m = grind arith in
     omega (arith, ints)
 
+pub total_constant : {X : Type 0} (m : ℕ) (xs : List X) → total (λ x. pos m) xs ≡ pos (length xs * m)
+total_constant m [] = omega (arith, ints)
+total_constant m (x ∷ xs) =
+    let rest : total (λ y. pos m) xs ≡ pos (length xs * m) = total_constant m xs in
+    let more : length (x ∷ xs) * m ≡ m + length xs * m = grind arith in
+    omega (arith, ints)
+
 -- a sum of naturals is the signed sum of the same numbers
 pub total_of_naturals : {X : Type 0} (f : X → ℕ) (xs : List X) → total (λ x. pos (f x)) xs ≡ pos (sum_by f xs)
 total_of_naturals f [] = refl
