@@ -10,3 +10,7 @@ pub mod Split
 pub mod Known
 pub mod Duality
 pub mod Limits
+pub mod Empty
+mod Small
+mod Computed
+mod ComputedFaults
