@@ -1,7 +1,6 @@
 -- What is known of a request that a snapshot has, and of its possible starts.
 use Rattle.std.proofs.Common.{◌+◌, ◌-◌, suc, ◌≡◌, ℕ, ◌≤◌, ◌<◌, inl, inr, max, ◌==◌, List, [], ◌∷◌, length, map, slice_index_or, All, Contains, None, ◌∙◌, ap, subst, arith}
 use Rattle.std.specs.Option.{ForSome}
-use Rattle.std.proofs.lemmas.Nat.{le-div}
 use Rattle.std.proofs.lemmas.List.{length-map, get_or-map}
 use Rattle.std.proofs.lemmas.List.Elements.{All-nil, All-head, All-tail, All-append, All-map, All-contains}
 use Rattle.std.proofs.lemmas.List.Sums.{passes_at_first}
@@ -10,9 +9,9 @@ use Rattle.std.proofs.lemmas.Bool.{eqb-true}
 use Rattle.plan_base.specs.declared.parts.Parts.{Parts}
 use Rattle.plan_base.specs.declared.parts.GroupPart.{GroupPart}
 use Rattle.plan_base.specs.declared.claim.Placement.{Placement}
-use Rattle.plan_base.specs.Requests.{Listed, listed_from, listed, place_of, known_or, IsKnown, group_of, quota_of, seconds_of, request_value, telescopes_of}
+use Rattle.plan_base.specs.Requests.{Listed, listed_from, listed, place_of, known_or, IsKnown, group_of, quota_of, request_value, telescopes_of}
 use Rattle.plan_base.specs.Snapshot.{IsOrderly}
-use Rattle.plan_base.specs.Starts.{IsPossibleStart, size_of, worth_at}
+use Rattle.plan_base.specs.Starts.{IsPossibleStart, worth_at}
 use Rattle.plan_base.specs.Feasible.{requests_of, IsFeasible}
 
 -- what holds of each listed request holds of what is known of r
@@ -74,13 +73,6 @@ pub telescope_known : (s : Parts) (p : Placement) → IsOrderly s → IsPossible
 telescope_known s p o h =
     All-contains (λ t. t.0 < length s.telescopes) (telescopes_of s p.request.0) p.telescope
     (known_has (λ ts. All (λ t. t.0 < length s.telescopes) ts) (λ x. x.request.telescopes) [] s p.request.0 o.telescopes h.known) h.able
-
--- a possible start takes a slice at least
-pub size_positive : (s : Parts) (r : ℕ) → IsOrderly s → IsKnown s r → 1 ≤ size_of s r
-size_positive s r o k =
-    let seconds : 1 ≤ seconds_of s r = known_has (λ n. 1 ≤ n) (λ x. x.request.seconds) 0 s r (λ i d l. (o.ranges.seconds i d l).0) k in
-    let len : 60 ≤ s.len = o.ranges.len_least in
-    le-div 1 (seconds_of s r + s.len - 1) s.len (omega arith) (omega arith)
 
 between : (v n : ℕ) → 1 ≤ v → (1 ≤ max 1 (v - n)) × (max 1 (v - n) ≤ v)
 between v n h = (omega arith, omega arith)

@@ -10,6 +10,14 @@ pub mod OneVerdict
 pub mod Orders
 pub mod Rebates
 pub mod Single
-pub mod Split
-pub mod Tables
+pub mod Sizes
+pub mod Lists
 pub mod Totals
+pub mod Split
+pub mod Known
+pub mod Duality
+pub mod Limits
+pub mod Empty
+mod Small
+mod Computed
+mod ComputedFaults

@@ -20,7 +20,8 @@ use Rattle.plan_base.specs.Verdict.{IsPriceInRange}
 use Rattle.plan_base.proofs.Lists.{contains_filter, contains_map, AllPairs-map, length_among, length_below}
 use Rattle.plan_base.proofs.Totals.{total_at_most, total_constant}
 use Rattle.plan_base.proofs.Split.{gather, sum_not_negative, sum_between}
-use Rattle.plan_base.proofs.Known.{IsListedAs, known_as, known_or_is, requests_known, size_positive, worth_between, value_at_most}
+use Rattle.plan_base.proofs.Sizes.{start_size_above}
+use Rattle.plan_base.proofs.Known.{IsListedAs, known_as, known_or_is, requests_known, worth_between, value_at_most}
 
 -- how many there are of each
 telescopes_at_most : (s : Parts) → IsOrderly s → length s.telescopes ≤ 32
@@ -80,15 +81,15 @@ same_telescope a b t h k = ap (λ (n : ℕ). let x : TelescopeNo = record { 0 = 
 
 shares : (s : Parts) (a b : Placement) → IsOrderly s → IsPossibleStart s a → IsPossibleStart s b → a.telescope ≡ b.telescope → a.slice.0 - s.first.0 ≡ b.slice.0 - s.first.0 → ShareSlice s a b
 shares s a b o h k e g =
-    let one : 1 ≤ size_of s a.request.0 = size_positive s a.request.0 o h.known in
-    let two : 1 ≤ size_of s b.request.0 = size_positive s b.request.0 o k.known in
+    let one : 0 < size_of s a.request.0 = start_size_above s o a h in
+    let two : 0 < size_of s b.request.0 = start_size_above s o b k in
     let from : s.first.0 ≤ a.slice.0 = h.begins in
     let also : s.first.0 ≤ b.slice.0 = k.begins in
     (e, a.slice.0, (omega arith, omega arith), (omega arith, omega arith))
 
 within_horizon : (s : Parts) (p : Placement) → IsOrderly s → IsPossibleStart s p → p.slice.0 - s.first.0 < s.slices
 within_horizon s p o h =
-    let one : 1 ≤ size_of s p.request.0 = size_positive s p.request.0 o h.known in
+    let one : 0 < size_of s p.request.0 = start_size_above s o p h in
     let from : s.first.0 ≤ p.slice.0 = h.begins in
     let ends : p.slice.0 + size_of s p.request.0 ≤ s.first.0 + s.slices = h.ends in
     omega arith

@@ -1,8 +1,10 @@
 -- Signed sums: of maps, of appended lists, of permutations, and beside sums of naturals.
-use Rattle.std.proofs.Common.{◌≡◌, ℕ, ◌+◌, ◌*◌, ◌≤ℤ◌, ℤ, pos, ◌+ℤ◌, List, [], ◌∷◌, ◌++◌, length, map, sum_by, All, refl, ap, arith}
+use Rattle.std.proofs.Common.{◌≡◌, ℕ, ◌+◌, ◌*◌, ◌≤ℤ◌, ℤ, pos, negsuc, suc, ◌+ℤ◌, List, [], ◌∷◌, ◌++◌, length, map, sum_by, All, refl, ap, arith}
 use Rattle.std.proofs.lemmas.Int.{ints}
 use Rattle.std.proofs.lemmas.List.Elements.{All-head, All-tail}
+use Rattle.std.specs.List.Sorted.{IsPermutation}
 use Rattle.std.proofs.lemmas.List.Sums.{sum_by-cons}
+use Rattle.std.proofs.lemmas.List.Sorted.{sum_by-IsPermutation}
 use Rattle.plan_base.specs.Sums.{total}
 
 pub total_map : {X Y : Type 0} (f : Y → ℤ) (g : X → Y) (xs : List X) → total (λ x. f (g x)) xs ≡ total f (map g xs)
@@ -58,6 +60,37 @@ total_of_naturals f [] = refl
 total_of_naturals f (x ∷ xs) =
     let rest : total (λ y. pos (f y)) xs ≡ pos (sum_by f xs) = total_of_naturals f xs in
     let sum : sum_by f (x ∷ xs) ≡ f x + sum_by f xs = sum_by-cons f x xs in
+    omega (arith, ints)
+
+-- the parts of a number above 0 and below 0
+abbrev gain : ℤ → ℕ
+gain (pos n) = n
+gain (negsuc n) = 0
+
+abbrev loss : ℤ → ℕ
+loss (pos n) = 0
+loss (negsuc n) = suc n
+
+gain_and_loss : (z : ℤ) → z +ℤ pos (loss z) ≡ pos (gain z)
+gain_and_loss (pos n) = omega (arith, ints)
+gain_and_loss (negsuc n) = omega (arith, ints)
+
+total_by_sign : {X : Type 0} (f : X → ℤ) (xs : List X) → total f xs +ℤ pos (sum_by (λ x. loss (f x)) xs) ≡ pos (sum_by (λ x. gain (f x)) xs)
+total_by_sign f [] = refl
+total_by_sign f (x ∷ xs) =
+    let here : f x +ℤ pos (loss (f x)) ≡ pos (gain (f x)) = gain_and_loss (f x) in
+    let rest : total f xs +ℤ pos (sum_by (λ y. loss (f y)) xs) ≡ pos (sum_by (λ y. gain (f y)) xs) = total_by_sign f xs in
+    let losses : sum_by (λ y. loss (f y)) (x ∷ xs) ≡ loss (f x) + sum_by (λ y. loss (f y)) xs = sum_by-cons (λ y. loss (f y)) x xs in
+    let gains : sum_by (λ y. gain (f y)) (x ∷ xs) ≡ gain (f x) + sum_by (λ y. gain (f y)) xs = sum_by-cons (λ y. gain (f y)) x xs in
+    rw losses (rw gains (omega (arith, ints)))
+
+-- the order of a list is of no account for its sum
+pub total-IsPermutation : {X : Type 0} (f : X → ℤ) (xs ys : List X) → IsPermutation xs ys → total f ys ≡ total f xs
+total-IsPermutation f xs ys p =
+    let one : total f xs +ℤ pos (sum_by (λ x. loss (f x)) xs) ≡ pos (sum_by (λ x. gain (f x)) xs) = total_by_sign f xs in
+    let two : total f ys +ℤ pos (sum_by (λ x. loss (f x)) ys) ≡ pos (sum_by (λ x. gain (f x)) ys) = total_by_sign f ys in
+    let losses : sum_by (λ x. loss (f x)) ys ≡ sum_by (λ x. loss (f x)) xs = sum_by-IsPermutation (λ x. loss (f x)) xs ys p in
+    let gains : sum_by (λ x. gain (f x)) ys ≡ sum_by (λ x. gain (f x)) xs = sum_by-IsPermutation (λ x. gain (f x)) xs ys p in
     omega (arith, ints)
 
 -- where each number is u times a natural, so is their sum
