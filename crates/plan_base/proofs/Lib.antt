@@ -1,4 +1,7 @@
+pub mod Computed
+pub mod ComputedFaults
 pub mod Duality
+pub mod Empty
 pub mod Known
 pub mod Limits
 pub mod Lists
@@ -11,13 +14,7 @@ pub mod Orders
 pub mod Rebates
 pub mod Single
 pub mod Sizes
-pub mod Lists
-pub mod Totals
+pub mod Small
 pub mod Split
-pub mod Known
-pub mod Duality
-pub mod Limits
-pub mod Empty
-mod Small
-mod Computed
-mod ComputedFaults
+pub mod Tables
+pub mod Totals

@@ -12,7 +12,7 @@ use Rattle.plan_base.specs.Snapshot.{IsOrderly}
 use Rattle.plan_base.specs.Starts.{IsPossibleStart, ShareSlice, size_of}
 use Rattle.plan_base.specs.Bound.{IsStartList, weight, surplus, IsBest}
 use Rattle.plan_base.specs.Canonical.{IsIdle, IsTight}
-use Rattle.plan_base.proofs.Known.{size_positive}
+use Rattle.plan_base.proofs.Sizes.{size_above}
 use Rattle.plan_base.proofs.Split.{total_split}
 use Rattle.plan_base.proofs.Single.{one_best}
 
@@ -60,8 +60,8 @@ apart_in s starts p q disjoint (i, l, e) (j, m, d) differ share = elim (below_sa
     below_same_above a b = grind arith
 
 module _ (s : Parts) (prices : List ℤ) (t : ℕ) (orderly : IsOrderly s) where
-  size_above : (p : Placement) → IsPossibleStart s p → 1 ≤ size_of s p.request.0
-  size_above p h = size_positive s p.request.0 orderly h.known
+  start_size : (p : Placement) → IsPossibleStart s p → 1 ≤ size_of s p.request.0
+  start_size p h = size_above s p.request.0 orderly h.known
 
   -- a start of a start list
   start_in : (k : ℕ) (starts : List Placement) (p : Placement) → IsStartList s t k starts → Contains starts p → IsStartOn s t p × (k ≤ p.slice.0)
@@ -73,7 +73,7 @@ module _ (s : Parts) (prices : List ℤ) (t : ℕ) (orderly : IsOrderly s) where
   -- a start at slice j or later, which shares no slice with one that begins at k before it, begins after it
   begins_after : (p q : Placement) → IsStartOn s t p → IsStartOn s t q → p.slice.0 ≤ q.slice.0 → ¬ (ShareSlice s p q) → slice_after s p ≤ q.slice.0
   begins_after p q hp hq later apart = elim (below_or_not q.slice.0 (slice_after s p)) [
-    | inl below ↦ absurd (apart (same_number p q (hp.same_telescope ∙ sym hq.same_telescope), q.slice.0, (later, below), (omega arith, omega (arith, size_above q hq.possible))))
+    | inl below ↦ absurd (apart (same_number p q (hp.same_telescope ∙ sym hq.same_telescope), q.slice.0, (later, below), (omega arith, omega (arith, start_size q hq.possible))))
     | inr not_below ↦ not_below
   ]
     where
@@ -135,7 +135,7 @@ module _ (s : Parts) (prices : List ℤ) (t : ℕ) (orderly : IsOrderly s) where
     after_within p h =
         let ends : slice_after s p ≤ horizon_end s = h.possible.ends in
         let begins : s.first.0 ≤ p.slice.0 = h.possible.begins in
-        let size : 1 ≤ size_of s p.request.0 = size_above p h.possible in
+        let size : 1 ≤ size_of s p.request.0 = start_size p h.possible in
         (ends, omega arith, omega arith)
 
     reaches : (n k : ℕ) → s.first.0 ≤ k → k ≤ horizon_end s → horizon_end s ≤ k + n → Reaches k
@@ -203,8 +203,8 @@ module _ (s : Parts) (prices : List ℤ) (t : ℕ) (orderly : IsOrderly s) where
         let apart : AllPairs (λ a b. ¬ (ShareSlice s a b)) (p ∷ q ∷ more) = subst (AllPairs (λ a b. ¬ (ShareSlice s a b))) (sym e) (AllPairs-filter (λ a b. ¬ (ShareSlice s a b)) (λ x. x.slice.0 == k) starts list.disjoint) in
         let p_at : p.slice.0 ≡ k = all_here 0 p (omega arith) in
         let q_at : q.slice.0 ≡ k = all_here 1 p (omega arith) in
-        let p_size : 1 ≤ size_of s p.request.0 = size_above p (all_possible 0 p (omega arith)) in
-        let q_size : 1 ≤ size_of s q.request.0 = size_above q (all_possible 1 p (omega arith)) in
+        let p_size : 1 ≤ size_of s p.request.0 = start_size p (all_possible 0 p (omega arith)) in
+        let q_size : 1 ≤ size_of s q.request.0 = start_size q (all_possible 1 p (omega arith)) in
         let telescopes : p.telescope.0 ≡ q.telescope.0 = all_on 0 p (omega arith) ∙ sym (all_on 1 p (omega arith)) in
         absurd (apart 0 1 p (omega arith) (omega arith) (same_number p q telescopes, k, (omega arith, omega arith), (omega arith, omega arith)))
 
