@@ -1,3 +1,4 @@
+pub mod Adding
 pub mod Computed
 pub mod ComputedFaults
 pub mod Duality

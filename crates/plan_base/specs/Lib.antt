@@ -11,3 +11,4 @@ pub mod Round
 pub mod Repaired
 pub mod Verdict
 pub mod Planned
+pub mod FeasibleSoFar
