@@ -13,9 +13,11 @@ pub mod OneSpan
 pub mod OneVerdict
 pub mod Orders
 pub mod Rebates
+pub mod Removing
 pub mod Single
 pub mod Sizes
 pub mod Small
+pub mod SpanStarts
 pub mod Split
 pub mod Tables
 pub mod Totals

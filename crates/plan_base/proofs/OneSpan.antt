@@ -1,14 +1,11 @@
 -- Seconds in a row that all lie in spans with gaps between them lie in one of the spans.
-use Rattle.std.proofs.Common.{◌≡◌, ℕ, ◌+◌, ◌<◌, ◌≤◌, ◌⊎◌, inl, inr, List, length, slice_index_or, All, AllPairs, refl, sym, ◌∙◌, ap, subst, arith}
+use Rattle.std.proofs.Common.{◌≡◌, ℕ, ◌<◌, ◌≤◌, ◌⊎◌, inl, inr, List, length, slice_index_or, sym, ◌∙◌, ap, arith}
 use Rattle.std.specs.Prelude.{Any}
 use Rattle.std.proofs.lemmas.List.{get_or_default}
 use Rattle.plan_base.specs.declared.span.Span.{Span}
 use Rattle.plan_base.specs.Snapshot.{IsSortedApart}
 use Rattle.plan_base.specs.Starts.{HasSecond}
-
--- one of the spans has all seconds from a to the one before b
-abbrev pub HasAll : List Span → ℕ → ℕ → Type 0
-HasAll spans a b = Any (λ w. (w.from.0 ≤ a) × (b ≤ w.to.0)) spans
+use Rattle.plan_base.specs.BySpans.{HasAll}
 
 -- each second from a to the one before b lies in one of the spans
 abbrev pub HasEach : List Span → ℕ → ℕ → Type 0

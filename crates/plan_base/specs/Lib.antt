@@ -12,3 +12,4 @@ pub mod Repaired
 pub mod Verdict
 pub mod Planned
 pub mod FeasibleSoFar
+pub mod BySpans
