@@ -1,7 +1,6 @@
 -- One filled plan for the same plan.
-use Rattle.std.proofs.Common.{◌≡◌, ◌≢◌, ℕ, zero, suc, ◌+◌, ◌<◌, ◌≤◌, ◌⊎◌, inl, inr, Bool, true, false, ◌==◌, List, [], ◌∷◌, ◌++◌, length, map, slice_index_or, All, AllPairs, Contains, HoldsAt, refl, sym, ◌∙◌, ap, subst, arith}
+use Rattle.std.proofs.Common.{◌≡◌, ◌≢◌, ℕ, zero, suc, ◌<◌, ◌⊎◌, inl, inr, List, [], ◌∷◌, ◌++◌, length, All, Contains, HoldsAt, refl, sym, ◌∙◌, ap, subst, arith}
 use Rattle.std.proofs.lemmas.List.Elements.{All-contains, All-head, All-tail, All-cons, All-nil}
-use Rattle.std.proofs.lemmas.Bool.Decides.{nat_tests}
 use Rattle.plan_base.specs.declared.parts.Parts.{Parts}
 use Rattle.plan_base.specs.declared.parts.GroupPart.{GroupPart}
 use Rattle.plan_base.specs.declared.parts.Op.{Op}
@@ -9,9 +8,9 @@ use Rattle.plan_base.specs.declared.parts.Op.TheVariants.{Single, Many, OneOf, A
 use Rattle.plan_base.specs.declared.claim.Placement.{Placement}
 use Rattle.plan_base.specs.Requests.{request_value, IsOf, IsKind, members}
 use Rattle.plan_base.specs.Feasible.{requests_of}
-use Rattle.plan_base.specs.Saturated.{IsFree, HasNoFree, HasNonePlaced, IsNoLater, IsEarliestFree, TakesEach}
+use Rattle.plan_base.specs.Saturated.{HasNoFree, HasNonePlaced, IsNoLater, IsEarliestFree, TakesEach}
 use Rattle.plan_base.specs.Fill.{group_worth, IsFillOrder, IsMemberOrder, TriesOne, TriesEach, TriesUntilOne, TakesAllOrNone, VisitsGroup, VisitsEach, IsPass, PassesTo, IsFilled}
-use Rattle.plan_base.proofs.Orders.{contains_cases, contains_first, contains_rest, one_order}
+use Rattle.plan_base.proofs.Orders.{contains_cases, contains_rest, one_order}
 
 pub same_placement : (p q : Placement) → p.request.0 ≡ q.request.0 → p.telescope.0 ≡ q.telescope.0 → p.slice.0 ≡ q.slice.0 → p ≡ q
 same_placement p q r t k = λ i. record { request = record { 0 = r i }; telescope = record { 0 = t i }; slice = record { 0 = k i } }

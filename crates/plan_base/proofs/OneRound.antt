@@ -1,20 +1,17 @@
 -- One canonical use, one list of a round's prices, and one repaired plan for the same arguments.
-use Rattle.std.proofs.Common.{◌≡◌, ◌≢◌, ℕ, zero, suc, ◌+◌, ◌-◌, ◌*◌, ◌/◌, ◌<◌, ◌≤◌, ◌⊎◌, inl, inr, ℤ, pos, List, [], ◌∷◌, ◌++◌, length, map, slice_index_or, Option, Some, None, All, AllPairs, Contains, refl, sym, ◌∙◌, ap, subst, arith}
+use Rattle.std.proofs.Common.{◌≡◌, ℕ, zero, suc, ◌+◌, ◌<◌, ◌≤◌, inl, inr, ℤ, List, [], ◌∷◌, ◌++◌, length, map, Option, Some, None, AllPairs, Contains, refl, sym, ◌∙◌, ap, subst, arith}
 use Rattle.std.proofs.lemmas.List.{same_lists, get_or_default}
 use Rattle.std.proofs.lemmas.List.Sorted.{Contains-permutation, IsPermutation-sym}
 use Rattle.std.specs.List.{flat_map}
 use Rattle.std.specs.Prelude.{IsPermutation}
 use Rattle.plan_base.specs.declared.parts.Parts.{Parts}
 use Rattle.plan_base.specs.declared.claim.Placement.{Placement}
-use Rattle.plan_base.specs.Requests.{listed, seconds_of, members}
-use Rattle.plan_base.specs.Snapshot.{IsOrderly}
-use Rattle.plan_base.specs.Starts.{IsPossibleStart, size_of, worth_at, IsListedBefore}
-use Rattle.plan_base.specs.Feasible.{IsFeasible}
+use Rattle.plan_base.specs.Starts.{IsPossibleStart, size_of, IsListedBefore}
 use Rattle.plan_base.specs.Bound.{net_price}
 use Rattle.plan_base.specs.Fill.{IsFilled}
-use Rattle.plan_base.specs.Canonical.{IsIdle, IsIdleUpTo, StartsLowest, IsCanonicalFrom, IsCanonicalUse, IsCanonicalStarts}
-use Rattle.plan_base.specs.Round.{step_of, greatest_value, next_prices, next_quota_prices, IsNextRound, IsRoundPrices}
-use Rattle.plan_base.specs.Repaired.{first_starts, CanAddWhole, AddsWholes, group_places, outside_ands, IsTriedBefore, AddsEach, IsRepairedFrom, IsRepaired, IsListing}
+use Rattle.plan_base.specs.Canonical.{IsIdleUpTo, StartsLowest, IsCanonicalFrom, IsCanonicalUse, IsCanonicalStarts}
+use Rattle.plan_base.specs.Round.{step_of, greatest_value, next_prices, IsNextRound, IsRoundPrices}
+use Rattle.plan_base.specs.Repaired.{CanAddWhole, AddsWholes, group_places, outside_ands, IsTriedBefore, AddsEach, IsRepairedFrom, IsRepaired, IsListing}
 use Rattle.plan_base.proofs.Orders.{one_order}
 use Rattle.plan_base.proofs.OneFill.{same_placement, one_filled}
 

@@ -1,8 +1,7 @@
 -- One verdict for the same claim.
-use Rattle.std.proofs.Common.{◌≡◌, ◌≢◌, ℕ, zero, suc, ◌+◌, ◌<◌, ◌≤◌, ◌⊎◌, inl, inr, ℤ, pos, List, [], ◌∷◌, length, map, slice_get, slice_index_or, Option, Some, None, All, AllPairs, Contains, HoldsAt, refl, sym, ◌∙◌, ap, subst, arith}
+use Rattle.std.proofs.Common.{◌≡◌, ◌≢◌, ℕ, zero, suc, ◌<◌, ◌≤◌, ◌⊎◌, inl, inr, pos, List, [], ◌∷◌, length, slice_get, slice_index_or, Option, Some, None, All, AllPairs, refl, sym, ◌∙◌, ap, subst, arith}
 use Rattle.std.proofs.lemmas.Int.{ints}
-use Rattle.std.proofs.lemmas.List.{length-map, get_or_past, get_or-map}
-use Rattle.std.proofs.lemmas.List.Elements.{All-contains}
+use Rattle.std.proofs.lemmas.List.{get_or_past}
 use Rattle.std.proofs.lemmas.Option.{get_or_from_slice_get}
 use Rattle.plan_base.specs.declared.parts.Parts.{Parts}
 use Rattle.plan_base.specs.declared.parts.GroupPart.{GroupPart}
@@ -46,6 +45,7 @@ within_all (u ∷ us) j m a h = by_place (place_cases j (length (u ∷ us)))
   where
     place_cases : (a b : ℕ) → (a < b) ⊎ (b ≤ a)
     place_cases a b = grind arith
+
     by_place : (j < length (u ∷ us)) ⊎ (length (u ∷ us) ≤ j) → ⊥
     by_place (inl l) = let most : slice_index_or (u ∷ us) j 0 ≤ m = a j 0 l in omega arith
     by_place (inr l) = let none : slice_index_or (u ∷ us) j 0 ≡ 0 = get_or_past (u ∷ us) j 0 l in omega arith

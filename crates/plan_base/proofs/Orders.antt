@@ -1,6 +1,6 @@
 -- A list in a strict order is fixed by its elements.
-use Rattle.std.proofs.Common.{◌≡◌, ℕ, zero, suc, ◌+◌, ◌<◌, ◌⊎◌, inl, inr, List, [], ◌∷◌, length, slice_index_or, All, AllPairs, Contains, refl, sym, ap, subst, arith}
-use Rattle.std.proofs.lemmas.List.Elements.{All-contains, All-head}
+use Rattle.std.proofs.Common.{◌≡◌, zero, suc, ◌⊎◌, inl, inr, List, [], ◌∷◌, All, AllPairs, Contains, refl, sym, subst, arith}
+use Rattle.std.proofs.lemmas.List.Elements.{All-contains}
 
 pub contains_cases : {X : Type 0} (x z : X) (xs : List X) → Contains (x ∷ xs) z → (x ≡ z) ⊎ Contains xs z
 contains_cases x z xs (zero, l, e) = inl e

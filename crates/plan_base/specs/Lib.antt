@@ -13,3 +13,5 @@ pub mod Round
 pub mod Repaired
 pub mod Verdict
 pub mod Planned
+pub mod FeasibleSoFar
+pub mod BySpans

@@ -3,8 +3,8 @@
 
 mod build;
 mod claim;
+mod counts;
 mod fault;
-mod limits;
 mod list;
 mod name;
 mod number;

@@ -5,7 +5,7 @@ ghost use Rattle.plan_base.specs.Snapshot.{IsInRanges, IsSnapshot, IsOrderly, fa
 
 use crate::build::fault_within_limits;
 use crate::fault::SnapshotFault;
-use crate::limits::limit_fault;
+use crate::counts::limit_fault;
 use crate::parts::Parts;
 use crate::rows::{Row, rows_of};
 use std::alloc::Global;
@@ -55,6 +55,7 @@ impl Snapshot {
     pub fn parts(&self) -> &Parts
         ensures value { result.now ≡ self.now }
         ensures valid { IsSnapshot self.now }
+        ensures orderly { IsOrderly self.now }
     {
         &self.parts
     }
