@@ -12,6 +12,7 @@ mod parts;
 mod rows;
 mod snapshot;
 mod span;
+mod unique;
 mod verdict;
 
 pub use claim::{Claim, Placement, Prices, QuotaPrices, Settings};
@@ -22,4 +23,7 @@ pub use number::{GroupNo, RequestNo, Sec, SiteNo, SliceNo, TargetNo, TelescopeNo
 pub use parts::{GroupPart, Op, Parts, RequestPart, Sky, TelescopePart};
 pub use snapshot::Snapshot;
 pub use span::Span;
+pub use unique::{
+    one_best, one_bound, one_canonical_use, one_filled_plan, one_rebate, one_repaired_plan, one_round, one_verdict,
+};
 pub use verdict::{Reason, Verdict};
