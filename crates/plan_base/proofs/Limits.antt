@@ -1,5 +1,5 @@
 -- How large the value of a feasible plan and the bound that prices give can be.
-use Rattle.std.proofs.Common.{◌+◌, ◌-◌, ◌*◌, ◌^◌, ◌≡◌, ◌≢◌, ℕ, ◌≤◌, ◌<◌, ◌⊎◌, inl, inr, ◌==◌, ℤ, pos, ◌+ℤ◌, ◌-ℤ◌, ◌≤ℤ◌, ◌<ℤ◌, List, [], length, map, slice_index_or, filter, All, AllPairs, Contains, sym, ◌∙◌, ap, subst, arith}
+use Rattle.std.proofs.Common.{◌+◌, ◌-◌, ◌*◌, ◌^◌, ◌≡◌, ◌≢◌, ℕ, ◌≤◌, ◌<◌, ◌⊎◌, inl, inr, ◌==◌, ℤ, pos, neg_ℤ, ◌+ℤ◌, ◌-ℤ◌, ◌≤ℤ◌, ◌<ℤ◌, List, [], length, map, slice_index_or, filter, All, AllPairs, Contains, Option, Some, None, sym, ◌∙◌, ap, subst, arith}
 use Rattle.std.proofs.lemmas.Int.{ints}
 use Rattle.std.proofs.lemmas.Nat.{mul-le}
 use Rattle.std.proofs.lemmas.Bool.{eq-eqb}
@@ -21,7 +21,7 @@ use Rattle.plan_base.proofs.Lists.{contains_filter, contains_map, AllPairs-map, 
 use Rattle.plan_base.proofs.Totals.{total_at_most, total_constant}
 use Rattle.plan_base.proofs.Split.{gather, sum_not_negative, sum_between}
 use Rattle.plan_base.proofs.Sizes.{start_size_above}
-use Rattle.plan_base.proofs.Known.{IsListedAs, known_as, known_or_is, requests_known, worth_between, value_at_most}
+use Rattle.plan_base.proofs.Known.{known_has, IsListedAs, known_as, known_or_is, requests_known, worth_between, value_at_most}
 
 -- how many there are of each
 telescopes_at_most : (s : Parts) → IsOrderly s → length s.telescopes ≤ 32
@@ -61,7 +61,7 @@ length_of_plan s plan f =
 first_then : (a b c : ℕ) → a ≤ b → b ≤ c → a ≤ c
 first_then a b c h k = omega arith
 
-worth_at_most : (s : Parts) (p : Placement) → IsOrderly s → IsPossibleStart s p → worth_at s p ≤ 288000000
+pub worth_at_most : (s : Parts) (p : Placement) → IsOrderly s → IsPossibleStart s p → worth_at s p ≤ 288000000
 worth_at_most s p o h =
     let first : worth_at s p ≤ request_value s p.request.0 = (worth_between s p o h).1 in
     let second : request_value s p.request.0 ≤ 288000000 = value_at_most s p.request.0 o h.known in
@@ -108,22 +108,23 @@ length_of_starts s t k starts o h =
 below_or_from : (j k : ℕ) → (j < k) ⊎ (k ≤ j)
 below_or_from j k = grind arith
 
-price_in_range : (prices : List ℤ) (i : ℕ) → All IsPriceInRange prices → IsPriceInRange (slice_index_or prices i (pos 0))
+-- what stands at a place, or 0 past the end, of prices in their range
+pub price_in_range : (prices : List ℤ) (i : ℕ) → All IsPriceInRange prices → IsPriceInRange (slice_index_or prices i (pos 0))
 price_in_range prices i a = elim (below_or_from i (length prices)) [
   | inl l ↦ a i (pos 0) l
   | inr l ↦ let past : slice_index_or prices i (pos 0) ≡ pos 0 = get_or_past prices i (pos 0) l in (omega (arith, ints), omega (arith, ints))
 ]
 
-difference_at_most : (w : ℕ) (c : ℤ) → w ≤ 288000000 → IsPriceInRange c → (pos w -ℤ c) ≤ℤ pos 1000288000000
-difference_at_most w c h r = omega (arith, ints)
+difference_between : (w : ℕ) (c : ℤ) → w ≤ 288000000 → IsPriceInRange c → (neg_ℤ (pos (10 ^ 12)) ≤ℤ (pos w -ℤ c)) × ((pos w -ℤ c) ≤ℤ pos 1000288000000)
+difference_between w c h r = (omega (arith, ints), omega (arith, ints))
 
-weight_at_most : (s : Parts) (prices : List ℤ) (p : Placement) → IsOrderly s → All IsPriceInRange prices → IsPossibleStart s p → weight s prices p ≤ℤ pos 1000288000000
-weight_at_most s prices p o a h =
-    let worth : worth_at s p ≤ 288000000 = worth_at_most s p o h in
-    let range : IsPriceInRange (price s prices p.request.0) = price_in_range prices (place_of s p.request.0) a in
-    difference_at_most (worth_at s p) _ worth range
+-- a possible start's weight at prices in their range
+pub weight_between : (s : Parts) (prices : List ℤ) (p : Placement) → IsOrderly s → All IsPriceInRange prices → IsPossibleStart s p
+    → (neg_ℤ (pos (10 ^ 12)) ≤ℤ weight s prices p) × (weight s prices p ≤ℤ pos 1000288000000)
+weight_between s prices p o a h = difference_between (worth_at s p) (price s prices p.request.0) (worth_at_most s p o h) (price_in_range prices (place_of s p.request.0) a)
 
-best_between : (s : Parts) (prices : List ℤ) (t k : ℕ) (b : ℤ) → IsOrderly s → All IsPriceInRange prices → IsBest s prices t k b → (pos 0 ≤ℤ b) × (b ≤ℤ pos 1440414720000000)
+-- a best at prices in their range
+pub best_between : (s : Parts) (prices : List ℤ) (t k : ℕ) (b : ℤ) → IsOrderly s → All IsPriceInRange prices → IsBest s prices t k b → (pos 0 ≤ℤ b) × (b ≤ℤ pos 1440414720000000)
 best_between s prices t k b o a best =
     let none : IsStartList s t k [] = record {
       possible = All-nil (IsPossibleStart s);
@@ -133,21 +134,36 @@ best_between s prices t k b o a best =
     } in
     let least : pos 0 ≤ℤ b = best.bound [] none in
     let starts : List Placement = best.reached.0 in
-    let sum : surplus s prices starts ≤ℤ pos (length starts * 1000288000000) = total_at_most (weight s prices) 1000288000000 starts (λ i d l. weight_at_most s prices _ o a (best.reached.1.possible i d l)) in
+    let sum : surplus s prices starts ≤ℤ pos (length starts * 1000288000000) = total_at_most (weight s prices) 1000288000000 starts (λ i d l. (weight_between s prices _ o a (best.reached.1.possible i d l)).1) in
     let count : length starts ≤ s.slices = length_of_starts s t k starts o best.reached.1 in
     let slices : s.slices ≤ 1440 = o.ranges.slices_most in
     let is : surplus s prices starts ≡ b = best.reached.2 in
     (least, omega (arith, ints))
 
+-- what stands at a place, or 0 past the end, of quota prices in their range
+pub quota_price_at_most : (quota_prices : List ℕ) (q : ℕ) → All (λ u. u ≤ 200000) quota_prices → slice_index_or quota_prices q 0 ≤ 200000
+quota_price_at_most quota_prices q a = elim (below_or_from q (length quota_prices)) [
+  | inl l ↦ a q 0 l
+  | inr l ↦ let past : slice_index_or quota_prices q 0 ≡ 0 = get_or_past quota_prices q 0 l in omega arith
+]
+
+charge_at_most : (quota_prices : List ℕ) (seconds : ℕ) (o : Option ℕ) → All (λ u. u ≤ 200000) quota_prices → seconds ≤ 86400 → charge quota_prices seconds o ≤ 200000 * 86400
+charge_at_most quota_prices seconds None u h = omega arith
+charge_at_most quota_prices seconds (Some q) u h = mul-le _ _ 200000 86400 (quota_price_at_most quota_prices q u) h
+
+net_between : (c : ℤ) (n : ℕ) → IsPriceInRange c → n ≤ 200000 * 86400 → (neg_ℤ (pos (2 * 10 ^ 12)) ≤ℤ (c -ℤ pos n)) × ((c -ℤ pos n) ≤ℤ pos (10 ^ 12))
+net_between c n r h = (omega (arith, ints), omega (arith, ints))
+
+-- the net price of a known request at prices in their ranges
+pub net_price_between : (s : Parts) (prices : List ℤ) (quota_prices : List ℕ) (r : ℕ) → IsOrderly s → IsKnown s r → All IsPriceInRange prices → All (λ u. u ≤ 200000) quota_prices
+    → (neg_ℤ (pos (2 * 10 ^ 12)) ≤ℤ net_price s prices quota_prices r) × (net_price s prices quota_prices r ≤ℤ pos (10 ^ 12))
+net_price_between s prices quota_prices r o k a u =
+    net_between (price s prices r) (charge quota_prices (seconds_of s r) (quota_of s r)) (price_in_range prices (place_of s r) a)
+    (charge_at_most quota_prices (seconds_of s r) (quota_of s r) u (known_has (λ n. n ≤ 86400) (λ x. x.request.seconds) 0 s r (λ i d l. (o.ranges.seconds i d l).1) k))
+
 -- by group
-charge_off : (c : ℤ) (n : ℕ) → IsPriceInRange c → (c -ℤ pos n) ≤ℤ pos (10 ^ 12)
-charge_off c n r = omega (arith, ints)
-
-net_price_at_most : (s : Parts) (prices : List ℤ) (quota_prices : List ℕ) (r : ℕ) → All IsPriceInRange prices → net_price s prices quota_prices r ≤ℤ pos (10 ^ 12)
-net_price_at_most s prices quota_prices r a = charge_off (price s prices r) (charge quota_prices (seconds_of s r) (quota_of s r)) (price_in_range prices (place_of s r) a)
-
 -- an allowed choice has as many requests as are listed of its group, or fewer
-length_of_choice : (s : Parts) (g : ℕ) (choice : List ℕ) → IsAllowedChoice s g choice → length choice ≤ length (filter (λ x. x.group == g) (listed s))
+pub length_of_choice : (s : Parts) (g : ℕ) (choice : List ℕ) → IsAllowedChoice s g choice → length choice ≤ length (filter (λ x. x.group == g) (listed s))
 length_of_choice s g choice h =
     let among : length choice ≤ length (numbers_of s g) = length_among choice (numbers_of s g) h.once (λ i d l. number_in_group s g _ (h.members i d l)) in
     let same : length (numbers_of s g) ≡ length (filter (λ x. x.group == g) (listed s)) = length-map (filter (λ x. x.group == g) (listed s)) (λ x. x.request.request.0) in
@@ -163,33 +179,27 @@ rebate_not_negative s c g b rebate =
     } in
     rebate.bound [] none
 
-rebate_at_most : (s : Parts) (prices : List ℤ) (quota_prices : List ℕ) (g : ℕ) (b : ℤ) → All IsPriceInRange prices → IsRebate s (net_price s prices quota_prices) g b
+rebate_at_most : (s : Parts) (prices : List ℤ) (quota_prices : List ℕ) (g : ℕ) (b : ℤ) → IsOrderly s → All IsPriceInRange prices → All (λ u. u ≤ 200000) quota_prices → IsRebate s (net_price s prices quota_prices) g b
     → b ≤ℤ total (λ x. pos (10 ^ 12)) (filter (λ x. x.group == g) (listed s))
-rebate_at_most s prices quota_prices g b a rebate =
+rebate_at_most s prices quota_prices g b o a u rebate =
     let choice : List ℕ = rebate.reached.0 in
     let count : length choice ≤ length (filter (λ x. x.group == g) (listed s)) = length_of_choice s g choice rebate.reached.1 in
-    let sum : total (net_price s prices quota_prices) choice ≤ℤ pos (length choice * 10 ^ 12) = total_at_most (net_price s prices quota_prices) (10 ^ 12) choice (λ i d l. net_price_at_most s prices quota_prices _ a) in
+    let sum : total (net_price s prices quota_prices) choice ≤ℤ pos (length choice * 10 ^ 12) = total_at_most (net_price s prices quota_prices) (10 ^ 12) choice (λ i d l. (net_price_between s prices quota_prices _ o (rebate.reached.1.members i d l).0 a u).1) in
     let is : total (net_price s prices quota_prices) choice ≡ b = rebate.reached.2 in
     let all : total (λ x. pos (10 ^ 12)) (filter (λ x. x.group == g) (listed s)) ≡ pos (length (filter (λ x. x.group == g) (listed s)) * 10 ^ 12) = total_constant (10 ^ 12) (filter (λ x. x.group == g) (listed s)) in
     omega (arith, ints)
 
-rebates_between : (s : Parts) (prices : List ℤ) (quota_prices : List ℕ) (b : ℤ) → IsOrderly s → All IsPriceInRange prices → IsSumOf (length s.groups) (IsRebate s (net_price s prices quota_prices)) b
-    → (pos 0 ≤ℤ b) × (b ≤ℤ pos (1024 * 10 ^ 12))
-rebates_between s prices quota_prices b o a sum =
+rebates_between : (s : Parts) (prices : List ℤ) (quota_prices : List ℕ) (b : ℤ) → IsOrderly s → All IsPriceInRange prices → All (λ u. u ≤ 200000) quota_prices
+    → IsSumOf (length s.groups) (IsRebate s (net_price s prices quota_prices)) b → (pos 0 ≤ℤ b) × (b ≤ℤ pos (1024 * 10 ^ 12))
+rebates_between s prices quota_prices b o a u sum =
     let least : pos 0 ≤ℤ b = sum_not_negative (length s.groups) (IsRebate s (net_price s prices quota_prices)) b sum (λ g y l rebate. rebate_not_negative s (net_price s prices quota_prices) g y rebate) in
     let all : b ≤ℤ total (λ x. pos (10 ^ 12)) (listed s) = gather (λ x. pos (10 ^ 12)) (λ x. x.group) (listed s) (length s.groups) (IsRebate s (net_price s prices quota_prices)) b sum
-    (λ i d l. omega (arith, ints)) (λ g y l rebate. rebate_at_most s prices quota_prices g y a rebate) in
+    (λ i d l. omega (arith, ints)) (λ g y l rebate. rebate_at_most s prices quota_prices g y o a u rebate) in
     let is : total (λ x. pos (10 ^ 12)) (listed s) ≡ pos (length (listed s) * 10 ^ 12) = total_constant (10 ^ 12) (listed s) in
     let most : length (listed s) ≤ 1024 = requests_at_most s o in
     (least, omega (arith, ints))
 
 -- by quota
-quota_price_at_most : (quota_prices : List ℕ) (q : ℕ) → All (λ u. u ≤ 200000) quota_prices → slice_index_or quota_prices q 0 ≤ 200000
-quota_price_at_most quota_prices q a = elim (below_or_from q (length quota_prices)) [
-  | inl l ↦ a q 0 l
-  | inr l ↦ let past : slice_index_or quota_prices q 0 ≡ 0 = get_or_past quota_prices q 0 l in omega arith
-]
-
 quota_part_between : (s : Parts) (quota_prices : List ℕ) (q : ℕ) (y : ℤ) → IsOrderly s → All (λ u. u ≤ 200000) quota_prices → q < length s.quotas → IsQuotaPart s quota_prices q y
     → (pos 0 ≤ℤ y) × (y ≤ℤ pos 20000000000000)
 quota_part_between s quota_prices q y o u l part =
@@ -210,6 +220,6 @@ pub bound_limit : (s : Parts) (prices : List ℤ) (quota_prices : List ℕ) (b :
 bound_limit s prices quota_prices b o a u bound =
     sums_between (length s.telescopes) (length s.quotas) bound.bests bound.rebates bound.quotas b (telescopes_at_most s o) (quotas_at_most s o)
     (sum_between (length s.telescopes) 1440414720000000 (λ t. IsBest s prices t s.first.0) bound.bests bound.best (λ t y l best. best_between s prices t s.first.0 y o a best))
-    (rebates_between s prices quota_prices bound.rebates o a bound.rebate)
+    (rebates_between s prices quota_prices bound.rebates o a u bound.rebate)
     (sum_between (length s.quotas) 20000000000000 (IsQuotaPart s quota_prices) bound.quotas bound.quota (λ q y l part. quota_part_between s quota_prices q y o u l part))
     bound.whole

@@ -120,13 +120,13 @@ has_second w e = leb-false w.to.0 w.from.0 e
 no_empty_span : (s : Parts) → span_fault s ≡ None → All (λ w. w.from.0 < w.to.0) (all_spans s)
 no_empty_span s e =
     let absent : (b : Bool) → cond b (Some EmptySpan) None ≡ None → b ≡ false
-        = λ b. elim b as (λ v. cond v (Some EmptySpan) None ≡ None → v ≡ false) [ true ↦ λ h. cc | false ↦ λ _. refl ]
+    = λ b. elim b as (λ v. cond v (Some EmptySpan) None ≡ None → v ≡ false) [ true ↦ λ h. cc | false ↦ λ _. refl ]
     in All-weaker (λ w. nat_le w.to.0 w.from.0 ≡ false) (λ w. w.from.0 < w.to.0) has_second (all_spans s) (any_false _ (all_spans s) (absent _ e))
 
 sorted_apart : (spans : List Span) → All (λ w. w.from.0 < w.to.0) spans → is_apart spans ≡ true → IsSortedApart spans
 sorted_apart spans full e =
     let next : All (λ p. p.0.to.0 < p.1.from.0) (zip spans (drop 1 spans))
-        = λ k d h. ltb-true _ _ (AllPass-from_list_all (λ p. nat_lt p.0.to.0 p.1.from.0) (zip spans (drop 1 spans)) e k d h)
+    = λ k d h. ltb-true _ _ (AllPass-from_list_all (λ p. nat_lt p.0.to.0 p.1.from.0) (zip spans (drop 1 spans)) e k d h)
     in record { nonempty = full; apart = apart_pairs spans full next }
   where
     apart_pairs : (spans : List Span) → All (λ w. w.from.0 < w.to.0) spans → All (λ p. p.0.to.0 < p.1.from.0) (zip spans (drop 1 spans)) → AllPairs (λ v w. v.to.0 < w.from.0) spans
@@ -143,7 +143,7 @@ sorted_apart spans full e =
 all_apart : (s : Parts) → apart_fault s ≡ None → (list_all (λ t. is_apart t.usable) s.telescopes ≡ true) × (list_all (λ y. is_apart y.spans) s.skies ≡ true) × (skies_rise s.skies ≡ true)
 all_apart s e =
     let holds : (b : Bool) → cond b None (Some NotApart) ≡ None → b ≡ true
-        = λ b. elim b as (λ v. cond v None (Some NotApart) ≡ None → v ≡ true) [ true ↦ λ _. refl | false ↦ λ h. cc ]
+    = λ b. elim b as (λ v. cond v None (Some NotApart) ≡ None → v ≡ true) [ true ↦ λ _. refl | false ↦ λ h. cc ]
     in
     let both = and_parts (list_all (λ t. is_apart t.usable) s.telescopes && list_all (λ y. is_apart y.spans) s.skies) (skies_rise s.skies) (holds _ e) in
     let spans = and_parts (list_all (λ t. is_apart t.usable) s.telescopes) (list_all (λ y. is_apart y.spans) s.skies) both.0 in
@@ -214,7 +214,7 @@ fit_rise n (t ∷ ts) a =
 position_none : {X : Type 0} (p : X → Bool) (xs : List X) → position p xs ≡ None → All (λ x. p x ≡ false) xs
 position_none p xs e =
     let absent : (b : Bool) → cond b (Some (position_or_len p xs)) None ≡ None → b ≡ false
-        = λ b. elim b as (λ v. cond v (Some (position_or_len p xs)) None ≡ None → v ≡ false) [ true ↦ λ h. cc | false ↦ λ _. refl ]
+    = λ b. elim b as (λ v. cond v (Some (position_or_len p xs)) None ≡ None → v ≡ false) [ true ↦ λ h. cc | false ↦ λ _. refl ]
     in
     let past : length xs ≤ position_or_len p xs = ltb-false _ _ (absent _ e) in
     λ k d h. fails_before_first p xs k d (omega arith)

@@ -5,6 +5,7 @@ mod build;
 mod claim;
 mod counts;
 mod fault;
+mod laws;
 mod list;
 mod name;
 mod number;
@@ -17,6 +18,7 @@ mod verdict;
 
 pub use claim::{Claim, Placement, Prices, QuotaPrices, Settings};
 pub use fault::{Counted, SnapshotFault};
+pub use laws::{bound_limit, empty_is_feasible, value_limit, weak_duality, worth_between};
 pub use list::ListOf;
 pub use name::{NAME_BYTES, Name};
 pub use number::{GroupNo, RequestNo, Sec, SiteNo, SliceNo, TargetNo, TelescopeNo};

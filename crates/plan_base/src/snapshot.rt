@@ -4,8 +4,8 @@ ghost use Rattle.std.specs.Prelude.{◌≡◌, ◌≢◌, None, Some, OnOk, IfOk
 ghost use Rattle.plan_base.specs.Snapshot.{IsInRanges, IsSnapshot, IsOrderly, fault_of};
 
 use crate::build::fault_within_limits;
-use crate::fault::SnapshotFault;
 use crate::counts::limit_fault;
+use crate::fault::SnapshotFault;
 use crate::parts::Parts;
 use crate::rows::{Row, rows_of};
 use std::alloc::Global;
