@@ -1,0 +1,5 @@
+pub mod Source
+pub mod Sink
+pub mod Whole
+pub mod Kept
+pub mod Steady

@@ -1,0 +1,19 @@
+//! Bytes, lines and gates: where bytes come from and go to, the lines that they hold, and what a thread passes.
+#![tactic(auto)]
+
+mod adapters;
+mod block;
+mod byte_list;
+mod gate;
+mod sink;
+mod source;
+mod steady;
+mod whole;
+
+pub use adapters::{StdSink, StdSource};
+pub use byte_list::ByteList;
+pub use gate::{Gate, NoGate, Point};
+pub use sink::{PutAnswer, Sink, WriteAnswer, put};
+pub use source::{ReadAnswer, Source};
+pub use steady::{SteadySink, SteadySource};
+pub use whole::{WholeAnswer, read_whole};
