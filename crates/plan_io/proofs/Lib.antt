@@ -1,2 +1,5 @@
 pub mod Blocks
+pub mod Cuts
 pub mod Pieces
+pub mod Readings
+pub mod Turns

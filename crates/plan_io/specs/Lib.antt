@@ -3,3 +3,10 @@ pub mod Sink
 pub mod Whole
 pub mod Kept
 pub mod Steady
+pub mod Newline
+pub mod LinesOf
+pub mod HeldSeen
+pub mod Scanned
+pub mod LinesSeen
+pub mod Reader
+pub mod Next
