@@ -3,6 +3,8 @@ pub mod Sink
 pub mod Whole
 pub mod Kept
 pub mod Steady
+pub mod Calls
+pub mod Memory
 pub mod Newline
 pub mod LinesOf
 pub mod HeldSeen

@@ -1,5 +1,5 @@
 //! Bytes in memory: those that are still to be given, and those that were kept.
-ghost use Rattle.std.specs.Prelude.{◌≡◌, ◌+◌, ◌-◌, ◌≤◌, [], ◌++◌, length, take, min, IfOk};
+ghost use Rattle.std.specs.Prelude.{◌≡◌, ◌+◌, ◌-◌, ◌≤◌, [], ◌++◌, length, take, drop, min, IfOk};
 
 use std::alloc::{AllocError, Global};
 use std::marker::Model;
@@ -32,6 +32,7 @@ impl Unread {
     pub(crate) fn give(&mut self, room: &mut [u8]) -> usize
         ensures count { result ≡ min (length room.old) (length self.old) }
         ensures given { self.old ≡ take result room.new ++ self.new }
+        ensures rest { self.new ≡ drop result self.old }
     {
         let rest = &self.bytes.as_slice()[self.start..];
         let count = room.len().min(rest.len());
