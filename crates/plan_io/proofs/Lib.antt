@@ -3,3 +3,4 @@ pub mod Cuts
 pub mod Pieces
 pub mod Readings
 pub mod Turns
+pub mod Wholes

@@ -1,5 +1,5 @@
 -- What the parts of one call do to a reader.
-use Rattle.std.proofs.Common.{◌≡◌, ℕ, ◌+◌, ◌-◌, ◌≤◌, ◌<◌, max, List, [], ◌∷◌, ◌++◌, length, take, drop, refl, sym, ◌∙◌, ap, subst, arith, append_assoc, length-append, true, false, inl, inr}
+use Rattle.std.proofs.Common.{◌≡◌, ℕ, ◌+◌, ◌-◌, ◌≤◌, ◌<◌, max, List, [], ◌∷◌, ◌++◌, length, take, drop, refl, sym, ◌∙◌, ap, subst, arith, append_assoc, length-append, Bool, true, false, inl, inr}
 use Rattle.std.proofs.KnownBytes.{Consumes-nil, Consumes-trans}
 use Rattle.std.specs.declared.option.Option.{Option}
 use Rattle.std.specs.declared.option.Option.TheVariants.{Some, None}
@@ -32,6 +32,7 @@ cut_some s h n l within ends held is =
       record { cuts = cuts_first s t n l ends held refl is; taken = omega arith; answered = refl; most_bytes = refl; most_lines = refl },
       may_answer s within begun,
       refl,
+      refl,
     )
 
 pub cut_long : (s : LinesSeen) (h : List ℕ) → IsWithin s → NoNewline s.held → (s.long ≡ false → 1048576 < length s.held) → h ≡ []
@@ -43,6 +44,7 @@ cut_long s h within clear size held =
       record { cuts = cuts_long s t clear size held refl; taken = omega arith; answered = omega arith; most_bytes = refl; most_lines = refl },
       subst NoNewline (sym held) tt,
       record { bytes = within.bytes; lines = within.lines; last = λ e. absurd (omega (arith, e, less)) },
+      refl,
       refl,
     )
 
@@ -64,12 +66,13 @@ last_line_is s h n l within clear begun size held is =
       },
       may_answer s within begun,
       refl,
+      refl,
     )
 
 -- a read that asks for a byte beyond the limit, and gets it
-pub read_over : (s : LinesSeen) (h block : List ℕ) (n size : ℕ) (a b : Option (List ℕ)) → IsWithin s → NoNewline s.held → s.failed ≡ false → h ≡ s.held → n ≤ size → size ≤ max 1 (s.most_bytes - s.taken)
+pub read_over : (s : LinesSeen) (h block : List ℕ) (n size : ℕ) (a b : Option (List ℕ)) → IsWithin s → NoNewline s.held → s.failed ≡ false → s.ended ≡ false → h ≡ s.held → n ≤ size → size ≤ max 1 (s.most_bytes - s.taken)
     → s.most_bytes - s.taken < n → n ≤ length block → Consumes a b (take n block) → TurnIs s a (record s { held = h; taken = s.taken + n }) b turn.Over
-read_over s h block n size a b within clear steady held most room over given came =
+read_over s h block n size a b within clear steady opened held most room over given came =
     let t : LinesSeen = record s { held = h; taken = s.taken + n } in
     let count : length (take n block) ≡ n = length-take-le n block given in (
       inl (
@@ -90,6 +93,7 @@ read_over s h block n size a b within clear steady held most room over given cam
         ),
       ),
       steady,
+      opened,
     )
 
 -- nothing read, and nothing answered
@@ -106,10 +110,10 @@ begins_too_many s over few small =
     record { bytes = small; lines = most; begun = λ f. over (record { bytes = small; lines = few; last = λ e. f }) }
 
 -- a reader beyond its limits answers InputOver again
-pub over_again : (s : LinesSeen) (a : Option (List ℕ)) → (IsWithin s → ⊥) → s.answered ≤ s.most_lines → (s.most_bytes < s.taken → NoNewline s.held) → s.failed ≡ false → NextIs s a s a InputOver
-over_again s a over few clear steady =
+pub over_again : (s : LinesSeen) (a : Option (List ℕ)) → (IsWithin s → ⊥) → s.answered ≤ s.most_lines → (s.most_bytes < s.taken → NoNewline s.held) → s.failed ≡ false → s.ended ≡ false → NextIs s a s a InputOver
+over_again s a over few clear steady opened =
     elim (leb_tells s.taken s.most_bytes) [
-      | inl t ↦ (inr (reads_none s a, begins_too_many s over few t.1), over, steady)
+      | inl t ↦ (inr (reads_none s a, begins_too_many s over few t.1), over, steady, opened)
       | inr t ↦ (
         inl (
           [],
@@ -130,6 +134,7 @@ over_again s a over few clear steady =
         ),
         over,
         steady,
+        opened,
       )
     ]
 
@@ -161,11 +166,16 @@ reads_over s t u a b c h within g =
 pub over_now : (s t u : LinesSeen) (a b c : Option (List ℕ)) → ReadsOn s a [] t b → IsWithin t → TurnIs t b u c turn.Over → NextIs s a u c InputOver
 over_now s t u a b c h within g =
     elim g.0 [
-      | inl over ↦ (inl (reads_over s t u a b c h within over), λ w. omega (arith, w.bytes, over.1.2.over), g.1)
-      | inr many ↦ (inr (reads_more s t u a b c h many.0, many.1), λ w. many.1.begun (w.last many.1.lines), g.1)
+      | inl over ↦ (inl (reads_over s t u a b c h within over), λ w. omega (arith, w.bytes, over.1.2.over), g.1, g.2)
+      | inr many ↦ (inr (reads_more s t u a b c h many.0, many.1), λ w. many.1.begun (w.last many.1.lines), g.1, g.2)
     ]
 
 -- no line was cut where none is there
 pub is_none : (line : Option ScriptLine) → ((l : ScriptLine) → line ≡ Some l → ⊥) → line ≡ None
 is_none None h = refl
 is_none (Some l) h = absurd (h l refl)
+
+-- what isn't true is false
+pub is_false : (b : Bool) → (b ≡ true → ⊥) → b ≡ false
+is_false true h = absurd (h refl)
+is_false false h = refl

@@ -1,7 +1,7 @@
 -- What contracts see of a reader of lines.
 use Rattle.std.specs.Prelude.{◌≡◌, ℕ, ◌≤◌, List, [], Bool, false}
 
--- the bytes that it holds, whether they stand within a piece that is too long already, how many bytes it took and lines it answered of how many, and whether its source failed
+-- the bytes that it holds, whether they stand within a piece that is too long already, how many bytes it took and lines it answered of how many, and whether its source failed or came to its end
 pub record LinesSeen : Type 0 where
   pub held : List ℕ
   pub long : Bool
@@ -10,6 +10,7 @@ pub record LinesSeen : Type 0 where
   pub most_bytes : ℕ
   pub most_lines : ℕ
   pub failed : Bool
+  pub ended : Bool
 
 -- no byte of the next line was taken
 pub record IsFresh (reader : LinesSeen) : Type 0 where

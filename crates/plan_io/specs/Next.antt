@@ -59,23 +59,23 @@ pub record BeginsTooMany (reader : LinesSeen) : Type 0 where
 abbrev pub ReadsOn : LinesSeen → Option (List ℕ) → List ScriptLine → LinesSeen → Option (List ℕ) → Type 0
 ReadsOn old a lines new b = (bytes : List ℕ) × Consumes a b bytes × Advances old bytes lines new
 
--- the source came to its end, and the reader answered the last line
+-- the source came to its end, in this call or in an earlier one, and the reader answered the last line
 abbrev pub ReadsLast : LinesSeen → Option (List ℕ) → ScriptLine → LinesSeen → Option (List ℕ) → Type 0
-ReadsLast old a line new b = (bytes : List ℕ) × Consumes a b bytes × IsAtEnd b × EndsIn old bytes line new
+ReadsLast old a line new b = (bytes : List ℕ) × Consumes a b bytes × EndsIn old bytes line new × (old.ended ≡ false → IsAtEnd b)
 
 -- the source gave bytes beyond the limit
 abbrev pub ReadsOver : LinesSeen → Option (List ℕ) → LinesSeen → Option (List ℕ) → Type 0
 ReadsOver old a new b = (bytes : List ℕ) × ((lost : List ℕ) × Consumes a b (bytes ++ lost) × Overruns old bytes lost new)
 
 -- Line: the first of the lines that are left, cut at its newline or at the end of the source, within the limits.
--- End: the source is at its end, and no byte is left over.
+-- End: the source is at its end, since this call or an earlier one, and no byte is left over.
 -- ReadFault: no whole line is left, within the limits.
 -- InputOver: no whole line is left and more bytes were taken than allowed, or one line more than allowed has begun.
 abbrev pub NextIs : LinesSeen → Option (List ℕ) → LinesSeen → Option (List ℕ) → LineAnswer → Type 0
-NextIs old a new b (Line line) = (ReadsOn old a (line ∷ []) new b ⊎ ReadsLast old a line new b) × (new.taken ≤ new.most_bytes) × (new.answered ≤ new.most_lines) × (new.failed ≡ false)
-NextIs old a new b End = ReadsOn old a [] new b × IsAtEnd b × IsFresh new × IsWithin new × (new.failed ≡ false)
-NextIs old a new b ReadFault = ReadsOn old a [] new b × NoNewline new.held × IsWithin new × (new.failed ≡ true)
-NextIs old a new b InputOver = (ReadsOver old a new b ⊎ (ReadsOn old a [] new b × BeginsTooMany new)) × ¬ IsWithin new × (new.failed ≡ false)
+NextIs old a new b (Line line) = ((ReadsOn old a (line ∷ []) new b × (new.ended ≡ false)) ⊎ (ReadsLast old a line new b × (new.ended ≡ true))) × (new.taken ≤ new.most_bytes) × (new.answered ≤ new.most_lines) × (new.failed ≡ false)
+NextIs old a new b End = ReadsOn old a [] new b × IsFresh new × IsWithin new × (new.failed ≡ false) × (new.ended ≡ true) × (old.ended ≡ false → IsAtEnd b)
+NextIs old a new b ReadFault = ReadsOn old a [] new b × NoNewline new.held × IsWithin new × (new.failed ≡ true) × (new.ended ≡ false)
+NextIs old a new b InputOver = (ReadsOver old a new b ⊎ (ReadsOn old a [] new b × BeginsTooMany new)) × ¬ IsWithin new × (new.failed ≡ false) × (new.ended ≡ false)
 
 -- the count of faults never falls; it rose in this call, or an earlier call of the reader answered ReadFault
 abbrev pub NextCause : LinesSeen → ℕ → ℕ → LineAnswer → Type 0
@@ -86,15 +86,15 @@ NextCause old before now InputOver = before ≤ now
 
 -- the first line of the bytes that are held was cut off, or there is no newline in them
 abbrev pub CutIs : LinesSeen → LinesSeen → Option ScriptLine → Type 0
-CutIs old new None = Advances old [] [] new × NoNewline new.held × IsWithin new × (new.failed ≡ old.failed)
-CutIs old new (Some line) = Advances old [] (line ∷ []) new × (new.answered ≤ new.most_lines) × (new.failed ≡ old.failed)
+CutIs old new None = Advances old [] [] new × NoNewline new.held × IsWithin new × (new.failed ≡ old.failed) × (new.ended ≡ old.ended)
+CutIs old new (Some line) = Advances old [] (line ∷ []) new × (new.answered ≤ new.most_lines) × (new.failed ≡ old.failed) × (new.ended ≡ old.ended)
 
 -- one turn of reading: a block was added, or the end, or nothing, or more came than is allowed
 abbrev pub TurnIs : LinesSeen → Option (List ℕ) → LinesSeen → Option (List ℕ) → Turn → Type 0
-TurnIs old a new b turn.More = ReadsOn old a [] new b × (old.taken < new.taken) × IsWithin new × (new.failed ≡ false)
-TurnIs old a new b turn.End = Keeps a b × IsAtEnd b × (new ≡ old)
+TurnIs old a new b turn.More = ReadsOn old a [] new b × (old.taken < new.taken) × IsWithin new × (new.failed ≡ false) × (new.ended ≡ false)
+TurnIs old a new b turn.End = Keeps a b × IsAtEnd b × (new ≡ record old { ended = true })
 TurnIs old a new b turn.Failed = Keeps a b × (new ≡ record old { failed = true })
-TurnIs old a new b turn.Over = (ReadsOver old a new b ⊎ (ReadsOn old a [] new b × BeginsTooMany new)) × (new.failed ≡ false)
+TurnIs old a new b turn.Over = (ReadsOver old a new b ⊎ (ReadsOn old a [] new b × BeginsTooMany new)) × (new.failed ≡ false) × (new.ended ≡ false)
 
 -- the count of faults never falls, and a turn failed only where it rose
 abbrev pub TurnCause : ℕ → ℕ → Turn → Type 0
@@ -105,7 +105,7 @@ TurnCause before now turn.Over = before ≤ now
 
 -- at the end of the source: the piece that is held is the last line, or none is held
 abbrev pub LastIs : LinesSeen → LinesSeen → LineAnswer → Type 0
-LastIs old new (Line line) = EndsIn old [] line new × (new.answered ≤ new.most_lines) × (new.failed ≡ old.failed)
+LastIs old new (Line line) = EndsIn old [] line new × (new.answered ≤ new.most_lines) × (new.failed ≡ old.failed) × (new.ended ≡ old.ended)
 LastIs old new End = (new ≡ old) × IsFresh old
 LastIs old new ReadFault = ⊥
 LastIs old new InputOver = ⊥

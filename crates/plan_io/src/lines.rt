@@ -1,5 +1,6 @@
 //! Reading a source line by line.
 ghost use Rattle.std.specs.Prelude.{◌≡◌, ◌<◌, ◌≤◌, ◌↔◌, ◌^◌, [], length, max, true, false, IfOk, OnErr, IsTrue};
+ghost use Rattle.std.specs.Io.KnownBytes.{IsAtEnd};
 ghost use Rattle.plan_io.specs.Newline.{NoNewline};
 ghost use Rattle.plan_io.specs.LinesSeen.{IsFresh, IsWithin};
 ghost use Rattle.plan_io.specs.Source.{Reads, ReadCause};
@@ -47,8 +48,8 @@ enum Turn {
 
 /// A reader of lines, with limits on the bytes that it takes and on the lines that it answers.
 ///
-/// It reads by blocks, and asks for a byte beyond the limit only where no whole line is left. After `ReadFault` or
-/// `InputOver` it answers the same in every later call. Where memory is wanting no byte is lost, and the call may
+/// It reads by blocks, and asks for a byte beyond the limit only where no whole line is left. After `End`,
+/// `ReadFault` or `InputOver` it answers the same in every later call, and reads no more. Where memory is wanting no byte is lost, and the call may
 /// be made again.
 #[derive(Drop)]
 pub struct Lines {
@@ -61,6 +62,7 @@ pub struct Lines {
     most_bytes: u64,
     most_lines: u64,
     failed: bool,
+    ended: bool,
 }
 
 impl Model for Lines {
@@ -80,7 +82,7 @@ impl Lines {
     pub fn new(alloc: Global, most_bytes: u64, most_lines: u64) -> Result<Self, AllocError>
         requires bytes { most_bytes < 2 ^ 32 }
         requires lines { most_lines < 2 ^ 32 }
-        ensures { IfOk result (λ reader. reader ≡ record { held = []; long = false; taken = 0; answered = 0; most_bytes = most_bytes; most_lines = most_lines; failed = false }) }
+        ensures { IfOk result (λ reader. reader ≡ record { held = []; long = false; taken = 0; answered = 0; most_bytes = most_bytes; most_lines = most_lines; failed = false; ended = false }) }
     {
         Ok(Lines {
             alloc,
@@ -92,6 +94,7 @@ impl Lines {
             most_bytes,
             most_lines,
             failed: false,
+            ended: false,
         })
     }
 
@@ -125,6 +128,7 @@ impl Lines {
     fn cut(&mut self) -> Result<Option<ScriptLine>, AllocError>
         requires within { IsWithin self.old }
         requires steady { self.old.failed ≡ false }
+        requires open { self.old.ended ≡ false }
         ensures cut { IfOk result (λ line. CutIs self.old self.new line) }
         ensures err { OnErr result (self.new ≡ self.old) }
     {
@@ -151,6 +155,7 @@ impl Lines {
     fn read_more<S: Source>(&mut self, source: &mut S) -> Result<Turn, AllocError>
         requires within { IsWithin self.old }
         requires steady { self.old.failed ≡ false }
+        requires open { self.old.ended ≡ false }
         requires clear { NoNewline self.old.held }
         ensures turn { IfOk result (λ turn. TurnIs self.old (S.left source.old) self.new (S.left source.new) turn) }
         ensures cause { IfOk result (λ turn. TurnCause (S.faults source.old) (S.faults source.new) turn) }
@@ -161,6 +166,7 @@ impl Lines {
         match read_block(source, self.room.as_mut_slice(), read_size(allowed)) {
             ReadAnswer::Got(count) => {
                 if count == 0 {
+                    self.ended = true;
                     return Ok(Turn::End);
                 }
                 self.taken += count as u64;
@@ -202,11 +208,12 @@ impl Lines {
         ensures next { IfOk result (λ answer. NextIs self.old (S.left source.old) self.new (S.left source.new) answer) }
         ensures cause { IfOk result (λ answer. NextCause self.old (S.faults source.old) (S.faults source.new) answer) }
         ensures stays_failed { self.old.failed ≡ true → IfOk result (λ answer. (answer ≡ LineAnswer.ReadFault) × (self.new ≡ self.old)) }
+        ensures stays_ended { self.old.ended ≡ true → IsFresh self.old → IfOk result (λ answer. (answer ≡ LineAnswer.End) × (self.new ≡ self.old)) }
         ensures stays_over { ¬ IsWithin self.old → IfOk result (λ answer. (answer ≡ LineAnswer.InputOver) × (self.new ≡ self.old)) }
 
         // Where memory is wanting, bytes may have been taken, and all of them are kept.
         ensures err { OnErr result (ReadsOn self.old (S.left source.old) [] self.new (S.left source.new)) }
-        ensures err_state { OnErr result ((self.new.failed ≡ self.old.failed) × IsWithin self.new) }
+        ensures err_state { OnErr result ((self.new.failed ≡ self.old.failed) × IsWithin self.new × (self.old.ended ≡ false → self.new.ended ≡ true → IsAtEnd (S.left source.new))) }
         ensures err_faults { OnErr result (S.faults source.old ≤ S.faults source.new) }
     {
         if self.failed {
@@ -214,6 +221,9 @@ impl Lines {
         }
         if !self.is_within() {
             return Ok(LineAnswer::InputOver);
+        }
+        if self.ended {
+            return self.last();
         }
         loop {
             if let Some(line) = self.cut()? {

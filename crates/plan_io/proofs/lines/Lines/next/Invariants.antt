@@ -8,6 +8,7 @@ invariant-loop-line g l = record {
   reads : ReadsOn l.initial.self (g.S.Source.left l.initial.source) [] l.self (g.S.Source.left l.source);
   within : IsWithin l.self;
   failed : l.self.failed ≡ false;
+  ended : l.self.ended ≡ false;
   later : g.S.Source.faults l.initial.source ≤ g.S.Source.faults l.source;
 }
 
