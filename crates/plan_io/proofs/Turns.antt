@@ -97,7 +97,7 @@ read_over s h block n size a b within clear steady opened held most room over gi
     )
 
 -- nothing read, and nothing answered
-reads_none : (s : LinesSeen) (a : Option (List ℕ)) → ReadsOn s a [] s a
+pub reads_none : (s : LinesSeen) (a : Option (List ℕ)) → ReadsOn s a [] s a
 reads_none s a = ([], Consumes-nil a, record { cuts = cuts_same s s refl refl; taken = omega arith; answered = omega arith; most_bytes = refl; most_lines = refl })
 
 begins_too_many : (s : LinesSeen) → (IsWithin s → ⊥) → s.answered ≤ s.most_lines → s.taken ≤ s.most_bytes → BeginsTooMany s

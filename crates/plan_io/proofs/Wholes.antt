@@ -10,7 +10,7 @@ use Rattle.plan_io.specs.Next.{Cuts, EndsIn}
 use Rattle.plan_io.proofs.Cuts.{cuts_line, after_more}
 
 -- the lines that are left to a fresh reader are those of the bytes
-fresh_lines : (s : LinesSeen) (xs later : List ℕ) → IsFresh s → lines_left s.long ((s.held ++ xs) ++ later) ≡ lines_of (xs ++ later)
+pub fresh_lines : (s : LinesSeen) (xs later : List ℕ) → IsFresh s → lines_left s.long ((s.held ++ xs) ++ later) ≡ lines_of (xs ++ later)
 fresh_lines s xs later fresh =
     ap (λ (b : Bool). lines_left b ((s.held ++ xs) ++ later)) fresh.long
     ∙ ap (λ (h : List ℕ). lines_of ((h ++ xs) ++ later)) fresh.held

@@ -12,3 +12,4 @@ pub mod Scanned
 pub mod LinesSeen
 pub mod Reader
 pub mod Next
+pub mod Reading

@@ -23,3 +23,6 @@ pub use sink::{PutAnswer, Sink, WriteAnswer, put};
 pub use source::{ReadAnswer, Source};
 pub use steady::{SteadySink, SteadySource};
 pub use whole::{WholeAnswer, read_whole};
+
+#[cfg(test)]
+mod tests;
