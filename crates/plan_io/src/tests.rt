@@ -5,11 +5,12 @@ ghost use Rattle.plan_io.specs.Reading.{AllRead};
 use super::*;
 use std::alloc::{AllocError, Global};
 use std::collections::VecDeque;
+use std::fmt::Write;
 use std::io;
 use std::io::{ErrorKind, Read};
 use std::test::Fail;
 
-const TEXT: &[u8] = b"ab\n\ncdefgh\nlast";
+const TEXT: &str = "ab\n\ncdefgh\nlast";
 
 /// All lines of a source, and the first answer that is none.
 fn read_lines<S: Source>(
@@ -41,10 +42,28 @@ fn name_of(answer: &LineAnswer) -> &'static str {
     }
 }
 
-/// The lines and the ending as one text.
-fn shown(alloc: Global, read: &(Vec<ScriptLine>, LineAnswer)) -> Result<String, AllocError> {
+/// A source that gives at most `most` bytes a call and fails the listed ones.
+fn source_of(
+    alloc: Global,
+    text: &str,
+    most: usize,
+    failing: &[u32],
+) -> Result<MemSource, AllocError> {
+    let bytes = Vec::from_slice(alloc, text.as_bytes())?;
+    let failing = Vec::from_slice(alloc, failing)?;
+    Ok(MemSource::new(bytes, most.max(1), failing))
+}
+
+/// The lines of a source and the answer after them as one text.
+fn read_shown<S: Source>(
+    alloc: Global,
+    source: &mut S,
+    most_bytes: u32,
+    most_lines: u32,
+) -> Result<String, AllocError> {
+    let (lines, ending) = read_lines(alloc, source, u64::from(most_bytes), u64::from(most_lines))?;
     let mut text = String::new(alloc);
-    for line in &read.0 {
+    for line in &lines {
         match line {
             ScriptLine::Bytes(bytes) => {
                 for byte in bytes.as_slice() {
@@ -55,62 +74,59 @@ fn shown(alloc: Global, read: &(Vec<ScriptLine>, LineAnswer)) -> Result<String, 
         }
         text.push('|')?;
     }
-    text.push_str(name_of(&read.1))?;
+    text.push_str(name_of(&ending))?;
     Ok(text)
 }
 
-/// A source that gives at most `most` bytes a call and fails the listed ones.
-fn source_of(
+/// The same of a text, with a limit on what a call gives and the calls that fail.
+fn text_shown(
     alloc: Global,
-    text: &[u8],
+    text: &str,
     most: usize,
     failing: &[u32],
-) -> Result<MemSource, AllocError> {
-    let bytes = Vec::from_slice(alloc, text)?;
-    Ok(MemSource::new(bytes, most.max(1), Vec::from_slice(alloc, failing)?))
+    most_bytes: u32,
+    most_lines: u32,
+) -> Result<String, AllocError> {
+    let mut source = source_of(alloc, text, most, failing)?;
+    read_shown(alloc, &mut source, most_bytes, most_lines)
 }
 
 #[test]
 fn lines_are_cut_whatever_a_call_gives(rt: HostRuntime) -> Result<(), Fail> {
-    let alloc = rt.alloc();
     for (text, want) in [
         ("", "End"),
         ("\n", "|End"),
         ("a", "a|End"),
         ("a\n", "a|End"),
         ("\n\na\n\n", "||a||End"),
-        ("ab\n\ncdefgh\nlast", "ab||cdefgh|last|End"),
+        (TEXT, "ab||cdefgh|last|End"),
     ] {
         for most in [1, 2, 7, 64] {
-            let mut source = source_of(alloc, text.as_bytes(), most, &[])?;
-            let read = read_lines(alloc, &mut source, 1000, 1000)?;
-            assert_eq!(rt; shown(alloc, &read)?.as_str(), want, "{most} bytes a call");
+            let shown = text_shown(rt.alloc(), text, most, &[], 1000, 1000)?;
+            assert_eq!(rt; shown.as_str(), want);
         }
     }
     Ok(())
 }
 
+/// A text of 130 bytes, but for a mark at one place.
+fn marked(alloc: Global, place: usize, mark: char) -> Result<String, AllocError> {
+    let mut text = String::new(alloc);
+    for at in 0..130usize {
+        text.push(if at == place { mark } else { 'x' })?;
+    }
+    Ok(text)
+}
+
 #[test]
 fn a_newline_stands_at_each_edge_of_a_block(rt: HostRuntime) -> Result<(), Fail> {
-    let alloc = rt.alloc();
-    for place in 0..130usize {
-        let mut text = vec![in alloc; b'x'; 130]?;
-        if let Some(byte) = text.get_mut(place) {
-            *byte = b'\n';
-        }
-        let mut want = String::new(alloc);
-        for at in 0..130usize {
-            want.push(if at == place { '|' } else { 'x' })?;
-        }
-        want.push_str(if place < 129 { "|End" } else { "End" })?;
+    for place in 0..129usize {
+        let text = marked(rt.alloc(), place, '\n')?;
+        let mut want = marked(rt.alloc(), place, '|')?;
+        want.push_str("|End")?;
         for most in [1, 2, 7, 64] {
-            let mut source = source_of(alloc, text.as_slice(), most, &[])?;
-            let read = read_lines(alloc, &mut source, 130, 2)?;
-            assert_eq!(rt;
-                shown(alloc, &read)?.as_str(),
-                want.as_str(),
-                "{most} bytes a call"
-            );
+            let shown = text_shown(rt.alloc(), text.as_str(), most, &[], 130, 2)?;
+            assert_eq!(rt; shown.as_str(), want.as_str());
         }
     }
     Ok(())
@@ -118,8 +134,7 @@ fn a_newline_stands_at_each_edge_of_a_block(rt: HostRuntime) -> Result<(), Fail>
 
 #[test]
 fn each_call_fails_in_turn(rt: HostRuntime) -> Result<(), Fail> {
-    let alloc = rt.alloc();
-    // Two bytes come in a call, so call 2 has the bytes after the second newline, and call 8 is at the end.
+    // Two bytes come in a call, so call 2 comes after the second newline, and call 8 is at the end.
     for (call, want) in [
         (0, "ReadFault"),
         (1, "ReadFault"),
@@ -129,18 +144,16 @@ fn each_call_fails_in_turn(rt: HostRuntime) -> Result<(), Fail> {
         (8, "ab||cdefgh|ReadFault"),
         (9, "ab||cdefgh|last|End"),
     ] {
-        let mut source = source_of(alloc, TEXT, 2, &[call])?;
-        let read = read_lines(alloc, &mut source, 1000, 1000)?;
-        assert_eq!(rt; shown(alloc, &read)?.as_str(), want, "call {call} fails");
+        let shown = text_shown(rt.alloc(), TEXT, 2, &[call], 1000, 1000)?;
+        assert_eq!(rt; shown.as_str(), want);
     }
     Ok(())
 }
 
 #[test]
 fn limits_hold_at_their_edges(rt: HostRuntime) -> Result<(), Fail> {
-    let alloc = rt.alloc();
     for (bytes, lines, want) in [
-        (15u32, 4u32, "ab||cdefgh|last|End"),
+        (15, 4, "ab||cdefgh|last|End"),
         (14, 4, "ab||cdefgh|InputOver"),
         (11, 4, "ab||cdefgh|InputOver"),
         (10, 4, "ab||InputOver"),
@@ -152,130 +165,166 @@ fn limits_hold_at_their_edges(rt: HostRuntime) -> Result<(), Fail> {
         (10, 2, "ab||InputOver"),
     ] {
         for most in [1, 2, 7, 64] {
-            let mut source = source_of(alloc, TEXT, most, &[])?;
-            let read = read_lines(alloc, &mut source, u64::from(bytes), u64::from(lines))?;
-            assert_eq!(rt;
-                shown(alloc, &read)?.as_str(),
-                want,
-                "{bytes} bytes, {lines} lines"
-            );
+            let shown = text_shown(rt.alloc(), TEXT, most, &[], bytes, lines)?;
+            assert_eq!(rt; shown.as_str(), want);
         }
     }
     Ok(())
+}
+
+/// The names of the first eight answers over the text, two bytes a call, of which one call fails.
+fn answers_shown(
+    alloc: Global,
+    failing: u32,
+    most_bytes: u32,
+    most_lines: u32,
+) -> Result<String, AllocError> {
+    let mut source = source_of(alloc, TEXT, 2, &[failing])?;
+    let mut reader = Lines::new(alloc, u64::from(most_bytes), u64::from(most_lines))?;
+    let mut text = String::new(alloc);
+    for _call in 0..8 {
+        let answer = reader.next(&mut source)?;
+        text.push_str(name_of(&answer))?;
+        text.push(' ')?;
+    }
+    Ok(text)
 }
 
 #[test]
 fn an_ending_is_answered_ever_after(rt: HostRuntime) -> Result<(), Fail> {
-    let alloc = rt.alloc();
-    // The bytes limit, the lines limit and the call that fails.
-    for (bytes, lines, call, want) in [
-        (15u32, 4u32, 9u32, "End"),
-        (14, 4, 9, "InputOver"),
-        (15, 1, 9, "InputOver"),
-        (15, 4, 3, "ReadFault"),
+    for (failing, bytes, lines, want) in [
+        (9, 15, 4, "Line Line Line Line End End End End "),
+        (
+            9,
+            14,
+            4,
+            "Line Line Line InputOver InputOver InputOver InputOver InputOver ",
+        ),
+        (
+            9,
+            15,
+            2,
+            "Line Line InputOver InputOver InputOver InputOver InputOver InputOver ",
+        ),
+        (
+            3,
+            15,
+            4,
+            "Line Line ReadFault ReadFault ReadFault ReadFault ReadFault ReadFault ",
+        ),
     ] {
-        let mut source = source_of(alloc, TEXT, 2, &[call])?;
-        let mut reader = Lines::new(alloc, u64::from(bytes), u64::from(lines))?;
-        for _call in 0..5 {
-            let _ = reader.next(&mut source)?;
-        }
-        for _call in 0..3 {
-            assert_eq!(rt; name_of(&reader.next(&mut source)?), want);
-        }
+        let shown = answers_shown(rt.alloc(), failing, bytes, lines)?;
+        assert_eq!(rt; shown.as_str(), want);
     }
     Ok(())
+}
+
+/// The sizes of the lines of so many bytes, a newline and `next`.
+fn sizes_shown(alloc: Global, size: usize) -> Result<String, AllocError> {
+    let mut text = vec![in alloc; b'a'; size]?;
+    text.extend_from_slice(b"\nnext")?;
+    let (lines, ending) = read_lines(alloc, &mut SteadySource::new(text), 4_000_000, 9)?;
+    let mut shown = String::new(alloc);
+    for line in &lines {
+        match line {
+            ScriptLine::Bytes(bytes) => write!(shown, "{}|", bytes.len())?,
+            ScriptLine::TooLong => write!(shown, "*|")?,
+        }
+    }
+    shown.push_str(name_of(&ending))?;
+    Ok(shown)
 }
 
 #[test]
 fn a_line_is_too_long_past_its_limit(rt: HostRuntime) -> Result<(), Fail> {
-    let alloc = rt.alloc();
-    for (size, long) in [
-        (1_048_576usize, false),
-        (1_048_577, true),
-        (3_000_000, true),
+    for (size, want) in [
+        (1_048_576, "1048576|4|End"),
+        (1_048_577, "*|4|End"),
+        (3_000_000, "*|4|End"),
     ] {
-        let mut text = vec![in alloc; b'a'; size]?;
-        text.extend_from_slice(b"\nnext")?;
-        let mut source = SteadySource::new(text);
-        let (lines, ending) = read_lines(alloc, &mut source, 4_000_000, 9)?;
-        assert_eq!(rt; name_of(&ending), "End");
-        let kept: [usize; 2] = [if long { 0 } else { size }, 4];
-        assert_eq!(rt; lines.len(), 2);
-        for (line, want) in lines.iter().zip(kept.iter()) {
-            match line {
-                ScriptLine::Bytes(bytes) => assert_eq!(rt; bytes.len(), *want),
-                ScriptLine::TooLong => assert_eq!(rt; 0, *want),
-            }
-        }
+        assert_eq!(rt; sizes_shown(rt.alloc(), size)?.as_str(), want);
     }
     Ok(())
+}
+
+/// What reading the text whole gives, seven bytes a call, of which one call fails.
+fn whole_shown(alloc: Global, limit: u32, failing: u32) -> Result<String, AllocError> {
+    let mut source = source_of(alloc, TEXT, 7, &[failing])?;
+    match read_whole(alloc, &mut source, u64::from(limit))? {
+        WholeAnswer::Bytes(bytes) => match str::from_utf8(bytes.into_vec().as_slice()) {
+            Ok(text) => String::from_str(alloc, text),
+            Err(_) => String::from_str(alloc, "no text"),
+        },
+        WholeAnswer::ReadFault => String::from_str(alloc, "ReadFault"),
+        WholeAnswer::InputOver => String::from_str(alloc, "InputOver"),
+    }
 }
 
 #[test]
 fn a_source_is_read_whole(rt: HostRuntime) -> Result<(), Fail> {
-    let alloc = rt.alloc();
-    for (limit, call, want) in [
-        (15u32, 99u32, "whole"),
-        (14, 99, "over"),
-        (0, 99, "over"),
-        (15, 0, "fault"),
-        (15, 2, "fault"),
-        (15, 3, "fault"),
+    for (limit, failing, want) in [
+        (15, 99, TEXT),
+        (15, 4, TEXT),
+        (14, 99, "InputOver"),
+        (0, 99, "InputOver"),
+        (15, 0, "ReadFault"),
+        (15, 2, "ReadFault"),
+        (15, 3, "ReadFault"),
     ] {
-        let mut source = source_of(alloc, TEXT, 7, &[call])?;
-        let got = match read_whole(alloc, &mut source, u64::from(limit))? {
-            WholeAnswer::Bytes(bytes) => {
-                if bytes.as_slice() == TEXT {
-                    "whole"
-                } else {
-                    "other"
-                }
-            }
-            WholeAnswer::ReadFault => "fault",
-            WholeAnswer::InputOver => "over",
-        };
-        assert_eq!(rt; got, want, "limit {limit}, call {call} fails");
+        let shown = whole_shown(rt.alloc(), limit, failing)?;
+        assert_eq!(rt; shown.as_str(), want);
     }
-    let bytes = ByteList::from(Vec::from_slice(alloc, b"ab")?);
-    assert!(rt; !bytes.is_empty());
-    assert_eq!(rt; bytes.into_vec().as_slice(), b"ab".as_slice());
     Ok(())
+}
+
+/// What a sink holds of the text, and whether it was put whole.
+fn put_shown(
+    alloc: Global,
+    most: usize,
+    room: usize,
+    failing: u32,
+) -> Result<(String, PutAnswer), AllocError> {
+    let failing = Vec::from_slice(alloc, &[failing])?;
+    let mut sink = MemSink::new(alloc, most.max(1), room, failing)?;
+    let answer = put(&mut sink, TEXT.as_bytes());
+    match str::from_utf8(sink.bytes()) {
+        Ok(text) => Ok((String::from_str(alloc, text)?, answer)),
+        Err(_) => Ok((String::from_str(alloc, "no text")?, answer)),
+    }
 }
 
 #[test]
 fn a_piece_is_put_whole_or_in_part(rt: HostRuntime) -> Result<(), Fail> {
-    let alloc = rt.alloc();
-    for (most, room, call, want, written) in [
-        (
-            1usize,
-            15usize,
-            99u32,
-            PutAnswer::Done,
-            "ab\n\ncdefgh\nlast",
-        ),
-        (7, 15, 99, PutAnswer::Done, "ab\n\ncdefgh\nlast"),
-        (64, 15, 1, PutAnswer::Done, "ab\n\ncdefgh\nlast"),
-        (2, 15, 0, PutAnswer::WriteFault, ""),
-        (2, 15, 3, PutAnswer::WriteFault, "ab\n\ncd"),
-        (7, 10, 99, PutAnswer::WriteFault, "ab\n\ncdefgh"),
+    for (most, room, failing, want, answer) in [
+        (1, 15, 99, TEXT, PutAnswer::Done),
+        (7, 15, 99, TEXT, PutAnswer::Done),
+        (64, 15, 1, TEXT, PutAnswer::Done),
+        (2, 15, 0, "", PutAnswer::WriteFault),
+        (2, 15, 3, "ab\n\ncd", PutAnswer::WriteFault),
+        (7, 10, 99, "ab\n\ncdefgh", PutAnswer::WriteFault),
     ] {
-        let mut sink = MemSink::new(alloc, most.max(1), room, Vec::from_slice(alloc, &[call])?)?;
-        assert_eq!(rt;
-            put(&mut sink, TEXT),
-            want,
-            "{most} bytes a call, call {call} fails"
-        );
-        assert_eq!(rt; sink.bytes(), written.as_bytes());
+        let (text, put) = put_shown(rt.alloc(), most, room, failing)?;
+        assert_eq!(rt; text.as_str(), want);
+        assert_eq!(rt; put, answer);
     }
-    let mut sink = SteadySink::new(alloc, 3)?;
+    Ok(())
+}
+
+#[test]
+fn a_steady_sink_drops_what_has_no_room(rt: HostRuntime) -> Result<(), Fail> {
+    let mut sink = SteadySink::new(rt.alloc(), 3)?;
     assert_eq!(rt; put(&mut sink, b"ab"), PutAnswer::Done);
     assert_eq!(rt; put(&mut sink, b"cd"), PutAnswer::Done);
     assert_eq!(rt; sink.bytes(), b"abc".as_slice());
-    NoGate.pass(Point::AfterRound {
-        worker: 0,
-        lane: 0,
-        round: 0,
-    });
+    Ok(())
+}
+
+#[test]
+fn a_list_keeps_its_bytes(rt: HostRuntime) -> Result<(), Fail> {
+    let bytes = ByteList::from(Vec::from_slice(rt.alloc(), b"ab")?);
+    assert!(rt; bytes.len() == 2 && !bytes.is_empty());
+    assert_eq!(rt; bytes.as_slice(), b"ab".as_slice());
+    NoGate.pass(Point::BeforeLine { caller: 0, line: 1 });
     Ok(())
 }
 
@@ -317,23 +366,23 @@ impl io::Write for Shaky {
     }
 }
 
-#[test]
-fn the_adapters_retry_and_count(rt: HostRuntime) -> Result<(), Fail> {
-    let alloc = rt.alloc();
+/// Two bytes that are read and then written, each by a call that is interrupted first.
+fn shaky_shown(alloc: Global) -> Result<String, AllocError> {
     let mut bytes = VecDeque::new(alloc);
-    for byte in b"ab" {
-        bytes.push_back(*byte).map_err(AllocError::from)?;
-    }
+    bytes.push_back(b'a').map_err(AllocError::from)?;
+    bytes.push_back(b'\n').map_err(AllocError::from)?;
     let mut source = StdSource::new(Shaky { bytes, calls: 0 });
-    let read = read_lines(alloc, &mut source, 9, 9)?;
-    assert_eq!(rt; shown(alloc, &read)?.as_str(), "ReadFault");
+    read_shown(alloc, &mut source, 9, 9)
+}
+
+#[test]
+fn the_adapters_try_again_and_count_errors(rt: HostRuntime) -> Result<(), Fail> {
+    assert_eq!(rt; shaky_shown(rt.alloc())?.as_str(), "a|ReadFault");
     let mut sink = StdSink::new(Shaky {
-        bytes: VecDeque::new(alloc),
+        bytes: VecDeque::new(rt.alloc()),
         calls: 0,
     });
     assert_eq!(rt; put(&mut sink, b"ab"), PutAnswer::Done);
     assert_eq!(rt; put(&mut sink, b"c"), PutAnswer::WriteFault);
-    let mut plain = StdSink::new(VecDeque::new(alloc));
-    assert_eq!(rt; put(&mut plain, b"abc"), PutAnswer::Done);
     Ok(())
 }
