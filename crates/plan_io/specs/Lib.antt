@@ -13,3 +13,4 @@ pub mod LinesSeen
 pub mod Reader
 pub mod Next
 pub mod Reading
+pub mod Adapters

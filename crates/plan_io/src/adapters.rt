@@ -2,6 +2,7 @@
 ghost use Rattle.std.specs.Prelude.{◌≡◌, length, None};
 ghost use Rattle.plan_io.specs.Source.{Reads, ReadCause};
 ghost use Rattle.plan_io.specs.Sink.{Writes, WriteCause, Passes};
+ghost use Rattle.plan_io.specs.Adapters.{reader_of, read_errors, writer_of, write_errors};
 
 use super::sink::{Sink, WriteAnswer};
 use super::source::{ReadAnswer, Source};
@@ -10,25 +11,25 @@ use std::io::{ErrorKind, Read, Write};
 /// Any reader of std, with a count of its errors. Of what is left it tells what the reader tells, which at the
 /// system's own readers is nothing.
 #[derive(Drop)]
-pub struct StdSource<I: Read> {
+pub struct StdSource<I> {
     reader: I,
     faults: u64,
 }
 
-impl<I: Read> StdSource<I> {
+impl<I> StdSource<I> {
     /// A source over this reader, with the count 0.
     pub fn new(reader: I) -> Self
-        ensures reader { result.reader ≡ reader }
-        ensures faults { result.faults ≡ 0 }
+        ensures reader { reader_of result ≡ reader }
+        ensures faults { read_errors result ≡ 0 }
     {
         StdSource { reader, faults: 0 }
     }
 }
 
 impl<I: Read> Source for StdSource<I> {
-    ghost left = { λ source. I.remaining source.reader };
+    ghost left = { λ source. I.remaining (reader_of source) };
 
-    ghost faults = { λ source. source.faults };
+    ghost faults = { read_errors };
 
     /// A call that a signal interrupted is made again, as std's own loops do.
     fn read(&mut self, room: &mut [u8]) -> ReadAnswer {
@@ -50,16 +51,16 @@ impl<I: Read> Source for StdSource<I> {
 /// Any writer of std, with a count of its errors and of the writes that took no byte of some. It tells nothing
 /// of what was written.
 #[derive(Drop)]
-pub struct StdSink<O: Write> {
+pub struct StdSink<O> {
     writer: O,
     faults: u64,
 }
 
-impl<O: Write> StdSink<O> {
+impl<O> StdSink<O> {
     /// A sink over this writer, with the count 0.
     pub fn new(writer: O) -> Self
-        ensures writer { result.writer ≡ writer }
-        ensures faults { result.faults ≡ 0 }
+        ensures writer { writer_of result ≡ writer }
+        ensures faults { write_errors result ≡ 0 }
     {
         StdSink { writer, faults: 0 }
     }
@@ -68,13 +69,13 @@ impl<O: Write> StdSink<O> {
 impl<O: Write> Sink for StdSink<O> {
     ghost written = { λ _. None };
 
-    ghost faults = { λ sink. sink.faults };
+    ghost faults = { write_errors };
 
     /// A call that a signal interrupted is made again, as std's own loops do.
     fn write(&mut self, piece: &[u8]) -> WriteAnswer
         ensures bytes { Writes None None result piece.now }
-        ensures cause { WriteCause self.old.faults self.new.faults result piece.now }
-        ensures passes { Passes (O.contents self.old.writer) (O.contents self.new.writer) result piece.now }
+        ensures cause { WriteCause (write_errors self.old) (write_errors self.new) result piece.now }
+        ensures passes { Passes (O.contents (writer_of self.old)) (O.contents (writer_of self.new)) result piece.now }
     {
         for _call in 0..u64::MAX {
             match self.writer.write(piece) {
