@@ -1,0 +1,91 @@
+-- Where bytes are cut into lines.
+use Rattle.std.proofs.Common.{◌≡◌, ◌≢◌, ℕ, suc, ◌+◌, ◌-◌, ◌≤◌, ◌<◌, List, [], ◌∷◌, ◌++◌, length, take, drop, get_or, refl, sym, ◌∙◌, ap, subst, arith, append_assoc, append-nil, length-append, Bool, true, false, cond, nat_eq, nat_le, inl, inr, length-drop, length-take, get_or-drop, get_or-take}
+use Rattle.std.proofs.lemmas.List.{drop_more}
+use Rattle.std.proofs.lemmas.Bool.{cond-false, ne_eqb, le-leb}
+use Rattle.std.proofs.lemmas.Bool.Decides.{leb_tells}
+use Rattle.plan_io.specs.declared.lines.ScriptLine.{ScriptLine}
+use Rattle.plan_io.specs.declared.lines.ScriptLine.TheVariants.{Bytes, TooLong}
+use Rattle.plan_io.specs.Newline.{NoNewline, EndsAt}
+use Rattle.plan_io.specs.LinesOf.{line_of, last_of, lines_from, lines_of, after_newline}
+
+-- bytes with no newline join the open piece
+pub lines_from_more : (p bs r : List ℕ) → NoNewline bs → lines_from p (bs ++ r) ≡ lines_from (p ++ bs) r
+lines_from_more p [] r h = ap (λ (q : List ℕ). lines_from q r) (sym (append-nil p))
+lines_from_more p (b ∷ bs) r h =
+    cond-false (nat_eq b 10) _ _ (ne_eqb b 10 h.0) ∙ lines_from_more (p ++ b ∷ []) bs r h.1 ∙ ap (λ (q : List ℕ). lines_from q r) (append_assoc p (b ∷ []) bs)
+
+-- what stands before the first newline is the first line
+pub cuts_line : (piece rest : List ℕ) → NoNewline piece → lines_of (piece ++ 10 ∷ rest) ≡ line_of piece ∷ lines_of rest
+cuts_line piece rest h = lines_from_more [] piece (10 ∷ rest) h
+
+pub last_line : (piece : List ℕ) → NoNewline piece → lines_of piece ≡ last_of piece
+last_line piece h = ap lines_of (sym (append-nil piece)) ∙ lines_from_more [] piece [] h
+
+pub line_long : (p : List ℕ) → 1048576 < length p → line_of p ≡ TooLong
+line_long p h = cond-false (nat_le (length p) 1048576) (Bytes p) TooLong (elim (leb_tells (length p) 1048576) [ inl t ↦ absurd (omega (arith, t.1, h)) | inr t ↦ t.0 ])
+
+pub line_short : (p : List ℕ) → length p ≤ 1048576 → line_of p ≡ Bytes p
+line_short p h = ap (λ (t : Bool). cond t (Bytes p) TooLong) (le-leb (length p) 1048576 h)
+
+last_long : (p : List ℕ) → 1048576 < length p → last_of p ≡ TooLong ∷ []
+last_long [] h = absurd (omega (arith, h))
+last_long (b ∷ bs) h = ap (λ (l : ScriptLine). l ∷ []) (line_long (b ∷ bs) h)
+
+-- an open piece that is too long stays so
+pub lines_long : (p r : List ℕ) → 1048576 < length p → lines_from p r ≡ TooLong ∷ lines_of (after_newline r)
+lines_long p [] h = last_long p h
+lines_long p (b ∷ bs) h =
+    let more : 1048576 < length (p ++ b ∷ []) = grind (arith, length-append, h) in
+    elim (nat_eq b 10) as (λ t. cond t (line_of p ∷ lines_from [] bs) (lines_from (p ++ b ∷ []) bs) ≡ TooLong ∷ lines_of (cond t bs (after_newline bs))) [
+      | true ↦ ap (λ (l : ScriptLine). l ∷ lines_of bs) (line_long p h)
+      | false ↦ lines_long (p ++ b ∷ []) bs more
+    ]
+
+pub after_more : (p r : List ℕ) → NoNewline p → after_newline (p ++ r) ≡ after_newline r
+after_more [] r h = refl
+after_more (b ∷ bs) r h = cond-false (nat_eq b 10) _ _ (ne_eqb b 10 h.0) ∙ after_more bs r h.1
+
+-- no index holds one
+pub no_newline : (xs : List ℕ) → ((k : ℕ) → k < length xs → get_or xs k 0 ≢ 10) → NoNewline xs
+no_newline [] h = tt
+no_newline (x ∷ xs) h = (h 0 (omega arith), no_newline xs (λ k lt. h (suc k) (omega (arith, lt))))
+
+pub none_at : (items : List ℕ) (start : ℕ) → ((k : ℕ) → start ≤ k → k < length items → get_or items k 0 ≢ 10) → NoNewline (drop start items)
+none_at items start h =
+    no_newline (drop start items) (λ k lt e.
+    let size : length (drop start items) ≡ length items - start = length-drop start items in
+    h (start + k) (omega arith) (omega (arith, lt, size)) (sym (get_or-drop start items k 0) ∙ e))
+
+pub ends_at : (items : List ℕ) (start at n : ℕ) → start + n ≡ at → at < length items → ((k : ℕ) → start ≤ k → k < at → get_or items k 0 ≢ 10) → get_or items at 0 ≡ 10 → EndsAt (drop start items) n
+ends_at items start at n is lt h ten =
+    let size : length (drop start items) ≡ length items - start = length-drop start items in
+    let inside : n < length (drop start items) = omega (arith, is, lt, size) in
+    let here : get_or (drop start items) n 0 ≡ 10 = get_or-drop start items n 0 ∙ ap (λ (i : ℕ). get_or items i 0) is ∙ ten in
+    let small : length (take n (drop start items)) ≤ n = omega (arith, length-take n (drop start items)) in
+    record {
+      within = inside;
+      clear = no_newline (take n (drop start items)) (λ k low e.
+          let under : k < n = omega (arith, low, small) in
+          h (start + k) (omega arith) (omega (arith, under, is)) (sym (get_or-drop start items k 0) ∙ sym (get_or-take n (drop start items) k 0 under) ∙ e));
+      newline = drop_more (drop start items) n 0 inside ∙ ap (λ (b : ℕ). b ∷ drop (n + 1) (drop start items)) here;
+    }
+
+-- what was looked at before, and now
+pub both_clear : (items xs : List ℕ) (start scanned at : ℕ) → xs ≡ items → ((k : ℕ) → start ≤ k → k < scanned → get_or items k 0 ≢ 10) → ((k : ℕ) → scanned ≤ k → k < at → get_or xs k 0 ≢ 10)
+    → (k : ℕ) → start ≤ k → k < at → get_or items k 0 ≢ 10
+both_clear items xs start scanned at same h g k low high =
+    elim (leb_tells scanned k) [
+      | inl t ↦ subst (λ (ys : List ℕ). get_or ys k 0 ≢ 10) same (g k t.1 high)
+      | inr t ↦ h k low t.1
+    ]
+
+-- the byte at an index of what stands after a start
+get_after : (xs ys : List ℕ) (start k : ℕ) → ys ≡ drop start xs → get_or ys k 0 ≡ get_or xs (start + k) 0
+get_after xs ys start k is = ap (λ (zs : List ℕ). get_or zs k 0) is ∙ get_or-drop start xs k 0
+
+-- no newline from a start on, where none was found after it
+pub none_from : (xs ys : List ℕ) (start n : ℕ) → ys ≡ drop start xs → ((k : ℕ) → k < n → get_or ys k 0 ≢ 10) → (k : ℕ) → start ≤ k → k < start + n → get_or xs k 0 ≢ 10
+none_from xs ys start n is none k low high e =
+    let under : k - start < n = omega (arith, low, high) in
+    let at : start + (k - start) ≡ k = omega (arith, low) in
+    none (k - start) under (get_after xs ys start (k - start) is ∙ ap (λ (i : ℕ). get_or xs i 0) at ∙ e)

@@ -1,0 +1,136 @@
+-- A loop over the calls of a reader of lines, step by step.
+use Rattle.std.proofs.Common.{◌≡◌, ℕ, ◌+◌, ◌≤◌, ◌<◌, List, [], ◌∷◌, ◌++◌, length, take, refl, sym, ◌∙◌, ap, subst, arith, append-nil, append_assoc, length-append, Bool, true, false, cond, nat_eq, inl, inr}
+use Rattle.std.proofs.KnownBytes.{Consumes-trans, Consumes-whole}
+use Rattle.std.specs.declared.option.Option.{Option}
+use Rattle.std.specs.Io.KnownBytes.{Consumes, IsAtEnd}
+use Rattle.std.proofs.Math.Seq.{take-append_seam}
+use Rattle.plan_io.specs.declared.lines.ScriptLine.{ScriptLine}
+use Rattle.plan_io.specs.declared.lines.LineAnswer.{LineAnswer}
+use Rattle.plan_io.specs.declared.lines.LineAnswer.TheVariants.{Line, End, ReadFault, InputOver}
+use Rattle.plan_io.specs.LinesSeen.{LinesSeen, IsFresh, IsWithin}
+use Rattle.plan_io.specs.LinesOf.{line_of, lines_from, lines_of, whole_lines_of, lines_left}
+use Rattle.plan_io.specs.Next.{Cuts, ReadsOn, ReadsOver, BeginsTooMany, NextIs}
+use Rattle.plan_io.specs.Reading.{HasEnded, SoFar, AllRead}
+use Rattle.plan_io.proofs.Readings.{advances_on, cuts_on}
+use Rattle.plan_io.proofs.Turns.{reads_none}
+use Rattle.plan_io.proofs.Wholes.{all_lines, all_with_last, all_whole_lines, first_whole_lines, fresh_lines}
+
+pub so_far_start : (s : LinesSeen) (a : Option (List ℕ)) → s.ended ≡ false → SoFar s a [] s a
+so_far_start s a opened = inl (reads_none s a, opened)
+
+-- lines and then more lines
+reads_on : (s t u : LinesSeen) (a b c : Option (List ℕ)) (ls ms : List ScriptLine) → ReadsOn s a ls t b → ReadsOn t b ms u c → ReadsOn s a (ls ++ ms) u c
+reads_on s t u a b c ls ms h g = (h.0 ++ g.0, Consumes-trans a b c h.0 g.0 h.1 g.1, advances_on s t u h.0 g.0 ls ms h.2 g.2)
+
+open_line : (s t u : LinesSeen) (a b c : Option (List ℕ)) (ls : List ScriptLine) (l : ScriptLine) → IsFresh s → ReadsOn s a ls t b → t.ended ≡ false → NextIs t b u c (Line l) → SoFar s a (ls ++ l ∷ []) u c
+open_line s t u a b c ls l fresh h opened next =
+    elim next.0 [
+      | inl cut ↦ inl (reads_on s t u a b c ls (l ∷ []) h cut.0, cut.1)
+      | inr last ↦
+          let bytes = h.0 ++ last.0.0 in
+          let came : Consumes a c bytes = Consumes-trans a b c h.0 last.0.0 h.1 last.0.1 in
+          let ends = last.0.2 in
+          inr (record {
+            given = bytes;
+            all = Consumes-whole a c bytes (λ (xs : List ℕ). xs ≡ bytes) came (last.0.3 opened) refl;
+            are = all_with_last s t u h.0 last.0.0 ls l fresh h.2.cuts ends;
+            fresh = ends.fresh;
+            ended = last.1;
+            taken = omega (arith, ends.taken, h.2.taken, length-append h.0 last.0.0);
+            answered = omega (arith, ends.answered, h.2.answered, length-append ls (l ∷ []));
+            most_bytes = ends.most_bytes ∙ h.2.most_bytes;
+            most_lines = ends.most_lines ∙ h.2.most_lines;
+          })
+    ]
+
+-- a line more
+pub so_far_line : (s t u : LinesSeen) (a b c : Option (List ℕ)) (ls : List ScriptLine) (l : ScriptLine) → IsFresh s → SoFar s a ls t b → NextIs t b u c (Line l) → (t.ended ≡ true → IsFresh t → Line l ≡ End) → SoFar s a (ls ++ l ∷ []) u c
+so_far_line s t u a b c ls l fresh (inl h) next stays = open_line s t u a b c ls l fresh h.0 h.1 next
+so_far_line s t u a b c ls l fresh (inr h) next stays = absurd (let e = stays h.ended h.fresh in cc)
+
+-- no line more
+reads_on_none : (s t u : LinesSeen) (a b c : Option (List ℕ)) (ls : List ScriptLine) → ReadsOn s a ls t b → ReadsOn t b [] u c → ReadsOn s a ls u c
+reads_on_none s t u a b c ls h g = subst (λ (ks : List ScriptLine). ReadsOn s a ks u c) (append-nil ls) (reads_on s t u a b c ls [] h g)
+
+lines_some : (p bs : List ℕ) → 0 < length p + length bs → 0 < length (lines_from p bs)
+lines_some [] [] h = absurd (omega (arith, h))
+lines_some (x ∷ xs) [] h = omega arith
+lines_some p (b ∷ bs) h =
+    let more : 0 < length (p ++ b ∷ []) + length bs = omega (arith, length-append p (b ∷ [])) in
+    elim (nat_eq b 10) as (λ t. 0 < length (cond t (line_of p ∷ lines_from [] bs) (lines_from (p ++ b ∷ []) bs))) [
+      | true ↦ omega arith
+      | false ↦ lines_some (p ++ b ∷ []) bs more
+    ]
+
+-- a line that has begun is left
+begun_left : (long : Bool) (held : List ℕ) → ((held ≡ []) × (long ≡ false) → ⊥) → 0 < length (lines_left long (held ++ []))
+begun_left true held h = omega arith
+begun_left false [] h = absurd (h (refl, refl))
+begun_left false (b ∷ bs) h = lines_some [] (b ∷ bs ++ []) (omega arith)
+
+open_over : (s t u : LinesSeen) (a b c : Option (List ℕ)) (ls : List ScriptLine) → IsFresh s → s.taken ≡ 0 → t.taken ≤ t.most_bytes → ReadsOn s a ls t b → ReadsOver t b u c
+    → (given : List ℕ) × Consumes a c given × (s.most_bytes < length given) × (ls ≡ whole_lines_of (take s.most_bytes given))
+open_over s t u a b c ls fresh zero within h g =
+    let kept = h.0 ++ g.0 in
+    let lost = g.1.0 in
+    let over = g.1.2 in
+    let size : length kept ≡ s.most_bytes = omega (arith, over.limit within, h.2.taken, zero, h.2.most_bytes, length-append h.0 g.0) in
+    let all : length (kept ++ lost) ≡ length kept + length lost = length-append kept lost in
+    let came : length (g.0 ++ lost) ≡ length g.0 + length lost = length-append g.0 lost in
+    let cuts : Cuts s kept ls u = subst (λ (ks : List ScriptLine). Cuts s kept ks u) (append-nil ls) (cuts_on s t u h.0 g.0 ls [] h.2.cuts over.cuts) in
+    let front : take s.most_bytes (kept ++ lost) ≡ kept = subst (λ (n : ℕ). take n (kept ++ lost) ≡ kept) size (take-append_seam kept lost) in (
+      kept ++ lost,
+      subst (λ (xs : List ℕ). Consumes a c xs) (sym (append_assoc h.0 g.0 lost)) (Consumes-trans a b c h.0 (g.0 ++ lost) h.1 g.1.1),
+      omega (arith, over.over, over.taken, over.most_bytes, h.2.most_bytes, h.2.taken, zero, all, came, length-append h.0 g.0),
+      all_whole_lines s u kept ls fresh cuts over.clear ∙ ap whole_lines_of (sym front),
+    )
+
+open_many : (s u : LinesSeen) (a c : Option (List ℕ)) (ls : List ScriptLine) → IsFresh s → s.taken ≡ 0 → s.answered ≡ 0 → ReadsOn s a ls u c → BeginsTooMany u
+    → (given : List ℕ) × Consumes a c given × (length given ≤ s.most_bytes) × (s.most_lines < length (lines_of given)) × (ls ≡ take s.most_lines (whole_lines_of given))
+open_many s u a c ls fresh zero none h many =
+    let size : length ls ≡ s.most_lines = omega (arith, h.2.answered, none, many.lines, h.2.most_lines) in
+    let left = lines_left u.long (u.held ++ []) in
+    let some : 0 < length left = begun_left u.long u.held (λ f. many.begun (record { held = f.0; long = f.1 })) in
+    let all : lines_of h.0 ≡ ls ++ left = ap lines_of (sym (append-nil h.0)) ∙ sym (fresh_lines s h.0 [] fresh) ∙ h.2.cuts [] in
+    let more : length (lines_of h.0) ≡ length ls + length left = ap length all ∙ length-append ls left in (
+      h.0,
+      h.1,
+      omega (arith, h.2.taken, zero, many.bytes, h.2.most_bytes),
+      omega (arith, more, size, some),
+      first_whole_lines s u h.0 ls fresh h.2.cuts ∙ ap (λ (n : ℕ). take n (whole_lines_of h.0)) size,
+    )
+
+open_read : (s t u : LinesSeen) (a b c : Option (List ℕ)) (ls : List ScriptLine) (ending : LineAnswer) → IsFresh s → s.taken ≡ 0 → s.answered ≡ 0 → t.taken ≤ t.most_bytes → ReadsOn s a ls t b → t.ended ≡ false
+    → NextIs t b u c ending → ((l : ScriptLine) → ending ≡ Line l → ⊥) → AllRead s.most_bytes s.most_lines a ls ending c
+open_read s t u a b c ls (Line l) fresh zero none within h opened next unlike = unlike l refl
+open_read s t u a b c ls End fresh zero none within h opened next unlike =
+    let r = reads_on_none s t u a b c ls h next.0 in (
+      r.0,
+      Consumes-whole a c r.0 (λ (xs : List ℕ). xs ≡ r.0) r.1 (next.5 opened) refl,
+      all_lines s u r.0 ls fresh r.2.cuts next.1,
+      omega (arith, r.2.taken, zero, next.2.bytes, r.2.most_bytes),
+      omega (arith, r.2.answered, none, next.2.lines, r.2.most_lines),
+    )
+open_read s t u a b c ls ReadFault fresh zero none within h opened next unlike =
+    let r = reads_on_none s t u a b c ls h next.0 in (
+      r.0,
+      r.1,
+      all_whole_lines s u r.0 ls fresh r.2.cuts next.1,
+      omega (arith, r.2.taken, zero, next.2.bytes, r.2.most_bytes),
+      omega (arith, r.2.answered, none, next.2.lines, r.2.most_lines),
+    )
+open_read s t u a b c ls InputOver fresh zero none within h opened next unlike =
+    elim next.0 [
+      | inl over ↦ let r = open_over s t u a b c ls fresh zero within h over in (r.0, r.1, inl (r.2, r.3))
+      | inr many ↦ let r = open_many s u a c ls fresh zero none (reads_on_none s t u a b c ls h many.0) many.1 in (r.0, r.1, inr (r.2, r.3, r.4))
+    ]
+
+ended_read : (s t : LinesSeen) (a c : Option (List ℕ)) (ls : List ScriptLine) → s.taken ≡ 0 → s.answered ≡ 0 → t.taken ≤ t.most_bytes → t.answered ≤ t.most_lines → HasEnded s a ls t → AllRead s.most_bytes s.most_lines a ls End c
+ended_read s t a c ls zero none within few h = (h.given, h.all, h.are, omega (arith, h.taken, zero, within, h.most_bytes), omega (arith, h.answered, none, few, h.most_lines))
+
+-- the first answer that is no line
+pub so_far_ends : (s t u : LinesSeen) (a b c : Option (List ℕ)) (ls : List ScriptLine) (ending : LineAnswer) → IsFresh s → s.taken ≡ 0 → s.answered ≡ 0 → t.taken ≤ t.most_bytes → t.answered ≤ t.most_lines → SoFar s a ls t b
+    → NextIs t b u c ending → (t.ended ≡ true → IsFresh t → ending ≡ End) → ((l : ScriptLine) → ending ≡ Line l → ⊥) → AllRead s.most_bytes s.most_lines a ls ending c
+so_far_ends s t u a b c ls ending fresh zero none within few (inl h) next stays unlike = open_read s t u a b c ls ending fresh zero none within h.0 h.1 next unlike
+so_far_ends s t u a b c ls ending fresh zero none within few (inr h) next stays unlike =
+    subst (λ (e : LineAnswer). AllRead s.most_bytes s.most_lines a ls e c) (sym (stays h.ended h.fresh)) (ended_read s t a c ls zero none within few h)

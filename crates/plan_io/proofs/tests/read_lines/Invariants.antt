@@ -1,0 +1,14 @@
+use Rattle.std.proofs.Common.{◌≡◌, ◌-◌, ◌≤◌}
+use Rattle.plan_io.specs.LinesSeen.{IsFresh}
+use Rattle.plan_io.specs.Reading.{SoFar}
+use Rattle.plan_io.proofs.tests.read_lines.Given as goal
+
+abbrev pub invariant-loop-reader : goal.invariant-loop-reader
+invariant-loop-reader g l = record {
+  so_far : SoFar l.initial.reader (g.S.Source.left l.initial.source) l.lines.items l.reader (g.S.Source.left l.source);
+  bytes : l.reader.taken ≤ l.reader.most_bytes;
+  lines : l.reader.answered ≤ l.reader.most_lines;
+}
+
+abbrev pub decreases-loop-reader : goal.decreases-loop-reader
+decreases-loop-reader g l = l.reader.most_lines - l.reader.answered

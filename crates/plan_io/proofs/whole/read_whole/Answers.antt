@@ -1,0 +1,11 @@
+use Rattle.std.proofs.Common.{◌++◌, arith}
+use Rattle.std.proofs.KnownBytes.{Consumes-trans}
+use Rattle.std.proofs.lemmas.Result.{err_from_is_err_and}
+use Rattle.plan_io.proofs.whole.read_whole.Goals as goal
+
+pub returns-in_err-read_more-clause-err : goal.returns-in_err-read_more-clause-err
+returns-in_err-read_more-clause-err g c =
+    let p = err_from_is_err_and c.from_residual-in_err-read_more.result c.from_residual-in_err-read_more.ensures.1 in
+    rw (p.1) (
+    let stopped = c.in_err-read_more.ensures.err in
+    ((c.loop-turn.bytes.items ++ stopped.0.0, Consumes-trans _ (g.S.Source.left c.loop-turn.source) _ c.loop-turn.bytes.items stopped.0.0 c.loop-turn.invariant.taken stopped.0.1), omega (arith, stopped.1, c.loop-turn.invariant.later)))

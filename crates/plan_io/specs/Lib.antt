@@ -1,0 +1,16 @@
+pub mod Source
+pub mod Sink
+pub mod Whole
+pub mod Kept
+pub mod Steady
+pub mod Calls
+pub mod Memory
+pub mod Newline
+pub mod LinesOf
+pub mod HeldSeen
+pub mod Scanned
+pub mod LinesSeen
+pub mod Reader
+pub mod Next
+pub mod Reading
+pub mod Adapters

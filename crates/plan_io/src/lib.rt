@@ -1,0 +1,28 @@
+//! Bytes, lines and gates: where bytes come from and go to, the lines that they hold, and what a thread passes.
+#![tactic(auto)]
+
+mod adapters;
+mod block;
+mod byte_list;
+mod calls;
+mod gate;
+mod held;
+mod lines;
+mod memory;
+mod sink;
+mod source;
+mod steady;
+mod whole;
+
+pub use adapters::{StdSink, StdSource};
+pub use byte_list::ByteList;
+pub use gate::{Gate, NoGate, Point};
+pub use lines::{LineAnswer, Lines, ScriptLine};
+pub use memory::{MemSink, MemSource};
+pub use sink::{PutAnswer, Sink, WriteAnswer, put};
+pub use source::{ReadAnswer, Source};
+pub use steady::{SteadySink, SteadySource};
+pub use whole::{WholeAnswer, read_whole};
+
+#[cfg(test)]
+mod tests;

@@ -1,0 +1,264 @@
+//! Reading a source line by line.
+ghost use Rattle.std.specs.Prelude.{◌≡◌, ◌<◌, ◌≤◌, ◌↔◌, ◌^◌, [], length, max, true, false, IfOk, OnErr, IsTrue};
+ghost use Rattle.std.specs.Io.KnownBytes.{IsAtEnd};
+ghost use Rattle.plan_io.specs.Newline.{NoNewline};
+ghost use Rattle.plan_io.specs.LinesSeen.{IsFresh, IsWithin};
+ghost use Rattle.plan_io.specs.Source.{Reads, ReadCause};
+ghost use Rattle.plan_io.specs.Next.{line_at, ReadsOn, CutIs, TurnIs, TurnCause, LastIs, NextIs, NextCause};
+
+use super::byte_list::ByteList;
+use super::held::Held;
+use super::source::{ReadAnswer, Source};
+use super::whole::{ROOM, read_room};
+use std::alloc::{AllocError, Global};
+use std::marker::Model;
+
+/// The most bytes of a line, without its newline.
+const LONGEST: usize = 1_048_576;
+
+/// A line of a script.
+#[derive(Debug, Drop)]
+pub enum ScriptLine {
+    /// Its bytes without the newline: at most 1,048,576.
+    Bytes(ByteList),
+    /// The line has more bytes than that.
+    TooLong,
+}
+
+/// What a call of `Lines::next` answers.
+#[derive(Debug, Drop)]
+pub enum LineAnswer {
+    /// The next line: the bytes before a newline, or those before the end where there is at least one.
+    Line(ScriptLine),
+    /// The source gave no byte more, and none is left over.
+    End,
+    /// A read failed, in this call or in an earlier call that answered so.
+    ReadFault,
+    /// More bytes were taken than the limit allows, or one line too many has begun.
+    InputOver,
+}
+
+/// What one turn of reading gave.
+enum Turn {
+    More,
+    End,
+    Failed,
+    Over,
+}
+
+/// A reader of lines, with limits on the bytes that it takes and on the lines that it answers.
+///
+/// It reads by blocks, and asks for a byte beyond the limit only where no whole line is left. After `End`,
+/// `ReadFault` or `InputOver` it answers the same in every later call, and reads no more. Where memory is wanting no byte is lost, and the call may
+/// be made again.
+#[derive(Drop)]
+pub struct Lines {
+    alloc: Global,
+    held: Held,
+    room: Vec<u8>,
+    long: bool,
+    taken: u64,
+    answered: u64,
+    most_bytes: u64,
+    most_lines: u64,
+    failed: bool,
+    ended: bool,
+}
+
+impl Model for Lines {
+    ghost use Rattle.plan_io.specs.LinesSeen.{LinesSeen};
+
+    ghost Value = { LinesSeen };
+
+    ghost use Rattle.plan_io.specs.Reader.{IsReader, seen_of};
+
+    ghost view = { seen_of };
+
+    ghost invariant = { IsReader };
+}
+
+impl Lines {
+    /// A reader that takes at most `most_bytes` bytes and answers at most `most_lines` lines.
+    pub fn new(alloc: Global, most_bytes: u64, most_lines: u64) -> Result<Self, AllocError>
+        requires bytes { most_bytes < 2 ^ 32 }
+        requires lines { most_lines < 2 ^ 32 }
+        ensures { IfOk result (λ reader. reader ≡ record { held = []; long = false; taken = 0; answered = 0; most_bytes = most_bytes; most_lines = most_lines; failed = false; ended = false }) }
+    {
+        Ok(Lines {
+            alloc,
+            held: Held::new(alloc),
+            room: read_room(alloc)?,
+            long: false,
+            taken: 0,
+            answered: 0,
+            most_bytes,
+            most_lines,
+            failed: false,
+            ended: false,
+        })
+    }
+
+    /// Whether no byte of the next line was taken.
+    fn is_fresh(&self) -> bool
+        ensures { IsTrue result ↔ IsFresh self.now }
+    {
+        self.held.len() == 0 && !self.long
+    }
+
+    /// Whether the bytes and the lines that were begun are within the limits.
+    fn is_within(&self) -> bool
+        ensures { IsTrue result ↔ IsWithin self.now }
+    {
+        self.taken <= self.most_bytes && (self.answered < self.most_lines || self.is_fresh())
+    }
+
+    /// The line of the first bytes.
+    fn line_at(&self, size: usize) -> Result<ScriptLine, AllocError>
+        requires { size ≤ length self.now.held }
+        ensures { IfOk result (λ line. line ≡ line_at self.now size) }
+    {
+        if self.long || size > LONGEST {
+            return Ok(ScriptLine::TooLong);
+        }
+        let bytes = Vec::from_slice(self.alloc, self.held.front(size))?;
+        Ok(ScriptLine::Bytes(ByteList::from(bytes)))
+    }
+
+    /// Cuts the first line off the bytes that are held, where they have a newline.
+    fn cut(&mut self) -> Result<Option<ScriptLine>, AllocError>
+        requires within { IsWithin self.old }
+        requires steady { self.old.failed ≡ false }
+        requires open { self.old.ended ≡ false }
+        ensures cut { IfOk result (λ line. CutIs self.old self.new line) }
+        ensures err { OnErr result (self.new ≡ self.old) }
+    {
+        match self.held.newline() {
+            None => {
+                if !self.long && self.held.len() <= LONGEST {
+                    return Ok(None);
+                }
+                self.held.clear();
+                self.long = true;
+                Ok(None)
+            }
+            Some(at) => {
+                let line = self.line_at(at)?;
+                self.held.pass(at);
+                self.long = false;
+                self.answered += 1;
+                Ok(Some(line))
+            }
+        }
+    }
+
+    /// Reads once.
+    fn read_more<S: Source>(&mut self, source: &mut S) -> Result<Turn, AllocError>
+        requires within { IsWithin self.old }
+        requires steady { self.old.failed ≡ false }
+        requires open { self.old.ended ≡ false }
+        requires clear { NoNewline self.old.held }
+        ensures turn { IfOk result (λ turn. TurnIs self.old (S.left source.old) self.new (S.left source.new) turn) }
+        ensures cause { IfOk result (λ turn. TurnCause (S.faults source.old) (S.faults source.new) turn) }
+        ensures err { OnErr result ((self.new ≡ self.old) × (source.new ≡ source.old)) }
+    {
+        self.held.make_room(ROOM)?;
+        let allowed = self.most_bytes - self.taken;
+        match read_block(source, self.room.as_mut_slice(), read_size(allowed)) {
+            ReadAnswer::Got(count) => {
+                if count == 0 {
+                    self.ended = true;
+                    return Ok(Turn::End);
+                }
+                self.taken += count as u64;
+                if count as u64 > allowed {
+                    return Ok(Turn::Over);
+                }
+                self.held.add(&self.room.as_slice()[..count]);
+                if self.answered == self.most_lines {
+                    return Ok(Turn::Over);
+                }
+                Ok(Turn::More)
+            }
+            ReadAnswer::Failed => {
+                self.failed = true;
+                Ok(Turn::Failed)
+            }
+        }
+    }
+
+    /// The last piece, where there is one.
+    fn last(&mut self) -> Result<LineAnswer, AllocError>
+        requires within { IsWithin self.old }
+        requires clear { NoNewline self.old.held }
+        ensures last { IfOk result (λ answer. LastIs self.old self.new answer) }
+        ensures err { OnErr result (self.new ≡ self.old) }
+    {
+        if self.is_fresh() {
+            return Ok(LineAnswer::End);
+        }
+        let line = self.line_at(self.held.len())?;
+        self.held.clear();
+        self.long = false;
+        self.answered += 1;
+        Ok(LineAnswer::Line(line))
+    }
+
+    /// The next line of `source`, which is the same in every call of this reader.
+    pub fn next<S: Source>(&mut self, source: &mut S) -> Result<LineAnswer, AllocError>
+        ensures next { IfOk result (λ answer. NextIs self.old (S.left source.old) self.new (S.left source.new) answer) }
+        ensures cause { IfOk result (λ answer. NextCause self.old (S.faults source.old) (S.faults source.new) answer) }
+        ensures stays_failed { self.old.failed ≡ true → IfOk result (λ answer. (answer ≡ LineAnswer.ReadFault) × (self.new ≡ self.old)) }
+        ensures stays_ended { self.old.ended ≡ true → IsFresh self.old → IfOk result (λ answer. (answer ≡ LineAnswer.End) × (self.new ≡ self.old)) }
+        ensures stays_over { ¬ IsWithin self.old → IfOk result (λ answer. (answer ≡ LineAnswer.InputOver) × (self.new ≡ self.old)) }
+
+        // Where memory is wanting, bytes may have been taken, and all of them are kept.
+        ensures err { OnErr result (ReadsOn self.old (S.left source.old) [] self.new (S.left source.new)) }
+        ensures err_state { OnErr result ((self.new.failed ≡ self.old.failed) × IsWithin self.new × (self.old.ended ≡ false → self.new.ended ≡ true → IsAtEnd (S.left source.new))) }
+        ensures err_faults { OnErr result (S.faults source.old ≤ S.faults source.new) }
+    {
+        if self.failed {
+            return Ok(LineAnswer::ReadFault);
+        }
+        if !self.is_within() {
+            return Ok(LineAnswer::InputOver);
+        }
+        if self.ended {
+            return self.last();
+        }
+        loop {
+            if let Some(line) = self.cut()? {
+                return Ok(LineAnswer::Line(line));
+            }
+            match self.read_more(source)? {
+                Turn::More => {}
+                Turn::End => return self.last(),
+                Turn::Failed => return Ok(LineAnswer::ReadFault),
+                Turn::Over => return Ok(LineAnswer::InputOver),
+            }
+        }
+    }
+}
+
+/// How many bytes a read asks for where so many are allowed: none beyond them, but one where none is allowed.
+fn read_size(allowed: u64) -> usize
+    ensures some { 0 < result }
+    ensures room { result ≤ 65536 }
+    ensures within { result ≤ max 1 allowed }
+{
+    if allowed == 0 {
+        1
+    } else if allowed < ROOM as u64 {
+        allowed as usize
+    } else {
+        ROOM
+    }
+}
+
+/// Reads into the front of the room.
+fn read_block<S: Source>(source: &mut S, room: &mut [u8], size: usize) -> ReadAnswer
+    requires { size ≤ length room.old }
+    ensures bytes { Reads (S.left source.old) (S.left source.new) size result room.new }
+    ensures cause { ReadCause (S.faults source.old) (S.faults source.new) result }
+{
+    source.read(&mut room[..size])
+}
