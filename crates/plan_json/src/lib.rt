@@ -1,0 +1,8 @@
+// JSON documents: objects, lists, their members, moments, and the writer.
+#![tactic(auto)]
+
+mod fault;
+mod member;
+
+pub use fault::JsonFault;
+pub use member::Member;
