@@ -3,6 +3,7 @@
 
 mod fault;
 mod member;
+mod moment;
 
 pub use fault::JsonFault;
 pub use member::Member;
