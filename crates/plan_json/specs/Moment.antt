@@ -1,9 +1,16 @@
 -- Which texts are moments, and which second each names.
-use Rattle.std.specs.Prelude.{ℕ, ◌+◌, ◌-◌, ◌*◌, ◌==◌, List, [], ◌∷◌, Bool, ◌&&◌, ◌||◌, nat_le, nat_lt, if◌then◌else◌, length, drop, slice_index, take_while, bytes_eq, codes, pos, unsigned_abs, Option, Some, None, option_map, option_and_then}
+use Rattle.std.specs.Prelude.{ℕ, ◌+◌, ◌-◌, ◌*◌, ◌==◌, List, [], ◌∷◌, Bool, ◌&&◌, ◌||◌, nat_le, nat_lt, if◌then◌else◌, length, drop, slice_index, take_while, bytes_eq, codes, pos, unsigned_abs, Option, Some, None, option_map, option_and_then, ok_or, Result, Err}
 use Rattle.std.specs.Char.{is_ascii_digit}
 use Rattle.std.specs.Int.{is_in_range}
 use Rattle.std.specs.List.{list_all}
 use Rattle.jiff_core.specs.Calendar.{days_in_month, days_from_civil}
+use Rattle.serde_json.specs.Data.{Data, null, boolean, number, string, array, object}
+use Rattle.plan_base.specs.declared.number.Sec.{Sec}
+use Rattle.plan_json.specs.declared.member.Member.{Member}
+use Rattle.plan_json.specs.declared.fault.JsonFault.{JsonFault}
+use Rattle.plan_json.specs.declared.fault.JsonFault.TheVariants.{WrongKind, BadMoment}
+use Rattle.plan_json.specs.Reading.{result_map}
+use Rattle.plan_json.specs.Whole.{whole_number}
 
 -- the last second of the year 9999
 abbrev pub last_moment : ℕ
@@ -68,3 +75,16 @@ second_of s =
     (λ day. option_map (λ second. 86_400 * day + second) (second_of_day (two_digits s 11) (two_digits s 14) (two_digits s 17)))
     (day_number (100 * two_digits s 0 + two_digits s 2) (two_digits s 5) (two_digits s 8))
     else None
+
+-- the moment that is that many seconds after 1970-01-01T00:00:00Z
+abbrev pub moment_at : ℕ → Sec
+moment_at second = record { 0 = second }
+
+-- the moment that a value is: a whole number of seconds up to the last one of the year 9999, or a text that names one
+abbrev pub moment_in : Member → Data → Result Sec JsonFault
+moment_in m null = Err (WrongKind m)
+moment_in m (boolean b) = Err (WrongKind m)
+moment_in m (number n) = result_map (λ z. moment_at (unsigned_abs z)) (whole_number m (pos 0) (pos last_moment) n)
+moment_in m (string s) = ok_or (option_map moment_at (second_of s)) (BadMoment m)
+moment_in m (array ds) = Err (WrongKind m)
+moment_in m (object ms) = Err (WrongKind m)

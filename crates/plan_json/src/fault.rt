@@ -1,7 +1,7 @@
 // Why a document isn't what was asked for.
 
 use crate::member::Member;
-use std::alloc::AllocError;
+use std::alloc::{AllocError, AllocFailed};
 use thiserror::Error;
 
 /// Why a document, or a member of it, isn't what was asked for.
@@ -40,6 +40,17 @@ impl From<AllocError> for JsonFault {
     ghost from_gives = { λ _ fault. fault ≡ NoMemory };
 
     fn from(_refused: AllocError) -> JsonFault {
+        JsonFault::NoMemory
+    }
+}
+
+impl<T: Drop> From<AllocFailed<T>> for JsonFault {
+    ghost use Rattle.std.specs.Prelude.{◌≡◌};
+    ghost use Rattle.plan_json.specs.declared.fault.JsonFault.TheVariants.{NoMemory};
+
+    ghost from_gives = { λ _ fault. fault ≡ NoMemory };
+
+    fn from(_refused: AllocFailed<T>) -> JsonFault {
         JsonFault::NoMemory
     }
 }

@@ -4,6 +4,7 @@
 mod fault;
 mod member;
 mod moment;
+mod value;
 
 pub use fault::JsonFault;
 pub use member::Member;
