@@ -21,10 +21,10 @@ epoch_is_civil = omega (arith, signed_arith)
 count_1970 : (m d : ℕ) → 1 ≤ m → 1 ≤ d → 4_371_953 ≤ day_count (pos 1970) m d
 count_1970 m d month day =
     elim (cases_lt 1 m) [
-        inl later ↦ omega (arith, day_count-epoch, day_count-lt_month (pos 1970) 1 1 m d epoch_is_civil day later)
+      | inl later ↦ omega (arith, day_count-epoch, day_count-lt_month (pos 1970) 1 1 m d epoch_is_civil day later)
       | inr first ↦
-        let is_first : m ≡ 1 = omega arith in
-        rw is_first (omega (arith, day_count-epoch, day_count-day (pos 1970) 1 1 d (omega arith) day))
+          let is_first : m ≡ 1 = omega arith in
+          rw is_first (omega (arith, day_count-epoch, day_count-day (pos 1970) 1 1 d (omega arith) day))
     ]
 
 -- no day of the years from 1970 on comes before 1970-01-01

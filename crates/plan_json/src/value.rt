@@ -1,6 +1,6 @@
 // What one JSON value is read as. A fault names the member that it was read by.
 
-ghost use Rattle.std.specs.Prelude.{◌≡◌, map, option_map, IfOk, IfErr, Ok, Err, ◌≢◌};
+ghost use Rattle.std.specs.Prelude.{◌≡◌, map, option_map, IfOk, IfErr, Ok, Err, ◌≢◌, ◌≤◌, length};
 ghost use Rattle.serde_json.specs.View.{view, members_view};
 ghost use Rattle.serde_json.specs.Data.{Data};
 ghost use Rattle.plan_json.specs.declared.fault.JsonFault.TheVariants.{NoMemory};
@@ -8,7 +8,7 @@ ghost use Rattle.plan_json.specs.Reading.{result_map, read_each};
 ghost use Rattle.plan_json.specs.Whole.{whole_in};
 ghost use Rattle.plan_json.specs.Text.{text_in};
 ghost use Rattle.plan_json.specs.Moment.{moment_in};
-ghost use Rattle.plan_json.specs.List.{elements_in};
+ghost use Rattle.plan_json.specs.List.{elements_in, list_in};
 ghost use Rattle.plan_json.specs.Span.{span_between, span_in};
 ghost use Rattle.plan_json.specs.Object.{object_in};
 
@@ -81,6 +81,25 @@ pub(crate) fn elements_in(value: &Value, member: Member) -> Result<&[Value], Jso
     match value.as_array() {
         Some(items) => Ok(items.as_slice()),
         None => Err(JsonFault::WrongKind { member }),
+    }
+}
+
+/// The elements of the list, if there are `least` to `most`.
+pub(crate) fn counted(
+    value: &Value,
+    member: Member,
+    least: u32,
+    most: u32,
+) -> Result<&[Value], JsonFault>
+    ensures value { result_map (λ items. map view items.now) result
+        ≡ list_in member least most (view value.now) }
+    ensures few { IfOk result (λ items. length items.now ≤ most) }
+{
+    let items = elements_in(value, member)?;
+    if least as usize <= items.len() && items.len() <= most as usize {
+        Ok(items)
+    } else {
+        Err(JsonFault::OutOfRange { member })
     }
 }
 
