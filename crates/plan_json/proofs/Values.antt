@@ -1,5 +1,5 @@
 -- What values are read as.
-use Rattle.std.proofs.Common.{◌≡◌, ℕ, Bool, true, false, cond, Some, IsUtf8, ok_or, List, [], ◌∷◌, map, Option, None, Result, Ok, Err, refl, ap, pos, unsigned_abs, drop}
+use Rattle.std.proofs.Common.{◌≡◌, ℕ, Bool, true, false, cond, Some, IsUtf8, ok_or, List, [], ◌∷◌, None, Result, Ok, Err, IfOk, refl, ap, pos, unsigned_abs}
 use Rattle.std.specs.Str.{is_utf8}
 use Rattle.std.proofs.lemmas.Str.{is_utf8-from_IsUtf8, IsUtf8-from_is_utf8}
 use Rattle.serde_json.specs.Read.{read}
@@ -7,10 +7,9 @@ use Rattle.serde_json.specs.Data.{Data, null, boolean, number, string, array, ob
 use Rattle.serde_json.specs.Find.{as_str}
 use Rattle.serde_json.specs.View.{items_of}
 use Rattle.plan_json.specs.declared.member.Member.{Member}
-use Rattle.plan_json.specs.declared.fault.JsonFault.{JsonFault}
 use Rattle.plan_json.specs.declared.fault.JsonFault.TheVariants.{NotJson}
 use Rattle.plan_json.specs.Object.{data_of}
-use Rattle.plan_json.specs.Reading.{result_map, result_and_then, read_each}
+use Rattle.plan_json.specs.Reading.{result_map}
 use Rattle.plan_json.specs.Whole.{whole_in}
 use Rattle.plan_json.specs.Moment.{last_moment, moment_at, moment_in}
 use Rattle.plan_json.specs.List.{elements}
@@ -40,3 +39,8 @@ no_data_by false bytes e h = refl
 -- bytes that are no text, or have no reading
 pub no_data : (bytes : List ℕ) → (IsUtf8 bytes → read bytes ≡ None) → data_of bytes ≡ Err NotJson
 no_data bytes h = no_data_by (is_utf8 bytes) bytes refl h
+
+-- two facts of a value give a third
+pub both : {T E : Type 0} (P Q R : T → Type 0) → ((x : T) → P x → Q x → R x) → (r : Result T E) → IfOk r P → IfOk r Q → IfOk r R
+both P Q R f (Ok x) p q = f x p q
+both P Q R f (Err e) p q = tt

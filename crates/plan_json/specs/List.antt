@@ -1,5 +1,5 @@
 -- Which JSON values are lists, and their elements.
-use Rattle.std.specs.Prelude.{ℕ, ◌==◌, List, [], ◌∷◌, length, nat_le, ◌&&◌, if◌then◌else◌, Option, option_map, ok_or, Result, Ok, Err}
+use Rattle.std.specs.Prelude.{ℕ, ◌==◌, List, [], ◌∷◌, length, nat_le, ◌&&◌, if◌then◌else◌, option_map, ok_or, Result, Ok, Err}
 use Rattle.serde_json.specs.Data.{Data, Items, no_items, item}
 use Rattle.serde_json.specs.Find.{as_array}
 use Rattle.plan_json.specs.declared.member.Member.{Member}

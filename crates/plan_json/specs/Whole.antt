@@ -1,5 +1,5 @@
 -- Which JSON values are whole numbers of a range.
-use Rattle.std.specs.Prelude.{ℕ, ℤ, pos, int_le, ◌&&◌, if◌then◌else◌, Result, Ok, Err}
+use Rattle.std.specs.Prelude.{ℤ, pos, int_le, ◌&&◌, if◌then◌else◌, Result, Ok, Err}
 use Rattle.serde_json.specs.Data.{Num, unsigned, negative, float, Data, null, boolean, number, string, array, object}
 use Rattle.plan_json.specs.declared.member.Member.{Member}
 use Rattle.plan_json.specs.declared.fault.JsonFault.{JsonFault}

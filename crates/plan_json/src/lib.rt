@@ -6,6 +6,8 @@ mod fault;
 mod list;
 mod member;
 mod moment;
+#[cfg(test)]
+mod tests;
 mod value;
 mod writer;
 

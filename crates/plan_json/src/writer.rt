@@ -1,10 +1,12 @@
 // Documents as text.
 
-ghost use Rattle.std.specs.Prelude.{◌≡◌, ◌≤◌, false, IfOk, Some};
+ghost use Rattle.std.specs.Prelude.{◌≡◌, ◌≤◌, false, IfOk, Ok};
 ghost use Rattle.serde_json.specs.Data.{depth};
-ghost use Rattle.serde_json.specs.Read.{read, max_depth};
+ghost use Rattle.serde_json.specs.Read.{max_depth};
 ghost use Rattle.serde_json.specs.View.{view};
 ghost use Rattle.serde_json.specs.Written.{compact_text, has_float, IsInOrder};
+ghost use Rattle.plan_json.specs.Object.{data_of};
+ghost use Rattle.plan_json.specs.Order.{IsInByteOrder};
 
 use serde_json::Value;
 use std::alloc::{AllocError, Global};
@@ -18,9 +20,13 @@ impl Writer {
     pub fn text(alloc: Global, value: &Value) -> Result<Vec<u8>, AllocError>
         ensures text { IfOk result
             (λ bytes. has_float (view value.now) ≡ false → bytes.items ≡ compact_text (view value.now)) }
-        ensures order { IfOk result (λ bytes. IsInOrder bytes.items (view value.now)) }
+        ensures in_order { IfOk result (λ bytes. IsInOrder bytes.items (view value.now)) }
+
+        // A reader takes no value that nests deeper than 127 levels.
+        ensures byte_order { IfOk result
+            (λ _. depth (view value.now) ≤ max_depth → IsInByteOrder (view value.now)) }
         ensures reads_back { IfOk result
-            (λ bytes. depth (view value.now) ≤ max_depth → read bytes.items ≡ Some (view value.now)) }
+            (λ bytes. depth (view value.now) ≤ max_depth → data_of bytes.items ≡ Ok (view value.now)) }
     {
         value.to_vec(alloc)
     }
