@@ -1,5 +1,6 @@
 // What Rust's serde_json answers on the bytes that crates/plan_json tries, one line a case: `cargo run`.
-// And how fast it reads lines: `cargo run --release -- time FILE`, in MB/s, an object a line.
+// With a file's name it reads the file's lines nine times, and prints for each time how many are objects, and how many
+// microseconds it took: bench/json calls it so.
 
 use serde_json::Value;
 use std::time::Instant;
@@ -66,31 +67,22 @@ fn cases() -> Vec<Vec<u8>> {
 
 fn time(path: &str) {
     let bytes = std::fs::read(path).unwrap();
-    let mut best = f64::MAX;
-    let mut read = 0;
     for _ in 0..9 {
         let start = Instant::now();
-        read = bytes
+        let count = bytes
             .split(|byte| *byte == b'\n')
-            .filter(|line| !line.is_empty())
             .filter(|line| matches!(serde_json::from_slice(line), Ok(Value::Object(_))))
             .count();
-        best = best.min(start.elapsed().as_secs_f64());
+        println!("{count} {}", start.elapsed().as_micros());
     }
-    let rate = bytes.len() as f64 / best / 1e6;
-    println!("{read} objects, {rate:.1} MB/s");
 }
 
 fn main() {
-    let words: Vec<String> = std::env::args().skip(1).collect();
-    match words.iter().map(String::as_str).collect::<Vec<_>>().as_slice() {
-        [] => {
-            for case in cases() {
-                let shown = String::from_utf8_lossy(&case[..case.len().min(60)]).escape_debug().to_string();
-                println!("{shown}  ->  {}", answer(&case));
-            }
-        }
-        ["time", path] => time(path),
-        _ => std::process::exit(1),
+    if let Some(path) = std::env::args().nth(1) {
+        return time(&path);
+    }
+    for case in cases() {
+        let shown = String::from_utf8_lossy(&case[..case.len().min(60)]).escape_debug().to_string();
+        println!("{shown}  ->  {}", answer(&case));
     }
 }
