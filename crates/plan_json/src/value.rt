@@ -1,0 +1,149 @@
+// What one JSON value is read as. A fault names the member that it was read by.
+
+ghost use Rattle.std.specs.Prelude.{◌≡◌, map, option_map, IfOk, IfErr, Ok, Err, ◌≢◌, ◌≤◌, length};
+ghost use Rattle.serde_json.specs.View.{view, members_view};
+ghost use Rattle.serde_json.specs.Data.{Data};
+ghost use Rattle.plan_json.specs.declared.fault.JsonFault.TheVariants.{NoMemory};
+ghost use Rattle.plan_json.specs.Reading.{result_map, read_each};
+ghost use Rattle.plan_json.specs.Whole.{whole_in};
+ghost use Rattle.plan_json.specs.Text.{text_in};
+ghost use Rattle.plan_json.specs.Moment.{moment_in};
+ghost use Rattle.plan_json.specs.List.{elements_in, list_in};
+ghost use Rattle.plan_json.specs.Span.{span_between, span_in};
+ghost use Rattle.plan_json.specs.Object.{object_in};
+
+use crate::fault::JsonFault;
+use crate::member::Member;
+use crate::moment::second_of;
+use plan_base::{Name, Sec, Span};
+use serde_json::{Map, Value};
+use std::alloc::Global;
+
+/// The last second of the year 9999.
+const LAST_MOMENT: i64 = 253_402_300_799;
+
+/// The whole number from `least` to `most`.
+pub(crate) fn whole_in(
+    value: &Value,
+    member: Member,
+    least: i64,
+    most: i64,
+) -> Result<i64, JsonFault>
+    ensures { result ≡ whole_in member least most (view value.now) }
+{
+    let Some(number) = value.as_number() else {
+        return Err(JsonFault::WrongKind { member });
+    };
+    let Some(whole) = number.as_i128() else {
+        return Err(JsonFault::NotWhole { member });
+    };
+    if i128::from(least) <= whole && whole <= i128::from(most) {
+        Ok(whole as i64)
+    } else {
+        Err(JsonFault::OutOfRange { member })
+    }
+}
+
+/// The text of 1 to 128 bytes.
+pub(crate) fn text_in(alloc: Global, value: &Value, member: Member) -> Result<Name, JsonFault>
+    ensures value { IfOk result (λ name. text_in member (view value.now) ≡ Ok name) }
+    ensures fault { IfErr result (λ e. e ≢ NoMemory → text_in member (view value.now) ≡ Err e) }
+{
+    let Some(text) = value.as_str() else {
+        return Err(JsonFault::WrongKind { member });
+    };
+    if text.is_empty() {
+        return Err(JsonFault::OutOfRange { member });
+    }
+    Name::new(alloc, text)?.ok_or(JsonFault::OutOfRange { member })
+}
+
+/// The moment.
+#[tactic(auto, using(crate::proofs::Values::moment_of_number))]
+pub(crate) fn moment_in(value: &Value, member: Member) -> Result<Sec, JsonFault>
+    ensures { result ≡ moment_in member (view value.now) }
+{
+    if let Some(text) = value.as_str() {
+        return match second_of(text.as_bytes()) {
+            Some(second) => Ok(Sec(second)),
+            None => Err(JsonFault::BadMoment { member }),
+        };
+    }
+    let second = whole_in(value, member, 0, LAST_MOMENT)?;
+    Ok(Sec(second as u64))
+}
+
+/// The elements of the list.
+#[tactic(auto, using(crate::proofs::Values::elements_of_items))]
+pub(crate) fn elements_in(value: &Value, member: Member) -> Result<&[Value], JsonFault>
+    ensures { result_map (λ items. map view items.now) result ≡ elements_in member (view value.now) }
+{
+    match value.as_array() {
+        Some(items) => Ok(items.as_slice()),
+        None => Err(JsonFault::WrongKind { member }),
+    }
+}
+
+/// The elements of the list, if there are `least` to `most`.
+pub(crate) fn counted(
+    value: &Value,
+    member: Member,
+    least: u32,
+    most: u32,
+) -> Result<&[Value], JsonFault>
+    ensures value { result_map (λ items. map view items.now) result
+        ≡ list_in member least most (view value.now) }
+    ensures few { IfOk result (λ items. length items.now ≤ most) }
+{
+    let items = elements_in(value, member)?;
+    if least as usize <= items.len() && items.len() <= most as usize {
+        Ok(items)
+    } else {
+        Err(JsonFault::OutOfRange { member })
+    }
+}
+
+/// The span of two moments, of which the first comes before the second.
+pub(crate) fn span_in(value: &Value, member: Member) -> Result<Span, JsonFault>
+    ensures { result ≡ span_in member (view value.now) }
+{
+    let [from, to] = elements_in(value, member)? else {
+        return Err(JsonFault::WrongKind { member });
+    };
+    let from = moment_in(from, member)?;
+    let to = moment_in(to, member)?;
+    if from < to {
+        Ok(Span { from, to })
+    } else {
+        Err(JsonFault::OutOfRange { member })
+    }
+}
+
+/// The spans that all values are.
+pub(crate) fn read_spans(
+    alloc: Global,
+    values: &[Value],
+    member: Member,
+) -> Result<Vec<Span>, JsonFault>
+    ensures value { IfOk result
+        (λ spans. read_each (span_in member) (map view values.now) ≡ Ok spans.items) }
+    ensures fault { IfErr result
+        (λ e. e ≢ NoMemory → read_each (span_in member) (map view values.now) ≡ Err e) }
+{
+    let mut spans = Vec::with_capacity(alloc, values.len())?;
+    for value in values {
+        spans.push(span_in(value, member)?)?;
+    }
+    Ok(spans)
+}
+
+/// The members of the object.
+pub(crate) fn object_in(value: &Value, member: Member) -> Result<&Map<String, Value>, JsonFault>
+    ensures { result_map (λ found. members_view found.now.entries) result
+        ≡ object_in member (view value.now) }
+{
+    match value.as_object() {
+        Some(members) => Ok(members),
+        None => Err(JsonFault::WrongKind { member }),
+    }
+}
