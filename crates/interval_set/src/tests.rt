@@ -1,0 +1,1 @@
+// Sets of seconds by tables of spans.
