@@ -1,5 +1,5 @@
 -- What a set has after a span is added at its end.
-use Rattle.std.proofs.Common.{◌≡◌, ℕ, ◌+◌, ◌<◌, ◌≤◌, max, Bool, true, false, List, [], ◌∷◌, ◌++◌, length, get_or, set, sym, ap, ◌∙◌, inl, inr, arith}
+use Rattle.std.proofs.Common.{◌≡◌, ℕ, ◌+◌, ◌<◌, ◌≤◌, max, List, [], ◌∷◌, ◌++◌, length, get_or, set, ap, ◌∙◌, inl, inr, arith}
 use Rattle.std.specs.Prelude.{◌||◌, All}
 use Rattle.std.proofs.lemmas.Bool.{cases_lt}
 use Rattle.std.proofs.lemmas.Bool.Decides.{nat_tests}
@@ -9,7 +9,8 @@ use Rattle.std.proofs.lemmas.List.Elements.{All-set, All-push}
 use Rattle.std.proofs.lemmas.List.Quantifiers.{all_pairs_push}
 use Rattle.std.proofs.lemmas.List.Folds.{list_any-append}
 use Rattle.plan_base.specs.declared.span.Span.{Span}
-use Rattle.interval_set.specs.Spans.{span_has, has, IsSortedApart, BeginBy, Adds}
+use Rattle.interval_set.specs.Spans.{span_has, IsSortedApart}
+use Rattle.interval_set.specs.Steps.{BeginBy, Adds}
 use Rattle.interval_set.proofs.Seconds.{IsAt, at_is, has-set, has_at, nonempty_at}
 
 -- an empty span adds nothing

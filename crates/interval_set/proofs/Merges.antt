@@ -1,11 +1,12 @@
 -- What is done of a merge, and that its next step keeps it.
-use Rattle.std.proofs.Common.{◌≡◌, ℕ, ◌+◌, ◌<◌, ◌≤◌, max, Bool, true, false, not, List, length, get_or, drop, length-drop, refl, sym, ap, ◌∙◌, inl, inr, arith}
-use Rattle.std.specs.Prelude.{◌&&◌, ◌||◌, nat_le, nat_lt, All}
+use Rattle.std.proofs.Common.{◌≡◌, ℕ, ◌+◌, ◌<◌, ◌≤◌, max, Bool, false, not, List, length, get_or, drop, length-drop, ap, ◌∙◌, inl, inr, arith}
+use Rattle.std.specs.Prelude.{◌&&◌, ◌||◌, nat_le, All}
 use Rattle.std.proofs.lemmas.Bool.{cases_lt}
 use Rattle.std.proofs.lemmas.Bool.Decides.{nat_tests}
 use Rattle.plan_base.specs.declared.number.Sec.{Sec}
 use Rattle.plan_base.specs.declared.span.Span.{Span}
-use Rattle.interval_set.specs.Spans.{span_has, has, IsSortedApart, BeginBy, CanAdd, Rise, Adds, IsCommon}
+use Rattle.interval_set.specs.Spans.{span_has, has, IsSortedApart}
+use Rattle.interval_set.specs.Steps.{BeginBy, CanAdd, Rise, Adds, IsCommon}
 use Rattle.interval_set.proofs.Seconds.{has_before, IsAt, at_place, drop_at, rise, nonempty_at, from_on, after, next_is, rest_is, begin_later}
 
 -- the spans up to place i have been added

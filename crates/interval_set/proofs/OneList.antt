@@ -1,9 +1,9 @@
 -- Why a set of seconds has one list.
-use Rattle.std.proofs.Common.{◌≡◌, ℕ, ◌<◌, ◌≤◌, Bool, true, false, List, [], ◌∷◌, refl, sym, ap, ◌∙◌, inl, inr, arith}
+use Rattle.std.proofs.Common.{◌≡◌, ℕ, ◌≤◌, false, List, [], ◌∷◌, refl, sym, ap, ◌∙◌, inl, inr, arith}
 use Rattle.std.proofs.lemmas.Bool.{cases_lt}
 use Rattle.std.proofs.lemmas.Bool.Decides.{nat_tests}
 use Rattle.plan_base.specs.declared.span.Span.{Span}
-use Rattle.interval_set.specs.Spans.{span_has, has, IsSortedApart}
+use Rattle.interval_set.specs.Spans.{has}
 use Rattle.interval_set.specs.Laws.{OneList, UnionCommutes, MeetCommutes, PartIsRestored}
 use Rattle.interval_set.proofs.Seconds.{IsSplit, split, has_before}
 

@@ -1,13 +1,14 @@
 -- What the look-ups find in a set.
-use Rattle.std.proofs.Common.{◌≡◌, ℕ, ◌+◌, ◌-◌, ◌<◌, ◌≤◌, max, Bool, true, false, List, length, get_or, sym, ap, ◌∙◌, inl, inr, arith}
-use Rattle.std.specs.Prelude.{◌||◌, nat_le, All, IsTrue}
+use Rattle.std.proofs.Common.{◌≡◌, ℕ, ◌-◌, ◌<◌, ◌≤◌, max, Bool, true, false, List, length, get_or, ap, inl, inr, arith}
+use Rattle.std.specs.Prelude.{nat_le, IsTrue}
 use Rattle.std.specs.List.Sorted.{IsPartitionPoint, IsNonDecreasingBy}
 use Rattle.std.specs.Ordering.{is_le, nat_cmp}
 use Rattle.std.proofs.lemmas.Bool.{cases_lt}
 use Rattle.std.proofs.lemmas.Bool.Decides.{nat_tests}
 use Rattle.plan_base.specs.declared.span.Span.{Span}
-use Rattle.interval_set.specs.Spans.{span_has, has, IsSortedApart, IsBegunBy, IsEndedBy, HasAll, HasNone, IsFirstIn}
-use Rattle.interval_set.proofs.Seconds.{IsAt, at_is, none_between, has_at, nonempty_at, at_place}
+use Rattle.interval_set.specs.Spans.{span_has, has, IsSortedApart, HasAll, HasNone, IsFirstIn}
+use Rattle.interval_set.specs.Steps.{IsBegunBy, IsEndedBy}
+use Rattle.interval_set.proofs.Seconds.{IsAt, at_is, none_between, has_at, nonempty_at}
 
 -- what a binary search answers, by what has begun or by what has ended
 pub begun_by : (spans : List Span) (x i : ℕ) → i ≤ length spans → IsPartitionPoint (λ s. nat_le s.from.0 x ≡ true) (λ s. nat_le s.from.0 x ≡ false) spans i → IsBegunBy spans x i

@@ -1,6 +1,6 @@
 -- What lists of spans have, by their first spans and their last.
-use Rattle.std.proofs.Common.{◌≡◌, ℕ, zero, suc, ◌+◌, ◌-◌, ◌<◌, ◌≤◌, Bool, true, false, List, [], ◌∷◌, ◌++◌, length, get_or, set, drop, refl, sym, ap, ◌∙◌, subst, inl, inr, length-drop, arith, rules}
-use Rattle.std.specs.Prelude.{◌||◌, All, AllPairs}
+use Rattle.std.proofs.Common.{◌≡◌, ℕ, zero, suc, ◌+◌, ◌<◌, ◌≤◌, Bool, true, false, List, [], ◌∷◌, length, get_or, set, drop, refl, sym, ap, ◌∙◌, subst, inl, inr, length-drop, arith}
+use Rattle.std.specs.Prelude.{◌||◌, All}
 use Rattle.std.specs.Ordering.{is_le, is_lt, is_ge, nat_cmp}
 use Rattle.std.proofs.lemmas.Bool.{cases_lt}
 use Rattle.std.proofs.lemmas.Bool.Decides.{nat_tests}
@@ -8,7 +8,8 @@ use Rattle.std.proofs.lemmas.List.Elements.{All-head, All-tail}
 use Rattle.std.proofs.lemmas.List.{drop_more, get_or-drop, get_or_default}
 use Rattle.std.proofs.lemmas.List.Folds.{list_any_none, list_any_at}
 use Rattle.plan_base.specs.declared.span.Span.{Span}
-use Rattle.interval_set.specs.Spans.{span_has, has, IsSortedApart, BeginBy, Rise}
+use Rattle.interval_set.specs.Spans.{span_has, has, IsSortedApart}
+use Rattle.interval_set.specs.Steps.{BeginBy, Rise}
 
 -- what is known of the first span and of those after it
 pub record IsSplit (s : Span) (later : List Span) : Type 0 where

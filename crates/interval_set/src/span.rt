@@ -1,7 +1,7 @@
 // What single spans have in common, and what lies between them.
 
 ghost use Rattle.std.specs.Prelude.{◌≡◌, ◌≤◌, ◌<◌, length, HoldsAt};
-ghost use Rattle.interval_set.specs.Spans.{IsCommon};
+ghost use Rattle.interval_set.specs.Steps.{IsCommon};
 
 use plan_base::{Sec, Span};
 

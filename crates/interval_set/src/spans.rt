@@ -1,7 +1,8 @@
 // A set of seconds as its list of spans.
 
 ghost use Rattle.std.specs.Prelude.{◌≡◌, ℕ, ◌≤◌, ◌==◌, ◌↔◌, List, [], length, All, IfOk, OnOk, MatchOption, IsTrue};
-ghost use Rattle.interval_set.specs.Spans.{has, span_has, IsSortedApart, IsSetOf, IsUnion, IsMeet, IsDifference, HasAll, HasNone, IsFirstIn, IsBegunBy, IsEndedBy, BeginBy, CanAdd, Rise, Adds};
+ghost use Rattle.interval_set.specs.Spans.{has, span_has, IsSortedApart, IsSetOf, IsUnion, IsMeet, IsDifference, HasAll, HasNone, IsFirstIn};
+ghost use Rattle.interval_set.specs.Steps.{IsBegunBy, IsEndedBy, BeginBy, CanAdd, Rise, Adds};
 
 use crate::span::{common, gap_before};
 use plan_base::{ListOf, Sec, Span};
@@ -53,6 +54,37 @@ impl Spans {
         self.items.as_slice()
     }
 
+    /// The list of the spans, sorted with gaps between them, as a list of its own.
+    pub fn into_list(self) -> ListOf<Span>
+        ensures { result ≡ self }
+    {
+        let Spans { items } = self;
+        ListOf::from_vec(items)
+    }
+
+    /// How many spans the list has.
+    pub fn len(&self) -> usize
+        ensures { result ≡ length self.now }
+    {
+        self.items.len()
+    }
+
+    /// Whether there is no second.
+    pub fn is_empty(&self) -> bool
+        ensures { IsTrue result ↔ (self.now ≡ []) }
+    {
+        self.items.is_empty()
+    }
+
+    /// The same seconds once more. Fails only for want of memory.
+    pub fn copy(&self, alloc: Global) -> Result<Self, AllocError>
+        ensures { IfOk result (λ copy. copy ≡ self.now) }
+    {
+        Ok(Spans {
+            items: Vec::from_slice(alloc, self.items.as_slice())?,
+        })
+    }
+
     /// The seconds of either set. Fails only for want of memory.
     pub fn union(&self, alloc: Global, other: &Spans) -> Result<Self, AllocError>
         ensures { IfOk result (IsUnion self.now other.now) }
@@ -85,6 +117,7 @@ impl Spans {
         let mut meet = Spans::empty(alloc);
         while i < mine.len() && j < theirs.len() {
             meet.add(common(mine[i], theirs[j]))?;
+            // The span that ends first has nothing in common with later ones.
             if mine[i].to <= theirs[j].to {
                 i += 1;
             } else {
@@ -100,6 +133,7 @@ impl Spans {
     {
         let (mine, theirs) = (self.list(), other.list());
         let (mut i, mut j) = (0, 0);
+        // What stays are the seconds that a span has in common with a gap of the other set.
         let mut gap_from = Sec(0);
         let mut difference = Spans::empty(alloc);
         while i < mine.len() {
@@ -119,7 +153,7 @@ impl Spans {
     pub fn covers(&self, span: Span) -> bool
         ensures { IsTrue result ↔ HasAll self.now span }
     {
-        if span.from >= span.to {
+        if span.to <= span.from {
             return true;
         }
         let begun = self.count_begun(span.from);

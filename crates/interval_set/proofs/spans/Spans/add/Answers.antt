@@ -1,9 +1,9 @@
-use Rattle.std.proofs.Common.{◌≡◌, ◌+◌, ◌-◌, ◌<◌, ◌≤◌, ◌∷◌, [], ◌++◌, max, length, refl, sym, ap, ◌∙◌, arith}
+use Rattle.std.proofs.Common.{◌≡◌, ◌-◌, ◌<◌, ◌≤◌, ◌∷◌, [], ◌++◌, max, length, refl, sym, ap, ◌∙◌, arith}
 use Rattle.std.specs.Prelude.{All, List}
 use Rattle.std.proofs.lemmas.Bool.Decides.{nat_tests}
 use Rattle.plan_base.specs.declared.number.Sec.{Sec}
 use Rattle.plan_base.specs.declared.span.Span.{Span}
-use Rattle.interval_set.specs.Spans.{BeginBy, Adds}
+use Rattle.interval_set.specs.Steps.{BeginBy, Adds}
 use Rattle.interval_set.proofs.Seconds.{IsAt, at_is, le_if_true, gt_if_not_le, lt_if_not_ge}
 use Rattle.interval_set.proofs.Additions.{all_ended, adds_pushed, adds_joined}
 use Rattle.interval_set.proofs.spans.Spans.add.Goals as goal

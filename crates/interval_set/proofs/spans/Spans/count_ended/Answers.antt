@@ -1,5 +1,5 @@
-use Rattle.std.proofs.Common.{◌≡◌, ◌∙◌, rules}
-use Rattle.std.specs.Prelude.{nat_le, List}
+use Rattle.std.proofs.Common.{rules}
+use Rattle.std.specs.Prelude.{nat_le}
 use Rattle.std.proofs.lemmas.List.Sorted.{IsPartitionPoint-from_clause, IsPartitionedBy-leb}
 use Rattle.plan_base.specs.declared.span.Span.{Span}
 use Rattle.interval_set.proofs.Searches.{ends_rise}

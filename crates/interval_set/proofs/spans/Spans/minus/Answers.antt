@@ -1,4 +1,4 @@
-use Rattle.std.proofs.Common.{ℕ, ◌+◌, ◌<◌, get_or, subst, sym, ap, arith}
+use Rattle.std.proofs.Common.{◌+◌, ◌<◌, get_or, subst, sym, ap, arith}
 use Rattle.plan_base.specs.declared.number.Sec.{Sec}
 use Rattle.interval_set.proofs.Seconds.{nothing, at_place, le_if_true, gt_if_not_le}
 use Rattle.interval_set.proofs.Merges.{IsDifferenceSoFar, gap_can_add, gap_mine, gap_theirs, gap_ends, holes_later}

@@ -1,6 +1,6 @@
 use Rattle.std.proofs.lemmas.List.{take_rest}
 use Rattle.std.proofs.lemmas.List.Sorted.{IsNonDecreasingBy-drop}
-use Rattle.interval_set.specs.Spans.{BeginBy}
+use Rattle.interval_set.specs.Steps.{BeginBy}
 use Rattle.interval_set.proofs.Seconds.{nothing, at_place, next_is, rise, le_if_true, ge_if_not_le}
 use Rattle.interval_set.proofs.Merges.{union_mine, union_theirs}
 use Rattle.interval_set.proofs.spans.Spans.union.Goals as goal

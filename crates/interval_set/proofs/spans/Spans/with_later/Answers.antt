@@ -1,4 +1,4 @@
-use Rattle.interval_set.specs.Spans.{BeginBy}
+use Rattle.interval_set.specs.Steps.{BeginBy}
 use Rattle.interval_set.proofs.Seconds.{nothing, at_place, next_is}
 use Rattle.interval_set.proofs.Merges.{added_next}
 use Rattle.interval_set.proofs.spans.Spans.with_later.Goals as goal
