@@ -40,24 +40,24 @@ pub record IsUnionSoFar (mine theirs : List Span) (i j : ℕ) (done : List Span)
 -- the next span of mine is added where it begins no later than that of theirs
 pub union_mine : (mine theirs done new : List Span) (i j : ℕ) (a b : Span) → Rise mine → Rise theirs → IsAt mine i a → IsAt theirs j b
     → a.from.0 ≤ b.from.0 → IsUnionSoFar mine theirs i j done → Adds done a new → IsUnionSoFar mine theirs (i + 1) j new
-union_mine mine theirs done new i j a b rise_m rise_t at_m at_t le so_far adds = record {
-  seconds = λ x. so_far.seconds x ∙ rw (drop_at mine i a at_m, adds.seconds x) (grind arith);
+union_mine mine theirs done new i j a b rise_mine rise_theirs at_mine at_theirs le so_far adds = record {
+  seconds = λ x. so_far.seconds x ∙ rw (drop_at mine i a at_mine, adds.seconds x) (grind arith);
   sorted = adds.sorted;
-  place_mine = omega (arith, at_m.in_range);
+  place_mine = omega (arith, at_mine.in_range);
   place_theirs = so_far.place_theirs;
-  begin_mine = can_add_rest new mine i a rise_m at_m adds.begin;
-  begin_theirs = λ k d lt. begin_later new a.from.0 _ (omega (arith, from_on theirs j b rise_t at_t k d lt)) adds.begin;
+  begin_mine = can_add_rest new mine i a rise_mine at_mine adds.begin;
+  begin_theirs = λ k d lt. begin_later new a.from.0 _ (omega (arith, from_on theirs j b rise_theirs at_theirs k d lt)) adds.begin;
 }
 
 pub union_theirs : (mine theirs done new : List Span) (i j : ℕ) (a b : Span) → Rise mine → Rise theirs → IsAt mine i a → IsAt theirs j b
     → b.from.0 ≤ a.from.0 → IsUnionSoFar mine theirs i j done → Adds done b new → IsUnionSoFar mine theirs i (j + 1) new
-union_theirs mine theirs done new i j a b rise_m rise_t at_m at_t le so_far adds = record {
-  seconds = λ x. so_far.seconds x ∙ rw (drop_at theirs j b at_t, adds.seconds x) (grind arith);
+union_theirs mine theirs done new i j a b rise_mine rise_theirs at_mine at_theirs le so_far adds = record {
+  seconds = λ x. so_far.seconds x ∙ rw (drop_at theirs j b at_theirs, adds.seconds x) (grind arith);
   sorted = adds.sorted;
   place_mine = so_far.place_mine;
-  place_theirs = omega (arith, at_t.in_range);
-  begin_mine = λ k d lt. begin_later new b.from.0 _ (omega (arith, from_on mine i a rise_m at_m k d lt)) adds.begin;
-  begin_theirs = can_add_rest new theirs j b rise_t at_t adds.begin;
+  place_theirs = omega (arith, at_theirs.in_range);
+  begin_mine = λ k d lt. begin_later new b.from.0 _ (omega (arith, from_on mine i a rise_mine at_mine k d lt)) adds.begin;
+  begin_theirs = can_add_rest new theirs j b rise_theirs at_theirs adds.begin;
 }
 
 -- the common seconds of two lists, done up to places i and j
@@ -68,9 +68,9 @@ pub record IsMeetSoFar (mine theirs : List Span) (i j : ℕ) (done : List Span) 
 
 pub meet_can_add : (mine theirs done : List Span) (i j : ℕ) (a b both : Span) → IsAt mine i a → IsAt theirs j b
     → IsCommon a b both → IsMeetSoFar mine theirs i j done → BeginBy done both.from.0
-meet_can_add mine theirs done i j a b both at_m at_t common so_far =
-    let begin = next_is (λ s. All (λ t. BeginBy done (max s.from.0 t.from.0)) (drop j theirs)) mine i a at_m so_far.begin in
-    rw common.from (next_is (λ t. BeginBy done (max a.from.0 t.from.0)) theirs j b at_t begin)
+meet_can_add mine theirs done i j a b both at_mine at_theirs common so_far =
+    let begin = next_is (λ s. All (λ t. BeginBy done (max s.from.0 t.from.0)) (drop j theirs)) mine i a at_mine so_far.begin in
+    rw common.from (next_is (λ t. BeginBy done (max a.from.0 t.from.0)) theirs j b at_theirs begin)
 
 -- what is common with the span that ends first is common with the other span's
 common_first : (a b : Span) (x : ℕ) (later_a later_b : Bool) → a.to.0 ≤ b.to.0 → (x ≤ b.to.0 → later_b ≡ false)
@@ -93,41 +93,41 @@ none_within spans i s x sorted at within = has_before (drop (i + 1) spans) x (λ
 
 pub meet_mine : (mine theirs done new : List Span) (i j : ℕ) (a b both : Span) → IsSortedApart mine → IsSortedApart theirs → IsAt mine i a → IsAt theirs j b
     → a.to.0 ≤ b.to.0 → IsCommon a b both → IsMeetSoFar mine theirs i j done → Adds done both new → IsMeetSoFar mine theirs (i + 1) j new
-meet_mine mine theirs done new i j a b both sorted_m sorted_t at_m at_t le common so_far adds = record {
+meet_mine mine theirs done new i j a b both sorted_mine sorted_theirs at_mine at_theirs le common so_far adds = record {
   seconds = λ x. so_far.seconds x ∙ rw (
-    drop_at mine i a at_m,
-    drop_at theirs j b at_t,
+    drop_at mine i a at_mine,
+    drop_at theirs j b at_theirs,
     adds.seconds x,
     common.seconds x,
-    common_first a b x (has (drop (i + 1) mine) x) (has (drop (j + 1) theirs) x) le (none_within theirs j b x sorted_t at_t),
+    common_first a b x (has (drop (i + 1) mine) x) (has (drop (j + 1) theirs) x) le (none_within theirs j b x sorted_theirs at_theirs),
   ) (grind arith);
   sorted = adds.sorted;
-  begin = λ k d lt m e lt'. begin_later new both.from.0 _ (omega (
+  begin = λ k d lt m e other_lt. begin_later new both.from.0 _ (omega (
     arith,
     common.from,
-    after mine i a sorted_m at_m k d lt,
-    nonempty_at mine i a sorted_m at_m,
-    from_on theirs j b (rise theirs sorted_t) at_t m e lt',
+    after mine i a sorted_mine at_mine k d lt,
+    nonempty_at mine i a sorted_mine at_mine,
+    from_on theirs j b (rise theirs sorted_theirs) at_theirs m e other_lt,
   )) adds.begin;
 }
 
 pub meet_theirs : (mine theirs done new : List Span) (i j : ℕ) (a b both : Span) → IsSortedApart mine → IsSortedApart theirs → IsAt mine i a → IsAt theirs j b
     → b.to.0 ≤ a.to.0 → IsCommon a b both → IsMeetSoFar mine theirs i j done → Adds done both new → IsMeetSoFar mine theirs i (j + 1) new
-meet_theirs mine theirs done new i j a b both sorted_m sorted_t at_m at_t le common so_far adds = record {
+meet_theirs mine theirs done new i j a b both sorted_mine sorted_theirs at_mine at_theirs le common so_far adds = record {
   seconds = λ x. so_far.seconds x ∙ rw (
-    drop_at mine i a at_m,
-    drop_at theirs j b at_t,
+    drop_at mine i a at_mine,
+    drop_at theirs j b at_theirs,
     adds.seconds x,
     common.seconds x,
-    common_second a b x (has (drop (i + 1) mine) x) (has (drop (j + 1) theirs) x) le (none_within mine i a x sorted_m at_m),
+    common_second a b x (has (drop (i + 1) mine) x) (has (drop (j + 1) theirs) x) le (none_within mine i a x sorted_mine at_mine),
   ) (grind arith);
   sorted = adds.sorted;
-  begin = λ k d lt m e lt'. begin_later new both.from.0 _ (omega (
+  begin = λ k d lt m e other_lt. begin_later new both.from.0 _ (omega (
     arith,
     common.from,
-    after theirs j b sorted_t at_t m e lt',
-    nonempty_at theirs j b sorted_t at_t,
-    from_on mine i a (rise mine sorted_m) at_m k d lt,
+    after theirs j b sorted_theirs at_theirs m e other_lt,
+    nonempty_at theirs j b sorted_theirs at_theirs,
+    from_on mine i a (rise mine sorted_mine) at_mine k d lt,
   )) adds.begin;
 }
 
@@ -186,24 +186,24 @@ past_gap a b gap x later_a later_b to lt le nonempty none_a none_b = elim (cases
 -- past a gap that ends within a span the next one begins where their span ends
 pub gap_theirs : (mine theirs done new : List Span) (i j : ℕ) (a b gap both : Span) → IsSortedApart mine → IsSortedApart theirs → IsAt mine i a → IsAt theirs j b
     → gap.to.0 ≡ b.from.0 → b.from.0 < a.to.0 → IsCommon a gap both → IsDifferenceSoFar mine theirs i j gap.from.0 done → Adds done both new → IsDifferenceSoFar mine theirs i (j + 1) b.to.0 new
-gap_theirs mine theirs done new i j a b gap both sorted_m sorted_t at_m at_t to lt common so_far adds = record {
+gap_theirs mine theirs done new i j a b gap both sorted_mine sorted_theirs at_mine at_theirs to lt common so_far adds = record {
   seconds = λ x.
-      let le : gap.from.0 ≤ b.from.0 = next_is (λ t. gap.from.0 ≤ t.from.0) theirs j b at_t so_far.gap in
+      let le : gap.from.0 ≤ b.from.0 = next_is (λ t. gap.from.0 ≤ t.from.0) theirs j b at_theirs so_far.gap in
       so_far.seconds x ∙ rw (
-        drop_at mine i a at_m,
-        drop_at theirs j b at_t,
+        drop_at mine i a at_mine,
+        drop_at theirs j b at_theirs,
         adds.seconds x,
         common.seconds x,
-        past_gap a b gap x (has (drop (i + 1) mine) x) (has (drop (j + 1) theirs) x) to lt le (nonempty_at theirs j b sorted_t at_t)
-            (none_within mine i a x sorted_m at_m) (none_within theirs j b x sorted_t at_t),
+        past_gap a b gap x (has (drop (i + 1) mine) x) (has (drop (j + 1) theirs) x) to lt le (nonempty_at theirs j b sorted_theirs at_theirs)
+            (none_within mine i a x sorted_mine at_mine) (none_within theirs j b x sorted_theirs at_theirs),
       ) (grind arith);
   sorted = adds.sorted;
   begin = λ k d lt. begin_later new both.from.0 _ (omega (
     arith,
     common.from,
-    from_on mine i a (rise mine sorted_m) at_m k d lt,
-    nonempty_at theirs j b sorted_t at_t,
-    next_is (λ t. gap.from.0 ≤ t.from.0) theirs j b at_t so_far.gap,
+    from_on mine i a (rise mine sorted_mine) at_mine k d lt,
+    nonempty_at theirs j b sorted_theirs at_theirs,
+    next_is (λ t. gap.from.0 ≤ t.from.0) theirs j b at_theirs so_far.gap,
   )) adds.begin;
-  gap = λ k d lt. omega (arith, after theirs j b sorted_t at_t k d lt);
+  gap = λ k d lt. omega (arith, after theirs j b sorted_theirs at_theirs k d lt);
 }
