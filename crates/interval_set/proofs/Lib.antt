@@ -1,0 +1,5 @@
+pub mod Seconds
+pub mod OneList
+pub mod Additions
+pub mod Merges
+pub mod Searches

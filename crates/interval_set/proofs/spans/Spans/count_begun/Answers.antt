@@ -1,0 +1,15 @@
+use Rattle.std.proofs.Common.{rules}
+use Rattle.std.specs.Prelude.{nat_le}
+use Rattle.std.proofs.lemmas.List.Sorted.{IsPartitionPoint-from_clause, IsPartitionedBy-leb}
+use Rattle.plan_base.specs.declared.span.Span.{Span}
+use Rattle.interval_set.proofs.Seconds.{rise}
+use Rattle.interval_set.proofs.Searches.{begun_by, le_test}
+use Rattle.interval_set.proofs.spans.Spans.count_begun.Goals as goal
+
+pub returns : goal.returns
+returns c =
+    let facts = c.partition_point.ensures in
+    let point = IsPartitionPoint-from_clause (λ (s : Span). nat_le s.from.0 c.args.by.0) c.deref.result.now _ facts.partitioned
+    (IsPartitionedBy-leb (λ (s : Span). s.from.0) c.deref.result.now _ (rise _ (rw c.deref.ensures.value c.self.invariant)))
+    (λ a r f' called. search (rules, le_test)) in
+    rw (← c.self.view_is, ← c.deref.ensures.value) (begun_by _ _ _ facts.bound point)

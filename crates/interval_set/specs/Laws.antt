@@ -1,0 +1,21 @@
+-- Laws of sets of seconds.
+use Rattle.std.specs.Prelude.{◌≡◌, ℕ, List, IsTrue}
+use Rattle.plan_base.specs.declared.span.Span.{Span}
+use Rattle.interval_set.specs.Spans.{has, IsSortedApart, IsUnion, IsMeet, IsDifference}
+
+-- sorted lists with the same seconds are the same list
+abbrev pub OneList : Type 0
+OneList = (a b : List Span) → IsSortedApart a → IsSortedApart b → ((x : ℕ) → has a x ≡ has b x) → a ≡ b
+
+-- the order of two sets makes no difference to their union
+abbrev pub UnionCommutes : Type 0
+UnionCommutes = (a b one other : List Span) → IsUnion a b one → IsUnion b a other → one ≡ other
+
+-- the order of two sets makes no difference to what they have in common
+abbrev pub MeetCommutes : Type 0
+MeetCommutes = (a b one other : List Span) → IsMeet a b one → IsMeet b a other → one ≡ other
+
+-- a part that is taken away and added again leaves the set as it was
+abbrev pub PartIsRestored : Type 0
+PartIsRestored = (whole part rest back : List Span) → IsSortedApart whole → ((x : ℕ) → IsTrue (has part x) → IsTrue (has whole x))
+    → IsDifference whole part rest → IsUnion rest part back → back ≡ whole

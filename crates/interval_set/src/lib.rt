@@ -1,0 +1,11 @@
+// Sorted sets of seconds: union, meet and difference in one pass each, look-ups by binary search.
+#![tactic(auto)]
+
+mod laws;
+mod span;
+mod spans;
+#[cfg(test)]
+mod tests;
+
+pub use laws::{meet_commutes, one_list, part_is_restored, union_commutes};
+pub use spans::Spans;
