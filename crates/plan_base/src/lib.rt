@@ -3,6 +3,7 @@
 
 mod build;
 mod claim;
+mod copies;
 mod counts;
 mod fault;
 mod list;
