@@ -9,7 +9,7 @@ use crate::fault::SnapshotFault;
 use crate::counts::limit_fault;
 use crate::number::RequestNo;
 use crate::parts::{Parts, RequestPart};
-use crate::rows::{Row, rows_of};
+use crate::rows::{Row, rows_of, search_rows};
 use std::alloc::{AllocError, Global};
 use std::marker::Model;
 
@@ -74,10 +74,7 @@ impl Snapshot {
     pub fn place_of(&self, request: RequestNo) -> Option<usize>
         ensures { SomeIff result (IsKnown self.now request.0) (place_of self.now request.0) }
     {
-        self.rows
-            .as_slice()
-            .binary_search_by_key(&request, |row| row.request)
-            .ok()
+        search_rows(self.rows.as_slice(), request).ok()
     }
 
     /// The place of the group of the request at a place.
