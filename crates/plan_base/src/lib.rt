@@ -12,7 +12,9 @@ mod number;
 mod parts;
 mod rows;
 mod snapshot;
+mod solved;
 mod span;
+mod taken;
 mod verdict;
 
 pub use claim::{Claim, Placement, Prices, QuotaPrices, Settings};
@@ -22,5 +24,7 @@ pub use name::{NAME_BYTES, Name};
 pub use number::{GroupNo, RequestNo, Sec, SiteNo, SliceNo, TargetNo, TelescopeNo};
 pub use parts::{GroupPart, Op, Parts, RequestPart, Sky, TelescopePart};
 pub use snapshot::Snapshot;
+pub use solved::Solved;
 pub use span::Span;
+pub use taken::{Outcome, Taken};
 pub use verdict::{Reason, Verdict};
