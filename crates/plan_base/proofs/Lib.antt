@@ -16,6 +16,7 @@ pub mod Orderly
 pub mod Orders
 pub mod Rebates
 pub mod Removing
+pub mod RowLemmas
 pub mod Single
 pub mod Sizes
 pub mod Small

@@ -13,5 +13,6 @@ pub mod Round
 pub mod Repaired
 pub mod Verdict
 pub mod Planned
+pub mod Solved
 pub mod FeasibleSoFar
 pub mod BySpans

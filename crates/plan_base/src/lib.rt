@@ -3,6 +3,7 @@
 
 mod build;
 mod claim;
+mod copies;
 mod counts;
 mod fault;
 mod laws;
@@ -12,7 +13,9 @@ mod number;
 mod parts;
 mod rows;
 mod snapshot;
+mod solved;
 mod span;
+mod taken;
 mod unique;
 mod verdict;
 
@@ -24,7 +27,9 @@ pub use name::{NAME_BYTES, Name};
 pub use number::{GroupNo, RequestNo, Sec, SiteNo, SliceNo, TargetNo, TelescopeNo};
 pub use parts::{GroupPart, Op, Parts, RequestPart, Sky, TelescopePart};
 pub use snapshot::Snapshot;
+pub use solved::Solved;
 pub use span::Span;
+pub use taken::{Outcome, Taken};
 pub use unique::{
     one_best, one_bound, one_canonical_use, one_filled_plan, one_rebate, one_repaired_plan, one_round, one_verdict,
 };

@@ -1,6 +1,8 @@
 // The rows by which a snapshot's requests are found.
 
-ghost use Rattle.std.specs.Prelude.{◌≡◌, ◌++◌, IfOk, OnOk};
+ghost use Rattle.std.specs.Prelude.{◌≡◌, ◌++◌, length, IfOk, OnOk};
+ghost use Rattle.std.specs.List.Sorted.{IsBinarySearchResult, IsSearchInRange};
+ghost use Rattle.std.specs.Ordering.{nat_cmp};
 ghost use Rattle.plan_base.specs.Rows.{rows_within, rows_from};
 
 use crate::number::RequestNo;
@@ -39,4 +41,12 @@ fn push_rows(rows: &mut Vec<Row>, group: usize, part: &GroupPart) -> Result<(), 
         })?;
     }
     Ok(())
+}
+
+/// Where the row of a request stands among rows that rise.
+pub(crate) fn search_rows(rows: &[Row], request: RequestNo) -> Result<usize, usize>
+    ensures bound { IsSearchInRange result (length rows.now) }
+    ensures position { IsBinarySearchResult (λ row. nat_cmp row.request.0 request.0) rows.now result }
+{
+    rows.binary_search_by_key(&request.0, |row| row.request.0)
 }

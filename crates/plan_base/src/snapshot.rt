@@ -1,14 +1,16 @@
 // Parts to which no fault applies, with a row for each request.
 
-ghost use Rattle.std.specs.Prelude.{◌≡◌, ◌≢◌, None, Some, OnOk, IfOk, IfErr};
+ghost use Rattle.std.specs.Prelude.{◌≡◌, ◌≢◌, ◌≤◌, ◌<◌, length, None, Some, OnOk, IfOk, IfErr, SomeIff, HoldsAt};
+ghost use Rattle.plan_base.specs.Requests.{listed, place_of, IsKnown};
 ghost use Rattle.plan_base.specs.Snapshot.{IsInRanges, IsSnapshot, IsOrderly, fault_of};
 
 use crate::build::fault_within_limits;
-use crate::counts::limit_fault;
 use crate::fault::SnapshotFault;
-use crate::parts::Parts;
-use crate::rows::{Row, rows_of};
-use std::alloc::Global;
+use crate::counts::limit_fault;
+use crate::number::RequestNo;
+use crate::parts::{Parts, RequestPart};
+use crate::rows::{Row, rows_of, search_rows};
+use std::alloc::{AllocError, Global};
 use std::marker::Model;
 
 /// What one desk has to plan at one version. Contracts see its parts.
@@ -58,5 +60,48 @@ impl Snapshot {
         ensures orderly { IsOrderly self.now }
     {
         &self.parts
+    }
+
+    /// How many requests there are, at most 1,024.
+    pub fn requests(&self) -> usize
+        ensures value { result ≡ length (listed self.now) }
+        ensures few { result ≤ 1024 }
+    {
+        self.rows.len()
+    }
+
+    /// The place of a request among all, if it is one of them. It looks by halves, and takes no memory.
+    pub fn place_of(&self, request: RequestNo) -> Option<usize>
+        ensures { SomeIff result (IsKnown self.now request.0) (place_of self.now request.0) }
+    {
+        search_rows(self.rows.as_slice(), request).ok()
+    }
+
+    /// The place of the group of the request at a place.
+    pub fn group_at(&self, place: usize) -> usize
+        requires { place < length (listed self.now) }
+        ensures value { HoldsAt (λ x. x.group ≡ result) (listed self.now) place }
+        ensures within { result < length self.now.groups }
+    {
+        self.rows[place].group
+    }
+
+    /// The request at a place.
+    pub fn request_at(&self, place: usize) -> &RequestPart
+        requires { place < length (listed self.now) }
+        ensures { HoldsAt (λ x. x.request ≡ result.now) (listed self.now) place }
+    {
+        let row = self.rows[place];
+        &self.parts.groups.as_slice()[row.group].requests.as_slice()[row.place]
+    }
+
+    /// The same snapshot once more. Fails only for want of memory.
+    pub fn copy(&self, alloc: Global) -> Result<Snapshot, AllocError>
+        ensures { IfOk result (λ copy. copy ≡ self.now) }
+    {
+        Ok(Snapshot {
+            parts: self.parts.copy(alloc)?,
+            rows: Vec::from_slice(alloc, self.rows.as_slice())?,
+        })
     }
 }
