@@ -1,5 +1,5 @@
 -- The faults of a snapshot, told through the lists that the tests go over.
-use Rattle.std.proofs.Common.{◌≡◌, ℕ, suc, ◌+◌, ◌<◌, ◌≤◌, Bool, true, false, cond, not, ◌||◌, List, [], ◌∷◌, ◌++◌, length, map, drop, refl, sym, ap, ◌∙◌, arith, ltb, leb, nat_lt, nat_le, Option, Some, None, sum_by, zero, get_or}
+use Rattle.std.proofs.Common.{◌≡◌, ℕ, suc, ◌+◌, ◌<◌, ◌≤◌, Bool, true, false, cond, not, ◌||◌, List, [], ◌∷◌, ◌++◌, length, map, drop, refl, sym, ap, ◌∙◌, arith, ltb, nat_lt, nat_le, Option, Some, None, sum_by, zero, get_or}
 use Rattle.std.specs.List.{find, flat_map, zip, list_any, position, position_or_len, slice_get}
 use Rattle.std.specs.Option.{option_map, option_or, option_and_then}
 use Rattle.std.proofs.lemmas.Simd.{map-map}
@@ -17,8 +17,7 @@ use Rattle.plan_base.specs.declared.fault.Counted.{Counted}
 use Rattle.plan_base.specs.declared.fault.Counted.TheVariants.{Usable, Windows, Targets, Fits}
 use Rattle.plan_base.specs.declared.fault.SnapshotFault.{SnapshotFault}
 use Rattle.plan_base.specs.declared.fault.SnapshotFault.TheVariants.{OverLimit, GroupOrder, RequestOrder, NoSuchTelescope, FadeRange}
-use Rattle.plan_base.specs.declared.rows.Row.{Row}
-use Rattle.plan_base.specs.Requests.{Listed, listed_from, listed}
+use Rattle.plan_base.specs.Requests.{listed_from, listed}
 use Rattle.plan_base.specs.Snapshot.{limit_of, all_spans, with_last, fits_after, first_some, limit_fault, group_fault, request_fault, telescope_fault, fade_fault, fault_of}
 use Rattle.plan_base.specs.Faults.{all_requests, first_over, first_fall, first_unfit, unfit_in, site_limit_fault, request_limit_fault, fault_within_limits}
 use Rattle.plan_base.specs.Rows.{rows_within, rows_from}

@@ -1,5 +1,5 @@
 -- What the absence of faults says of a snapshot's parts.
-use Rattle.std.proofs.Common.{◌≡◌, ℕ, suc, ◌<◌, ◌≤◌, ◌⊎◌, inl, inr, Bool, true, false, cond, not, ◌||◌, ◌&&◌, ◌==◌, List, [], ◌∷◌, ◌++◌, length, slice_index_or, map, drop, refl, sym, ap, ◌∙◌, arith, lit<, nat_lt, nat_le, ltb, Option, Some, None}
+use Rattle.std.proofs.Common.{◌≡◌, ℕ, ◌<◌, ◌≤◌, ◌⊎◌, inl, inr, Bool, true, false, cond, not, ◌&&◌, List, [], ◌∷◌, ◌++◌, length, slice_index_or, map, drop, refl, sym, ap, ◌∙◌, arith, lit<, nat_lt, nat_le, Option, Some, None}
 use Rattle.std.specs.List.{find, flat_map, zip, list_any, list_all, position, position_or_len, All, AllPairs}
 use Rattle.std.specs.Option.{option_map, option_or, ForSome}
 use Rattle.std.proofs.lemmas.List.Elements.{All-cons, All-nil, All-head, All-tail, All-weaker}
@@ -16,10 +16,9 @@ use Rattle.plan_base.specs.declared.parts.Sky.{Sky}
 use Rattle.plan_base.specs.declared.parts.GroupPart.{GroupPart}
 use Rattle.plan_base.specs.declared.span.Span.{Span}
 use Rattle.plan_base.specs.declared.number.TelescopeNo.{TelescopeNo}
-use Rattle.plan_base.specs.Requests.{Listed, listed}
+use Rattle.plan_base.specs.Requests.{listed}
 use Rattle.plan_base.proofs.Orders.{pairs_head}
-use Rattle.plan_base.proofs.FaultLemmas.{list_any-flat_map}
-use Rattle.plan_base.specs.Snapshot.{IsSnapshot, IsOrderly, IsSortedApart, all_spans, is_apart, sky_below, skies_rise, most_requests, has_shape, fits_after, with_last, names_quota, fault_of, span_fault, apart_fault, group_fault, request_fault, shape_fault, telescope_fault, fade_fault, quota_fault, quota_range_fault, limit_of, counts_of, all_counted, first_some, limit_fault}
+use Rattle.plan_base.specs.Snapshot.{IsSnapshot, IsOrderly, IsSortedApart, all_spans, is_apart, sky_below, skies_rise, most_requests, has_shape, fits_after, with_last, names_quota, span_fault, apart_fault, group_fault, request_fault, shape_fault, telescope_fault, fade_fault, quota_fault, quota_range_fault, limit_of, counts_of, all_counted, first_some, limit_fault}
 
 -- ---- absent values
 

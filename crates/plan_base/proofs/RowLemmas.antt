@@ -1,6 +1,6 @@
 -- The rows lead to the requests as they are listed.
-use Rattle.std.proofs.Common.{◌≡◌, ◌≢◌, ℕ, suc, zero, ◌+◌, ◌<◌, ◌≤◌, ◌==◌, true, false, List, [], ◌∷◌, ◌++◌, length, map, drop, get_or, refl, sym, ap, ◌∙◌, subst, arith, Option, Some, None, HoldsAt, inl, inr}
-use Rattle.std.specs.List.{slice_get, AllZip, AllPairs, position_or_len}
+use Rattle.std.proofs.Common.{◌≡◌, ℕ, suc, zero, ◌<◌, ◌≤◌, ◌==◌, false, List, [], ◌∷◌, ◌++◌, length, map, drop, get_or, refl, sym, ap, ◌∙◌, subst, arith, Some, inl, inr}
+use Rattle.std.specs.List.{slice_get, AllZip}
 use Rattle.std.specs.List.Sorted.{IsBinarySearchResult, IsSearchInRange, IsNonDecreasingBy}
 use Rattle.std.specs.Option.{SomeIff}
 use Rattle.std.specs.Result.{result_ok}
@@ -114,10 +114,10 @@ rows_rise s rows e o r i j d h l =
     let at_i : (get_or rows i d).request.0 ≡ (get_or (listed s) i x).request.request.0 = row_number s rows e i d x (omega arith) in
     let at_j : (get_or rows j d).request.0 ≡ (get_or (listed s) j x).request.request.0 = row_number s rows e j d x within in
     let rise : (get_or (listed s) i x).request.request.0 ≤ (get_or (listed s) j x).request.request.0
-        = elim (cases_eq i j) [
-          | inl same ↦ let e : (get_or (listed s) i x).request.request.0 ≡ (get_or (listed s) j x).request.request.0 = ap (λ k. (get_or (listed s) k x).request.request.0) same in omega arith
-          | inr other ↦ let rise : (get_or (listed s) i x).request.request.0 < (get_or (listed s) j x).request.request.0 = o.requests_rise i j x (omega arith) within in omega arith
-        ]
+    = elim (cases_eq i j) [
+      | inl same ↦ let e : (get_or (listed s) i x).request.request.0 ≡ (get_or (listed s) j x).request.request.0 = ap (λ k. (get_or (listed s) k x).request.request.0) same in omega arith
+      | inr other ↦ let rise : (get_or (listed s) i x).request.request.0 < (get_or (listed s) j x).request.request.0 = o.requests_rise i j x (omega arith) within in omega arith
+    ]
     in below_index _ _ r (omega arith)
 
 equal_numbers : (a b : ℕ) → nat_cmp a b ≡ Equal → a ≡ b
@@ -141,14 +141,14 @@ search_rows s rows e o r (Ok i) within equal =
     (omega arith, sym place)
 search_rows s rows e o r (Err i) within apart =
     λ known.
-        let found = known_as s r known in
-        let row : Row = record { request = record { 0 = r }; group = 0; place = 0 } in
-        let halves = apart (rows_rise s rows e o r) in
-        let in_rows : place_of s r < length rows = omega (arith, length-rows s rows e) in
-        let number : (get_or rows (place_of s r) row).request.0 ≡ r
-            = row_number s rows e (place_of s r) row found.0 known ∙ ap (λ y. y.request.request.0) found.1.at_place ∙ found.1.number
-        in
-        elim (cases_lt (place_of s r) i) [
-        | inl before ↦ let less = less_number _ r (halves.0 (place_of s r) row (omega arith) before) in absurd (omega arith)
-        | inr after ↦ let greater = greater_number _ r (halves.1 (place_of s r) row after in_rows) in absurd (omega arith)
-        ]
+    let found = known_as s r known in
+    let row : Row = record { request = record { 0 = r }; group = 0; place = 0 } in
+    let halves = apart (rows_rise s rows e o r) in
+    let in_rows : place_of s r < length rows = omega (arith, length-rows s rows e) in
+    let number : (get_or rows (place_of s r) row).request.0 ≡ r
+    = row_number s rows e (place_of s r) row found.0 known ∙ ap (λ y. y.request.request.0) found.1.at_place ∙ found.1.number
+    in
+    elim (cases_lt (place_of s r) i) [
+      | inl before ↦ let less = less_number _ r (halves.0 (place_of s r) row (omega arith) before) in absurd (omega arith)
+      | inr after ↦ let greater = greater_number _ r (halves.1 (place_of s r) row after in_rows) in absurd (omega arith)
+    ]

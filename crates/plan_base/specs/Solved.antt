@@ -1,5 +1,5 @@
 -- What a solver may answer to what it has taken.
-use Rattle.std.specs.Prelude.{ℕ, ◌<◌}
+use Rattle.std.specs.Prelude.{◌<◌}
 use Rattle.plan_base.specs.declared.parts.Parts.{Parts}
 use Rattle.plan_base.specs.declared.taken.Taken.{Taken}
 use Rattle.plan_base.specs.declared.taken.Outcome.{Outcome}

@@ -31,6 +31,7 @@ pub use solved::Solved;
 pub use span::Span;
 pub use taken::{Outcome, Taken};
 pub use unique::{
-    one_best, one_bound, one_canonical_use, one_filled_plan, one_rebate, one_repaired_plan, one_round, one_verdict,
+    one_best, one_bound, one_canonical_use, one_filled_plan, one_rebate, one_repaired_plan,
+    one_round, one_verdict,
 };
 pub use verdict::{Reason, Verdict};

@@ -1,6 +1,6 @@
 // The one list type of the public structs.
 
-ghost use Rattle.std.specs.Prelude.{◌≡◌, ℕ, List, [], ◌∷◌, ◌++◌, length, ◌==◌, IfOk, OnErr};
+ghost use Rattle.std.specs.Prelude.{◌≡◌, ℕ, ◌<◌, List, [], ◌∷◌, ◌++◌, length, slice_set, ◌==◌, IfOk, OnErr};
 ghost use Rattle.std.specs.Cmp.Lexicographic.{pointwise, lists_per, lists_equiv};
 
 use std::alloc::{AllocError, Global};
@@ -51,6 +51,14 @@ impl<T: Drop> ListOf<T> {
         ensures err { OnErr result (self.new ≡ self.old) }
     {
         self.items.push(item).map_err(AllocError::from)
+    }
+
+    /// Puts an element in the place of another.
+    pub fn set(&mut self, index: usize, item: T)
+        requires { index < length self.old }
+        ensures { self.new ≡ slice_set self.old index item }
+    {
+        self.items[index] = item;
     }
 
     /// The elements, in their order.

@@ -5,8 +5,8 @@ ghost use Rattle.plan_base.specs.Requests.{listed, place_of, IsKnown};
 ghost use Rattle.plan_base.specs.Snapshot.{IsInRanges, IsSnapshot, IsOrderly, fault_of};
 
 use crate::build::fault_within_limits;
-use crate::fault::SnapshotFault;
 use crate::counts::limit_fault;
+use crate::fault::SnapshotFault;
 use crate::number::RequestNo;
 use crate::parts::{Parts, RequestPart};
 use crate::rows::{Row, rows_of, search_rows};

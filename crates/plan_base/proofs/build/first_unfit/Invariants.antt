@@ -1,7 +1,4 @@
-use Rattle.std.proofs.Common.{◌≡◌, ◌∷◌, not, drop, map, Some}
-use Rattle.std.specs.List.{find, zip}
-use Rattle.std.specs.Option.{option_map}
-use Rattle.plan_base.specs.Snapshot.{fits_after}
+use Rattle.std.proofs.Common.{◌≡◌, drop}
 use Rattle.plan_base.specs.Faults.{first_unfit}
 use Rattle.plan_base.proofs.FaultLemmas.{unfit_from}
 use Rattle.plan_base.proofs.build.first_unfit.Given as goal

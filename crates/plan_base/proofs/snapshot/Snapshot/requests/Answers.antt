@@ -1,4 +1,4 @@
-use Rattle.std.proofs.Common.{◌≡◌, ◌≤◌, length, lit<, arith}
+use Rattle.std.proofs.Common.{◌≤◌, length, lit<, arith}
 use Rattle.plan_base.specs.declared.fault.Counted.TheVariants.{Requests}
 use Rattle.plan_base.specs.Requests.{listed}
 use Rattle.plan_base.proofs.Orderly.{orderly}
