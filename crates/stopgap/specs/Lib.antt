@@ -1,0 +1,2 @@
+pub mod Stopgap
+pub mod Timeline

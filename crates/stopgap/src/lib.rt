@@ -1,0 +1,9 @@
+// The claim that is published until plans are sought: each request priced at its value, and the greedy plan.
+#![tactic(auto)]
+
+mod fill;
+mod order;
+mod room;
+mod stopgap;
+
+
