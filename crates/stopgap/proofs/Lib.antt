@@ -1,2 +1,5 @@
 pub mod FreeRuns
 pub mod Rooms
+pub mod Simple
+pub mod Possible
+pub mod Free
