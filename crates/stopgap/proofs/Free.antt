@@ -12,9 +12,9 @@ use Rattle.plan_base.specs.Feasible.{IsEachPossible}
 use Rattle.plan_base.specs.Saturated.{IsFree, IsNoLater, IsEarliestFree}
 use Rattle.plan_base.specs.Snapshot.{IsOrderly}
 use Rattle.stopgap.specs.declared.room.Room.{Room}
-use Rattle.stopgap.specs.Stopgap.{IsSimple}
+use Rattle.stopgap.specs.Stopgap.{IsSimple, StandsAt}
 use Rattle.stopgap.specs.Timeline.{CanBegin, IsWithin, IsFreeRun, HasRoom, MarksTaken}
-use Rattle.stopgap.proofs.Simple.{StandsAt, known_stands}
+use Rattle.stopgap.proofs.Simple.{known_stands}
 use Rattle.stopgap.proofs.Possible.{start_at, size_is, quota_is, possible_gives, possible_from}
 
 -- each possible start is on the one telescope

@@ -12,9 +12,9 @@ use Rattle.plan_base.specs.declared.claim.Placement.{Placement}
 use Rattle.plan_base.specs.Requests.{IsKnown, quota_of, seconds_of, request_value, fade_of, windows_of, telescopes_of, targets_of}
 use Rattle.plan_base.specs.Starts.{HasSecond, IsPossibleStart, IsUsable, IsVisible, IsObserved, site_of, slices_for, size_of, earliest_slice, faded, worth_at}
 use Rattle.plan_base.specs.Snapshot.{IsOrderly}
-use Rattle.stopgap.specs.Stopgap.{IsSimple, horizon_of, whole_horizon}
+use Rattle.stopgap.specs.Stopgap.{IsSimple, horizon_of, whole_horizon, StandsAt}
 use Rattle.stopgap.specs.Timeline.{CanBegin}
-use Rattle.stopgap.proofs.Simple.{StandsAt, known_or_is, known_at}
+use Rattle.stopgap.proofs.Simple.{known_or_is, known_at}
 use Rattle.stopgap.proofs.Rooms.{slices_le}
 
 -- the start of request q at slice k of the one telescope

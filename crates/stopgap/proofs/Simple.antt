@@ -11,19 +11,21 @@ use Rattle.plan_base.specs.declared.parts.GroupPart.{GroupPart}
 use Rattle.plan_base.specs.declared.parts.RequestPart.{RequestPart}
 use Rattle.plan_base.specs.Requests.{Listed, listed_from, listed, place_of, known_or, IsKnown, group_of, quota_of, seconds_of, request_value, fade_of, windows_of, telescopes_of, targets_of, IsOf, members, members_of}
 use Rattle.plan_base.specs.Snapshot.{IsOrderly}
-use Rattle.stopgap.specs.Stopgap.{IsSimpleRequest, IsSimpleGroup, IsSimple}
-
--- the group at place i has this request
-abbrev pub only_at : ℕ → RequestPart → Listed
-only_at i q = record { group = i; quota = None; request = q }
+use Rattle.stopgap.specs.Stopgap.{IsSimpleRequest, IsSimpleGroup, IsSimple, only_at, StandsAt}
 
 -- a group of one request, with that request
-one_request_of : (x : GroupPart) → length x.requests ≡ 1 → (q : RequestPart) × (x.requests ≡ q ∷ [])
+pub one_request_of : (x : GroupPart) → length x.requests ≡ 1 → (q : RequestPart) × (x.requests ≡ q ∷ [])
 one_request_of x e = go x.requests e where
   go : (qs : List RequestPart) → length qs ≡ 1 → (q : RequestPart) × (qs ≡ q ∷ [])
   go [] e = absurd (omega arith)
   go (q ∷ []) e = (q, refl)
   go (q ∷ r ∷ qs) e = absurd (omega arith)
+
+-- the element at place 0 of a list of one is the list
+pub only_element : {X : Type 0} (xs : List X) (x : X) → length xs ≡ 1 → x ≡ slice_index_or xs 0 x → xs ≡ x ∷ []
+only_element [] x h e = absurd (omega arith)
+only_element (y ∷ []) x h e = ap (λ z. z ∷ []) (sym e)
+only_element (y ∷ z ∷ xs) x h e = absurd (omega arith)
 
 listed_one : (g : ℕ) (x : GroupPart) (xs : List GroupPart) (q : RequestPart) → x.requests ≡ q ∷ [] → x.quota ≡ None → listed_from g (x ∷ xs) ≡ only_at g q ∷ listed_from (suc g) xs
 listed_one g x xs q one none = rw (one, none) refl
@@ -54,14 +56,6 @@ listed_from_at g (suc i) j (y ∷ xs) x q a at one e =
 pub length-listed : (s : Parts) → IsSimple s → length (listed s) ≡ length s.groups
 length-listed s simple = length-listed_from 0 s.groups simple.groups
 
--- the request q stands in the group at place i
-pub record StandsAt (s : Parts) (i : ℕ) (q : RequestPart) : Type 0 where
-  pub below : i < length s.groups
-  pub listed_at : slice_get (listed s) i ≡ Some (only_at i q)
-  pub members_at : members s i ≡ q.request.0 ∷ []
-  pub place : place_of s q.request.0 ≡ i
-  pub simple : IsSimpleRequest q
-
 same_from_test : (a b : ℕ) → (a == b) ≡ true → a ≡ b
 same_from_test a b h = grind (arith, nat_tests)
 
@@ -80,7 +74,7 @@ place_of_listed s i x orderly at =
     (λ k h. test_from_less _ _ (subst (λ (y : Listed). (slice_index_or (listed s) k x).request.request.0 < y.request.request.0) here (orderly.requests_rise k i x h below)))
     (λ h. test_from_same _ _ (ap (λ (y : Listed). y.request.request.0) here))
 
-simple_group_at : (s : Parts) (i : ℕ) (x : GroupPart) → IsSimple s → slice_get s.groups i ≡ Some x → IsSimpleGroup x
+pub simple_group_at : (s : Parts) (i : ℕ) (x : GroupPart) → IsSimple s → slice_get s.groups i ≡ Some x → IsSimpleGroup x
 simple_group_at s i x simple at = subst IsSimpleGroup (get_or_from_slice_get s.groups i x x at) (simple.groups i x (slice_get_within s.groups i x at))
 
 members_at_one : (s : Parts) (i : ℕ) (x : GroupPart) (q : RequestPart) → slice_get s.groups i ≡ Some x → x.requests ≡ q ∷ [] → members s i ≡ q.request.0 ∷ []

@@ -1,5 +1,5 @@
 -- The claim that is published until plans are sought, and the desks that it is made for.
-use Rattle.std.specs.Prelude.{◌≡◌, ℕ, ◌+◌, ◌*◌, ℤ, pos, List, [], ◌∷◌, length, map, None, All}
+use Rattle.std.specs.Prelude.{◌≡◌, ℕ, ◌+◌, ◌*◌, ◌<◌, ℤ, pos, List, [], ◌∷◌, length, map, slice_get, Some, None, All}
 use Rattle.plan_base.specs.declared.parts.Parts.{Parts}
 use Rattle.plan_base.specs.declared.parts.TelescopePart.{TelescopePart}
 use Rattle.plan_base.specs.declared.parts.GroupPart.{GroupPart}
@@ -8,7 +8,7 @@ use Rattle.plan_base.specs.declared.parts.Op.TheVariants.{Single}
 use Rattle.plan_base.specs.declared.span.Span.{Span}
 use Rattle.plan_base.specs.declared.claim.Placement.{Placement}
 use Rattle.plan_base.specs.declared.claim.Claim.{Claim}
-use Rattle.plan_base.specs.Requests.{listed}
+use Rattle.plan_base.specs.Requests.{Listed, listed, members, place_of}
 use Rattle.plan_base.specs.Starts.{value_of_plan}
 use Rattle.plan_base.specs.Bound.{IsBound}
 use Rattle.plan_base.specs.Fill.{IsGreedy}
@@ -42,6 +42,18 @@ pub record IsSimple (s : Parts) : Type 0 where
   pub no_sky : s.skies ≡ []
   pub no_quota : s.quotas ≡ []
   pub groups : All IsSimpleGroup s.groups
+
+-- the group at place i has this request alone
+abbrev pub only_at : ℕ → RequestPart → Listed
+only_at i q = record { group = i; quota = None; request = q }
+
+-- q is the one request of the group at place i
+pub record StandsAt (s : Parts) (i : ℕ) (q : RequestPart) : Type 0 where
+  pub below : i < length s.groups
+  pub listed_at : slice_get (listed s) i ≡ Some (only_at i q)
+  pub members_at : members s i ≡ q.request.0 ∷ []
+  pub place : place_of s q.request.0 ≡ i
+  pub simple : IsSimpleRequest q
 
 -- the values of all requests in their order, as prices
 abbrev pub value_prices : Parts → List ℤ

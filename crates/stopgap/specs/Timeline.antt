@@ -1,5 +1,5 @@
 -- A plan on one telescope, and where on it a request may begin.
-use Rattle.std.specs.Prelude.{◌≡◌, ℕ, ◌+◌, ◌*◌, ◌≤◌, ◌<◌, ◌↔◌, Bool, true, false, List, length, slice_index_or, ◌⊎◌, All, Any}
+use Rattle.std.specs.Prelude.{◌≡◌, ℕ, ◌+◌, ◌*◌, ◌≤◌, ◌<◌, ◌↔◌, Bool, true, false, List, [], ◌∷◌, ◌++◌, length, slice_index_or, ◌⊎◌, All, Any}
 use Rattle.plan_base.specs.declared.parts.Parts.{Parts}
 use Rattle.plan_base.specs.declared.parts.RequestPart.{RequestPart}
 use Rattle.plan_base.specs.declared.claim.Placement.{Placement}
@@ -49,3 +49,10 @@ pub record IsTimeline (s : Parts) (t : Timeline) : Type 0 where
   pub disjoint : IsDisjoint s t.plan.items
   pub marks : MarksTaken s t.plan.items t.taken.items
   pub value : t.value ≡ value_of_plan s t.plan.items
+
+-- the start stands last in the plan, its slices from `from` to the one before `to` are marked, and the value is higher
+pub record AddsStart (before after : Timeline) (start : Placement) (from to worth : ℕ) : Type 0 where
+  pub plan : after.plan.items ≡ before.plan.items ++ start ∷ []
+  pub slices : length after.taken.items ≡ length before.taken.items
+  pub taken : (k : ℕ) → k < length before.taken.items → IsTakenAfter before.taken.items after.taken.items from to k
+  pub value : after.value ≡ before.value + worth

@@ -3,6 +3,7 @@
 
 mod fill;
 mod order;
+mod request;
 mod room;
 mod stopgap;
 
