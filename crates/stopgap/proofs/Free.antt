@@ -13,7 +13,7 @@ use Rattle.plan_base.specs.Saturated.{IsFree, IsNoLater, IsEarliestFree}
 use Rattle.plan_base.specs.Snapshot.{IsOrderly}
 use Rattle.stopgap.specs.declared.room.Room.{Room}
 use Rattle.stopgap.specs.Stopgap.{IsSimple, StandsAt}
-use Rattle.stopgap.specs.Timeline.{CanBegin, IsWithin, IsFreeRun, HasRoom, MarksTaken}
+use Rattle.stopgap.specs.Timeline.{CanBegin, IsWithin, IsRoomOf, HasRoom, MarksTaken}
 use Rattle.stopgap.proofs.Simple.{known_stands}
 use Rattle.stopgap.proofs.Possible.{start_at, size_is, quota_is, possible_gives, possible_from}
 
@@ -22,12 +22,6 @@ pub on_the_one : (s : Parts) (p : Placement) → IsSimple s → IsOrderly s → 
 on_the_one s p simple orderly possible =
     let stands = known_stands s p.request.0 simple orderly possible.known in
     (possible_gives s _ stands.0 p stands.1 (sym stands.2) possible).0
-
--- what is known of a request's room
-pub record IsRoomOf (s : Parts) (q : RequestPart) (room : Room) : Type 0 where
-  pub starts : (i : ℕ) → IsWithin room i ↔ CanBegin s q (s.first.0 + i)
-  pub size : room.size ≡ slices_for s.len q.seconds
-  pub end : room.end ≤ s.slices
 
 -- a free start of the request begins where the room has room
 pub room_from_free : (s : Parts) (i : ℕ) (q : RequestPart) (plan : List Placement) (taken : List Bool) (room : Room) (p : Placement)

@@ -16,11 +16,11 @@ use Rattle.plan_base.specs.Snapshot.{IsOrderly}
 use Rattle.stopgap.specs.declared.room.Room.{Room}
 use Rattle.stopgap.specs.declared.fill.Timeline.{Timeline}
 use Rattle.stopgap.specs.Stopgap.{IsSimple, StandsAt}
-use Rattle.stopgap.specs.Timeline.{CanBegin, IsWithin, IsFreeRun, HasRoom, MarksTaken, IsTakenAfter, IsTimeline, AddsStart}
+use Rattle.stopgap.specs.Timeline.{IsRoomOf, HasRoom, MarksTaken, IsTakenAfter, IsTimeline, AddsStart}
 use Rattle.stopgap.proofs.Simple.{known_stands}
 use Rattle.stopgap.proofs.Ranges.{value_in_range}
 use Rattle.stopgap.proofs.Possible.{start_at, size_is, quota_is, possible_gives, possible_from, worth_is}
-use Rattle.stopgap.proofs.Free.{IsRoomOf, room_from_free, free_from_room, earliest_from_room}
+use Rattle.stopgap.proofs.Free.{room_from_free, free_from_room, earliest_from_room}
 use Rattle.stopgap.proofs.Tries.{visit_from_try}
 
 below_or_from : (j k : ℕ) → (j < k) ⊎ (k ≤ j)

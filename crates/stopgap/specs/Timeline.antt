@@ -25,6 +25,12 @@ pub record IsTimely (q : RequestPart) : Type 0 where
 abbrev pub IsWithin : Room → ℕ → Type 0
 IsWithin room i = (room.begin ≤ i) × (i + room.size ≤ room.end)
 
+-- the room holds the request exactly where it may begin
+pub record IsRoomOf (s : Parts) (q : RequestPart) (room : Room) : Type 0 where
+  pub starts : (i : ℕ) → IsWithin room i ↔ CanBegin s q (s.first.0 + i)
+  pub size : room.size ≡ slices_for s.len q.seconds
+  pub end : room.end ≤ s.slices
+
 -- no slice from i up to the one before j is taken
 abbrev pub IsFreeRun : List Bool → ℕ → ℕ → Type 0
 IsFreeRun taken i j = (k : ℕ) → i ≤ k → k < j → slice_index_or taken k false ≡ false

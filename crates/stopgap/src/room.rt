@@ -3,7 +3,7 @@
 ghost use Rattle.std.specs.Prelude.{◌≡◌, ℕ, ◌+◌, ◌*◌, ◌≤◌, ◌<◌, ◌↔◌, length, MatchOption};
 ghost use Rattle.plan_base.specs.Snapshot.{IsInRanges, IsMoment};
 ghost use Rattle.plan_base.specs.Starts.{slices_for};
-ghost use Rattle.stopgap.specs.Timeline.{CanBegin, IsTimely, IsWithin, HasRoom, IsTakenAfter};
+ghost use Rattle.stopgap.specs.Timeline.{IsTimely, IsRoomOf, HasRoom, IsTakenAfter};
 
 use plan_base::{Parts, RequestPart};
 
@@ -45,10 +45,8 @@ pub fn room_of(parts: &Parts, request: &RequestPart) -> Room
     requires ranges { IsInRanges parts.now }
     requires timely { IsTimely request.now }
     requires one_window { length request.now.windows ≡ 1 }
-    ensures starts { (i : ℕ) → IsWithin result i ↔ CanBegin parts.now request.now (parts.now.first.0 + i) }
-    ensures size { result.size ≡ slices_for parts.now.len request.now.seconds }
+    ensures room { IsRoomOf parts.now request.now result }
     ensures some_size { 0 < result.size }
-    ensures end { result.end ≤ parts.now.slices }
 {
     let window = request.windows.as_slice()[0];
     let seconds = u64::from(request.seconds);

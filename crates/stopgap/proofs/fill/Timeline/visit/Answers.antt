@@ -2,7 +2,6 @@ use Rattle.std.proofs.Common.{◌≡◌, ℕ, ◌+◌, ◌*◌, ◌<◌, ◌≤�
 use Rattle.std.proofs.lemmas.Result.{on_ok_weaker}
 use Rattle.plan_base.specs.Starts.{value_of_plan}
 use Rattle.stopgap.specs.Timeline.{HasRoom}
-use Rattle.stopgap.proofs.Free.{IsRoomOf}
 use Rattle.stopgap.proofs.Ranges.{timely, value_in_range}
 use Rattle.stopgap.proofs.Visits.{value_most, no_start, timeline_added, visit_added}
 use Rattle.stopgap.proofs.fill.Timeline.visit.Goals as goal
@@ -23,18 +22,15 @@ add-requires-clause-value c =
 
 pub returns-in_default-clause-visit : goal.returns-in_default-clause-visit
 returns-in_default-clause-visit c =
-    let room : IsRoomOf c.args.parts.now c.request_at-request.result.now c.room_of-room.result = record { starts = c.room_of-room.ensures.starts; size = c.room_of-room.ensures.size; end = c.room_of-room.ensures.end } in
-    no_start c.args.parts.now c.args.self.now c.args.place c.request_at-request.result.now c.room_of-room.result c.requires.simple c.requires.orderly c.request_at-request.ensures room c.requires.valid c.requires.not_placed
+    no_start c.args.parts.now c.args.self.now c.args.place c.request_at-request.result.now c.room_of-room.result c.requires.simple c.requires.orderly c.request_at-request.ensures c.room_of-room.ensures.room c.requires.valid c.requires.not_placed
     (λ j has. c.in_default.ensures j (rw c.deref.ensures.value has))
 
 pub returns-clause-valid : goal.returns-clause-valid
 returns-clause-valid c = on_ok_weaker c.add.result (λ adds.
-  let room : IsRoomOf c.args.parts.now c.request_at-request.result.now c.room_of-room.result = record { starts = c.room_of-room.ensures.starts; size = c.room_of-room.ensures.size; end = c.room_of-room.ensures.end } in
   let found : HasRoom c.args.self.now.taken.items c.room_of-room.result c.in-Some.from × ((i : ℕ) → HasRoom c.args.self.now.taken.items c.room_of-room.result i → c.in-Some.from ≤ i) = rw (← c.deref.ensures.value) c.in-Some.ensures in
-  timeline_added c.args.parts.now c.args.self.now c.add.new.self c.args.place c.request_at-request.result.now c.room_of-room.result c.in-Some.from c.requires.simple c.requires.orderly c.request_at-request.ensures room c.requires.valid c.requires.not_placed found.0 adds) c.add.ensures
+  timeline_added c.args.parts.now c.args.self.now c.add.new.self c.args.place c.request_at-request.result.now c.room_of-room.result c.in-Some.from c.requires.simple c.requires.orderly c.request_at-request.ensures c.room_of-room.ensures.room c.requires.valid c.requires.not_placed found.0 adds) c.add.ensures
 
 pub returns-clause-visit : goal.returns-clause-visit
 returns-clause-visit c = on_ok_weaker c.add.result (λ adds.
-  let room : IsRoomOf c.args.parts.now c.request_at-request.result.now c.room_of-room.result = record { starts = c.room_of-room.ensures.starts; size = c.room_of-room.ensures.size; end = c.room_of-room.ensures.end } in
   let found : HasRoom c.args.self.now.taken.items c.room_of-room.result c.in-Some.from × ((i : ℕ) → HasRoom c.args.self.now.taken.items c.room_of-room.result i → c.in-Some.from ≤ i) = rw (← c.deref.ensures.value) c.in-Some.ensures in
-  visit_added c.args.parts.now c.args.self.now c.add.new.self c.args.place c.request_at-request.result.now c.room_of-room.result c.in-Some.from c.requires.simple c.requires.orderly c.request_at-request.ensures room c.requires.valid c.requires.not_placed found.0 found.1 adds) c.add.ensures
+  visit_added c.args.parts.now c.args.self.now c.add.new.self c.args.place c.request_at-request.result.now c.room_of-room.result c.in-Some.from c.requires.simple c.requires.orderly c.request_at-request.ensures c.room_of-room.ensures.room c.requires.valid c.requires.not_placed found.0 found.1 adds) c.add.ensures
