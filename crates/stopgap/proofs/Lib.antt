@@ -6,3 +6,4 @@ pub mod Free
 pub mod Ranges
 pub mod Visits
 pub mod Tries
+pub mod Passes

@@ -3,7 +3,7 @@
 ghost use Rattle.std.specs.Prelude.{◌≡◌, ℕ, ◌+◌, ◌^◌, ◌≤◌, ◌<◌, false, [], ◌∷◌, ◌++◌, length, replicate, IfOk, OnOk};
 ghost use Rattle.plan_base.specs.Snapshot.{IsOrderly};
 ghost use Rattle.plan_base.specs.Saturated.{HasNonePlaced};
-ghost use Rattle.plan_base.specs.Fill.{VisitsGroup};
+ghost use Rattle.plan_base.specs.Fill.{VisitsGroup, IsFillOrder, IsGreedy};
 ghost use Rattle.stopgap.specs.Stopgap.{IsSimple};
 ghost use Rattle.stopgap.specs.Timeline.{IsTimeline, AddsStart};
 
@@ -83,4 +83,21 @@ impl Timeline {
         };
         self.add(start, from, from + room.size, request.value)
     }
+}
+
+/// The greedy plan, for the places of the groups in the order in which they are tried. One pass is enough: a request
+/// that had no free start has none later. Fails only for want of memory.
+pub fn greedy_plan(alloc: Global, parts: &Parts, order: &[usize]) -> Result<Timeline, AllocError>
+    requires simple { IsSimple parts.now }
+    requires orderly { IsOrderly parts.now }
+    requires order { IsFillOrder parts.now order.now }
+    requires count { length order.now ≡ length parts.now.groups }
+    ensures valid { IfOk result (IsTimeline parts.now) }
+    ensures greedy { IfOk result (λ timeline. IsGreedy parts.now timeline.plan.items) }
+{
+    let mut timeline = Timeline::new(alloc, parts)?;
+    for place in order {
+        timeline.visit(parts, *place)?;
+    }
+    Ok(timeline)
 }
