@@ -7,3 +7,5 @@ pub mod Ranges
 pub mod Visits
 pub mod Tries
 pub mod Passes
+pub mod Orders
+pub mod Pairs

@@ -1,2 +1,3 @@
 pub mod Stopgap
 pub mod Timeline
+pub mod Order

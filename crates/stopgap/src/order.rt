@@ -1,1 +1,54 @@
-// In which order the requests are tried.
+// In which order the groups are tried.
+
+ghost use Rattle.std.specs.Prelude.{◌≡◌, length, map, IfOk};
+ghost use Rattle.stopgap.specs.Order.{AreRanks};
+ghost use Rattle.plan_base.specs.Snapshot.{IsOrderly};
+ghost use Rattle.plan_base.specs.Fill.{IsFillOrder};
+ghost use Rattle.stopgap.specs.Stopgap.{IsSimple};
+
+use crate::request::request_at;
+use plan_base::Parts;
+use std::alloc::{AllocError, Global};
+use std::cmp::Reverse;
+
+/// The place of a group, ordered by the value of its request, falling, and then by itself.
+#[derive(Clone, Copy, Debug, PartialEq, Eq, PartialOrd, Ord)]
+pub struct Rank {
+    pub value: Reverse<u32>,
+    pub place: usize,
+}
+
+/// The ranks of all groups, in the order of the groups. Fails only for want of memory.
+fn ranks_of(alloc: Global, parts: &Parts) -> Result<Vec<Rank>, AllocError>
+    requires simple { IsSimple parts.now }
+    requires orderly { IsOrderly parts.now }
+    ensures { IfOk result (λ ranks. AreRanks parts.now ranks.items) }
+{
+    let mut ranks = Vec::new(alloc);
+    for place in 0..parts.groups.len() {
+        ranks.push(Rank {
+            value: Reverse(request_at(parts, place).value),
+            place,
+        })?;
+    }
+    Ok(ranks)
+}
+
+/// The places of the ranks. Fails only for want of memory.
+fn places_of(alloc: Global, ranks: &[Rank]) -> Result<Vec<usize>, AllocError>
+    ensures { IfOk result (λ places. places.items ≡ map (λ rank. rank.place) ranks.now) }
+{
+    ranks.iter().map(|rank| rank.place).collect(alloc)
+}
+
+/// The places of all groups by falling value of their requests, then by place. Fails only for want of memory.
+pub fn fill_order(alloc: Global, parts: &Parts) -> Result<Vec<usize>, AllocError>
+    requires simple { IsSimple parts.now }
+    requires orderly { IsOrderly parts.now }
+    ensures order { IfOk result (λ order. IsFillOrder parts.now order.items) }
+    ensures count { IfOk result (λ order. length order.items ≡ length parts.now.groups) }
+{
+    let mut ranks = ranks_of(alloc, parts)?;
+    ranks.sort_unstable();
+    places_of(alloc, &ranks)
+}

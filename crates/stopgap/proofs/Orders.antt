@@ -1,0 +1,153 @@
+-- The ranks of the groups, sorted, give the order in which they are tried.
+use Rattle.std.proofs.Common.{◌≡◌, ◌≢◌, true, false, ℕ, ◌+◌, ◌<◌, ◌≤◌, ◌⊎◌, inl, inr, List, [], ◌∷◌, ◌++◌, length, map, slice_index_or, slice_get, Option, Some, None, All, AllPairs, Contains, IsPermutation, Ordering, Less, Equal, sum_by, refl, sym, ◌∙◌, ap, subst, arith}
+use Rattle.std.specs.Option.{option_map}
+use Rattle.std.specs.Cmp.{nat_cmp_is}
+use Rattle.std.specs.Ordering.{is_lt, nat_cmp, ordering_then}
+use Rattle.std.proofs.lemmas.Bool.{cases_eq, cases_lt}
+use Rattle.std.proofs.lemmas.Map.Keys.{ge_from_not_lt}
+use Rattle.stopgap.proofs.Pairs.{all_pairs_permutation, all_pairs_from_neighbours}
+use Rattle.std.proofs.lemmas.List.{length_push, length-map, get_or-map, get_or_append_left, get_or_push}
+use Rattle.std.proofs.lemmas.List.Elements.{All-map}
+use Rattle.std.proofs.lemmas.List.Sorted.{All-permutation, Contains-permutation}
+use Rattle.std.proofs.lemmas.List.Sums.{sum_by-cons}
+use Rattle.std.proofs.lemmas.Option.{slice_get_within, slice_get_read, slice_get_cases, slice_get-map, get_or_from_slice_get}
+use Rattle.plan_base.specs.declared.parts.Parts.{Parts}
+use Rattle.plan_base.specs.declared.parts.RequestPart.{RequestPart}
+use Rattle.plan_base.specs.declared.parts.GroupPart.{GroupPart}
+use Rattle.plan_base.specs.declared.parts.Op.{Op}
+use Rattle.plan_base.specs.declared.parts.Op.TheVariants.{Single}
+use Rattle.plan_base.specs.Requests.{Listed}
+use Rattle.plan_base.specs.Fill.{worth_by_kind, worth_of_group, group_worth, IsFillOrder}
+use Rattle.plan_base.specs.Snapshot.{IsOrderly}
+use Rattle.stopgap.specs.declared.order.Rank.{Rank}
+use Rattle.stopgap.specs.Stopgap.{IsSimple, IsSimpleGroup, StandsAt, only_at}
+use Rattle.stopgap.proofs.Simple.{one_request_of, simple_group_at, stands_at}
+use Rattle.stopgap.specs.Order.{rank_at, AreRanksOf, AreRanks}
+
+last_or_before : (j i : ℕ) → j < i + 1 → (j ≡ i) ⊎ (j < i)
+last_or_before j i h = grind arith
+
+push_before : (ranks : List Rank) (x : Rank) (i : ℕ) (y : Rank) → slice_get ranks i ≡ Some y → slice_get (ranks ++ x ∷ []) i ≡ Some y
+push_before ranks x i y at =
+    let below : i < length ranks = slice_get_within ranks i y at in
+    let more : length (ranks ++ x ∷ []) ≡ length ranks + 1 = length_push ranks x in
+    slice_get_read (ranks ++ x ∷ []) (length (ranks ++ x ∷ [])) i y refl (omega arith) (sym (get_or_append_left ranks (x ∷ []) y i below ∙ get_or_from_slice_get ranks i y y at))
+
+push_last : (ranks : List Rank) (x : Rank) (i : ℕ) → length ranks ≡ i → slice_get (ranks ++ x ∷ []) i ≡ Some x
+push_last ranks x i len =
+    let more : length (ranks ++ x ∷ []) ≡ length ranks + 1 = length_push ranks x in
+    slice_get_read (ranks ++ x ∷ []) (length (ranks ++ x ∷ [])) i x refl (omega arith) (sym (get_or_push ranks x x i len))
+
+-- one rank more
+pub ranks_more : (s : Parts) (ranks : List Rank) (n : ℕ) (q : RequestPart) → AreRanksOf s n ranks → StandsAt s n q → AreRanksOf s (n + 1) (ranks ++ rank_at n q ∷ [])
+ranks_more s ranks n q are stands =
+    let count : length ranks ≡ n = are.count in
+    record {
+      count = length_push ranks (rank_at n q) ∙ ap (λ (m : ℕ). m + 1) count;
+      each = λ i below. elim (last_or_before i n below) [
+        | inl last ↦ (q, subst (λ (m : ℕ). StandsAt s m q) (sym last) stands, push_last ranks (rank_at n q) i (omega arith) ∙ ap (λ (m : ℕ). Some (rank_at m q)) (sym last))
+        | inr before ↦ let old = are.each i before in (old.0, old.1, push_before ranks (rank_at n q) i (rank_at i old.0) old.2)
+      ];
+    }
+
+-- a comes before b in the order
+abbrev IsRankedBefore : Rank → Rank → Type 0
+IsRankedBefore a b = (b.value.0 < a.value.0) ⊎ ((a.value.0 ≡ b.value.0) × (a.place ≤ b.place))
+
+not_less : (a b c d : ℕ) → is_lt (ordering_then (nat_cmp a b) (nat_cmp c d)) ≡ false → (b < a) ⊎ ((a ≡ b) × (d ≤ c))
+not_less a b c d h = elim (cases_lt b a) [
+  | inl less ↦ inl less
+  | inr le ↦ elim (cases_eq a b) [
+    | inl same ↦
+        let tie : Equal ≡ nat_cmp a b = nat_cmp_is a b Equal same in
+        inr (same, ge_from_not_lt c d (subst (λ (o : Ordering). is_lt (ordering_then o (nat_cmp c d)) ≡ false) (sym tie) h))
+    | inr other ↦
+        let less : Less ≡ nat_cmp a b = nat_cmp_is a b Less (omega arith) in
+        let bad : true ≡ false = subst (λ (o : Ordering). is_lt (ordering_then o (nat_cmp c d)) ≡ false) (sym less) h in
+        cc
+  ]
+]
+
+joined : (a b c : Rank) → IsRankedBefore a b → IsRankedBefore b c → IsRankedBefore a c
+joined a b c ab bc = elim ab [
+  | inl x ↦ elim bc [ inl y ↦ inl (omega arith) | inr y ↦ inl (omega arith) ]
+  | inr x ↦ elim bc [ inl y ↦ inl (omega arith) | inr y ↦ inr (omega arith, omega arith) ]
+]
+
+-- the worth of a group of one request is the request's value
+pub worth_is_value : (s : Parts) (i : ℕ) (q : RequestPart) → IsSimple s → IsOrderly s → StandsAt s i q → group_worth s i ≡ q.value
+worth_is_value s i q simple orderly stands = elim (slice_get_cases s.groups i).1 [
+  | inl found ↦
+      let x : GroupPart = found.0 in
+      let group : IsSimpleGroup x = simple_group_at s i x simple found.2 in
+      let one = one_request_of x group.one_request in
+      let also : StandsAt s i one.0 = stands_at s i x one.0 simple orderly found.2 one.1 in
+      let both : Some (only_at i one.0) ≡ Some (only_at i q) = sym also.listed_at ∙ stands.listed_at in
+      let entry : only_at i one.0 ≡ only_at i q = cc in
+      let same : one.0 ≡ q = ap (λ (y : Listed). y.request) entry in
+      let mapped : slice_get (map worth_of_group s.groups) i ≡ Some (worth_of_group x) = slice_get-map worth_of_group s.groups i ∙ ap (λ (o : Option GroupPart). option_map worth_of_group o) found.2 in
+      let kind : worth_of_group x ≡ worth_by_kind Single (map (λ p. p.value) x.requests) = ap (λ (k : Op). worth_by_kind k (map (λ p. p.value) x.requests)) group.kind in
+      let values : worth_by_kind Single (map (λ p. p.value) x.requests) ≡ sum_by (λ v. v) (one.0.value ∷ []) = ap (λ (ps : List RequestPart). worth_by_kind Single (map (λ p. p.value) ps)) one.1 in
+      let sum : sum_by (λ v. v) (one.0.value ∷ []) ≡ one.0.value = sum_of_one one.0.value in
+      get_or_from_slice_get (map worth_of_group s.groups) i (worth_of_group x) 0 mapped ∙ kind ∙ values ∙ sum ∙ ap (λ (p : RequestPart). p.value) same
+  | inr past ↦ let below : i < length s.groups = stands.below in absurd (omega arith)
+] where
+  sum_of_one : (v : ℕ) → sum_by (λ (n : ℕ). n) (v ∷ []) ≡ v
+  sum_of_one v = omega (arith, sum_by-cons (λ (n : ℕ). n) v [])
+
+-- what is known of each rank
+pub record IsRankIn (s : Parts) (r : Rank) : Type 0 where
+  pub below : r.place < length s.groups
+  pub worth : r.value.0 ≡ group_worth s r.place
+
+rank_known : (s : Parts) (ranks : List Rank) → IsSimple s → IsOrderly s → AreRanks s ranks → All (IsRankIn s) ranks
+rank_known s ranks simple orderly are = λ k d below.
+    let count : length ranks ≡ length s.groups = are.count in
+    let at = are.each k (omega arith) in
+    let here : slice_index_or ranks k d ≡ rank_at k at.0 = get_or_from_slice_get ranks k (rank_at k at.0) d at.2 in
+    subst (IsRankIn s) (sym here) record { below = at.1.below; worth = sym (worth_is_value s k at.0 simple orderly at.1) }
+
+rank_places : (s : Parts) (ranks : List Rank) → AreRanks s ranks → AllPairs (λ a b. a.place ≢ b.place) ranks
+rank_places s ranks are = λ i j d less below.
+    let count : length ranks ≡ length s.groups = are.count in
+    let first = are.each i (omega arith) in
+    let second = are.each j (omega arith) in
+    let first_place : (slice_index_or ranks i d).place ≡ i = ap (λ (r : Rank). r.place) (get_or_from_slice_get ranks i (rank_at i first.0) d first.2) in
+    let second_place : (slice_index_or ranks j d).place ≡ j = ap (λ (r : Rank). r.place) (get_or_from_slice_get ranks j (rank_at j second.0) d second.2) in
+    omega arith
+
+contains_map : {X Y : Type 0} (f : X → Y) (xs : List X) (x : X) → Contains xs x → Contains (map f xs) (f x)
+contains_map f xs x (k, below, at) =
+    let len : length (map f xs) ≡ length xs = length-map xs f in
+    (k, omega arith, get_or-map f xs k x (f x) below ∙ ap f at)
+
+-- the places of the sorted ranks are all groups by falling worth, then place
+pub order_from_ranks : (s : Parts) (ranks sorted : List Rank) (order : List ℕ) → IsSimple s → IsOrderly s → AreRanks s ranks → IsPermutation ranks sorted
+    → ((k : ℕ) (d : Rank) → 0 ≤ k → k + 1 < length sorted → is_lt (ordering_then (nat_cmp (slice_index_or sorted k d).value.0 (slice_index_or sorted (k + 1) d).value.0) (nat_cmp (slice_index_or sorted (k + 1) d).place (slice_index_or sorted k d).place)) ≡ false)
+    → order ≡ map (λ r. r.place) sorted → IsFillOrder s order
+order_from_ranks s ranks sorted order simple orderly are same near is =
+    let known : All (IsRankIn s) sorted = All-permutation (IsRankIn s) ranks sorted same (rank_known s ranks simple orderly are) in
+    let apart : AllPairs (λ a b. a.place ≢ b.place) sorted = all_pairs_permutation (λ a b. a.place ≢ b.place) (λ x y other e. other (sym e)) ranks sorted same (rank_places s ranks are) in
+    let falling : AllPairs IsRankedBefore sorted = all_pairs_from_neighbours IsRankedBefore joined sorted (λ k d below. not_less _ _ _ _ (near k d (omega arith) below)) in
+    subst (IsFillOrder s) (sym is) record {
+      places = All-map (λ g. g < length s.groups) (λ r. r.place) sorted (λ k d below. (known k d below).below);
+      complete = λ g below.
+        let at = are.each g below in
+        let has : Contains ranks (rank_at g at.0) = (g, slice_get_within ranks g (rank_at g at.0) at.2, get_or_from_slice_get ranks g (rank_at g at.0) (rank_at g at.0) at.2) in
+        contains_map (λ r. r.place) sorted (rank_at g at.0) (Contains-permutation ranks sorted (rank_at g at.0) same has);
+      falling = λ i j d less below.
+        let len : length (map (λ (r : Rank). r.place) sorted) ≡ length sorted = length-map sorted (λ r. r.place) in
+        let e : Rank = record { value = record { 0 = 0 }; place = d } in
+        let x : Rank = slice_index_or sorted i e in
+        let y : Rank = slice_index_or sorted j e in
+        let x_worth : x.value.0 ≡ group_worth s x.place = (known i e (omega arith)).worth in
+        let y_worth : y.value.0 ≡ group_worth s y.place = (known j e (omega arith)).worth in
+        let other : x.place ≢ y.place = apart i j e less (omega arith) in
+        let first : slice_index_or (map (λ (r : Rank). r.place) sorted) i d ≡ x.place = get_or-map (λ r. r.place) sorted i e d (omega arith) in
+        let second : slice_index_or (map (λ (r : Rank). r.place) sorted) j d ≡ y.place = get_or-map (λ r. r.place) sorted j e d (omega arith) in
+        let holds : (group_worth s y.place < group_worth s x.place) ⊎ ((group_worth s x.place ≡ group_worth s y.place) × (x.place < y.place)) = elim (falling i j e less (omega arith)) [
+          | inl worth ↦ inl (omega arith)
+          | inr tie ↦ inr (omega arith, omega arith)
+        ] in
+        rw (first, second) holds;
+    }
