@@ -9,3 +9,5 @@ pub mod Tries
 pub mod Passes
 pub mod Orders
 pub mod Pairs
+pub mod Bounds
+pub mod Listings

@@ -1,6 +1,6 @@
 -- A group of one request is visited by a try of the request.
 use Rattle.std.proofs.Common.{◌≡◌, ◌≢◌, ℕ, ◌+◌, ◌<◌, ◌≤◌, ◌⊎◌, inl, inr, List, [], ◌∷◌, ◌++◌, length, map, slice_index_or, take, Option, Some, None, All, AllPairs, Contains, refl, sym, ◌∙◌, ap, subst, arith}
-use Rattle.std.proofs.lemmas.List.{map_push, take_more, take_all, get_or_default}
+use Rattle.std.proofs.lemmas.List.{map_push, get_or_past}
 use Rattle.std.proofs.lemmas.List.Elements.{Contains-push, Contains-push_cases, Contains-append_left, Contains-get_or}
 use Rattle.std.proofs.lemmas.Option.{slice_get_within, slice_get_cases, get_or_from_slice_get}
 use Rattle.plan_base.specs.declared.parts.Parts.{Parts}
@@ -21,14 +21,17 @@ use Rattle.stopgap.specs.Timeline.{IsTimeline}
 use Rattle.stopgap.proofs.Simple.{stands_below, simple_group_at}
 use Rattle.stopgap.proofs.Possible.{quota_is}
 
--- each group of a simple desk is a SINGLE
-pub single_at : (s : Parts) (k : Op) (g : ℕ) → IsSimple s → g < length s.groups → IsKind s k g → k ≡ Single
-single_at s k g simple below kind = elim (slice_get_cases s.groups g).1 [
+-- each group of a simple desk is a SINGLE, and past the groups there is no kind
+pub single_at : (s : Parts) (k : Op) (g : ℕ) → IsSimple s → IsKind s k g → k ≡ Single
+single_at s k g simple kind = elim (slice_get_cases s.groups g).1 [
   | inl found ↦
       let group : IsSimpleGroup found.0 = simple_group_at s g found.0 simple found.2 in
       let same : slice_index_or s.groups g found.0 ≡ found.0 = found.3 in
       sym (subst (λ (x : GroupPart). x.op ≡ k) same (kind found.0)) ∙ group.kind
-  | inr past ↦ absurd (omega arith)
+  | inr past ↦
+      let d : GroupPart = record { group = record { 0 = 0 }; op = Single; requests = []; quota = None } in
+      let none : slice_index_or s.groups g d ≡ d = get_or_past s.groups g d past.0 in
+      sym (subst (λ (x : GroupPart). x.op ≡ k) none (kind d))
 ]
 
 is_single : (s : Parts) (g : ℕ) → IsSimple s → g < length s.groups → IsKind s Single g
@@ -38,14 +41,14 @@ is_single s g simple below = λ d. (simple.groups g d below).kind
 pub visit_from_try : (s : Parts) (plan after : List Placement) (g : ℕ) (q : RequestPart) → IsSimple s → StandsAt s g q → TriesOne s plan q.request.0 after → VisitsGroup s plan g after
 visit_from_try s plan after g q simple stands tries = record {
   alone = λ kind. subst (λ (rs : List ℕ). TriesEach s plan rs after) (sym stands.members_at) (after, tries, refl);
-  untouched = λ h. absurd (not_oneof s g simple stands.below h.0);
-  absent = λ h. absurd (not_and s g simple stands.below h.0);
-  served = λ kind. absurd (elim kind [ inl h ↦ not_oneof s g simple stands.below h | inr h ↦ not_and s g simple stands.below h ]);
+  untouched = λ h. absurd (not_oneof s g simple h.0);
+  absent = λ h. absurd (not_and s g simple h.0);
+  served = λ kind. absurd (elim kind [ inl h ↦ not_oneof s g simple h | inr h ↦ not_and s g simple h ]);
 } where
-  not_oneof : (s : Parts) (g : ℕ) → IsSimple s → g < length s.groups → ¬ (IsKind s OneOf g)
-  not_oneof s g simple below kind = let same : OneOf ≡ Single = single_at s OneOf g simple below kind in cc
-  not_and : (s : Parts) (g : ℕ) → IsSimple s → g < length s.groups → ¬ (IsKind s And g)
-  not_and s g simple below kind = let same : And ≡ Single = single_at s And g simple below kind in cc
+  not_oneof : (s : Parts) (g : ℕ) → IsSimple s → ¬ (IsKind s OneOf g)
+  not_oneof s g simple kind = let same : OneOf ≡ Single = single_at s OneOf g simple kind in cc
+  not_and : (s : Parts) (g : ℕ) → IsSimple s → ¬ (IsKind s And g)
+  not_and s g simple kind = let same : And ≡ Single = single_at s And g simple kind in cc
 
 -- and the other way round
 pub try_from_visit : (s : Parts) (plan after : List Placement) (g : ℕ) (q : RequestPart) → IsSimple s → StandsAt s g q → VisitsGroup s plan g after → TriesOne s plan q.request.0 after

@@ -7,4 +7,4 @@ mod request;
 mod room;
 mod stopgap;
 
-
+pub use stopgap::claim_of;
