@@ -1,5 +1,5 @@
 -- The bound at prices that are the values: every weight is 0, and each rebate is the value.
-use Rattle.std.proofs.Common.{◌≡◌, ◌≢◌, ℕ, ◌+◌, ◌*◌, ◌<◌, ◌≤◌, ◌⊎◌, inl, inr, ℤ, pos, ◌+ℤ◌, ◌-ℤ◌, ◌≤ℤ◌, List, [], ◌∷◌, ◌++◌, length, map, slice_index_or, slice_get, Option, Some, None, All, AllPairs, Contains, sum_by, refl, sym, ◌∙◌, ap, subst, arith}
+use Rattle.std.proofs.Common.{◌≡◌, ◌≢◌, ℕ, ◌+◌, ◌<◌, ◌≤◌, ℤ, pos, ◌≤ℤ◌, List, [], ◌∷◌, length, map, slice_index_or, slice_get, Option, Some, All, AllPairs, sum_by, refl, sym, ◌∙◌, ap, subst, arith}
 use Rattle.std.specs.Option.{option_map}
 use Rattle.std.proofs.lemmas.Int.{ints}
 use Rattle.std.proofs.lemmas.List.{length-map}
@@ -8,12 +8,12 @@ use Rattle.std.proofs.lemmas.List.Sums.{sum_by-cons}
 use Rattle.std.proofs.lemmas.Option.{slice_get-map, get_or_from_slice_get}
 use Rattle.plan_base.specs.declared.parts.Parts.{Parts}
 use Rattle.plan_base.specs.declared.parts.RequestPart.{RequestPart}
-use Rattle.plan_base.specs.declared.parts.Op.TheVariants.{Single, OneOf, And}
+use Rattle.plan_base.specs.declared.parts.Op.TheVariants.{Single, And}
 use Rattle.plan_base.specs.declared.claim.Placement.{Placement}
-use Rattle.plan_base.specs.Sums.{total, IsSumOf}
-use Rattle.plan_base.specs.Requests.{Listed, listed, place_of, group_of, quota_of, seconds_of, IsKnown, IsOf, IsKind}
+use Rattle.plan_base.specs.Sums.{total}
+use Rattle.plan_base.specs.Requests.{Listed, listed, place_of, group_of, quota_of, seconds_of, IsOf}
 use Rattle.plan_base.specs.Starts.{IsPossibleStart, worth_at}
-use Rattle.plan_base.specs.Bound.{price, IsStartList, weight, surplus, IsBest, charge, net_price, IsAllowedChoice, IsRebate, IsQuotaPart, IsBound}
+use Rattle.plan_base.specs.Bound.{price, weight, surplus, IsBest, charge, net_price, IsRebate, IsBound}
 use Rattle.plan_base.specs.Snapshot.{IsOrderly}
 use Rattle.stopgap.specs.Stopgap.{IsSimple, StandsAt, only_at, value_prices}
 use Rattle.stopgap.proofs.Simple.{known_or_is, known_at, known_stands, stands_below, length-listed}
@@ -59,15 +59,19 @@ weight_none s p simple orderly possible =
 -- so the best of each telescope is 0
 best_none : (s : Parts) (t k : ℕ) → IsSimple s → IsOrderly s → IsBest s (value_prices s) t k (pos 0)
 best_none s t k simple orderly = record {
-  reached = ([], record {
-    possible = All-nil (IsPossibleStart s);
-    same_telescope = All-nil (λ p. p.telescope.0 ≡ t);
-    later = All-nil (λ p. k ≤ p.slice.0);
-    disjoint = λ i j d less below. absurd (omega arith);
-  }, refl);
+  reached = (
+    [],
+    record {
+      possible = All-nil (IsPossibleStart s);
+      same_telescope = All-nil (λ p. p.telescope.0 ≡ t);
+      later = All-nil (λ p. k ≤ p.slice.0);
+      disjoint = λ i j d less below. absurd (omega arith);
+    },
+    refl,
+  );
   bound = λ starts are.
-    let none : surplus s (value_prices s) starts ≡ pos 0 = total_none (weight s (value_prices s)) starts (λ i d below. weight_none s (slice_index_or starts i d) simple orderly (are.possible i d below)) in
-    omega (arith, ints);
+      let none : surplus s (value_prices s) starts ≡ pos 0 = total_none (weight s (value_prices s)) starts (λ i d below. weight_none s (slice_index_or starts i d) simple orderly (are.possible i d below)) in
+      omega (arith, ints);
 }
 
 -- the net price of a request that names no quota is its value
@@ -104,12 +108,16 @@ rebate_is : (s : Parts) (i : ℕ) (q : RequestPart) → IsSimple s → IsOrderly
 rebate_is s i q simple orderly stands =
     let cost : net_price s (value_prices s) [] q.request.0 ≡ pos q.value = net_price_is s i q stands in
     record {
-      reached = (q.request.0 ∷ [], record {
-        members = All-cons (IsOf s i) q.request.0 [] (is_of s i q stands) (All-nil (IsOf s i));
-        once = λ j k d less below. absurd (omega arith);
-        one_of = λ kind. omega arith;
-        whole = λ kind. let same : And ≡ Single = single_at s And i simple kind in cc;
-      }, rw cost (omega (arith, ints)));
+      reached = (
+        q.request.0 ∷ [],
+        record {
+          members = All-cons (IsOf s i) q.request.0 [] (is_of s i q stands) (All-nil (IsOf s i));
+          once = λ j k d less below. absurd (omega arith);
+          one_of = λ kind. omega arith;
+          whole = λ kind. let same : And ≡ Single = single_at s And i simple kind in cc;
+        },
+        rw cost (omega (arith, ints)),
+      );
       bound = λ choice allowed. at_most s i q (net_price s (value_prices s) []) choice cost (λ k d below. only_of s i q _ simple orderly stands (allowed.members k d below)) allowed.once;
     }
 

@@ -1,13 +1,12 @@
 -- The free starts of a request are those of its room whose slices aren't marked.
-use Rattle.std.proofs.Common.{◌≡◌, ◌≢◌, ℕ, ◌+◌, ◌-◌, ◌*◌, ◌<◌, ◌≤◌, ◌↔◌, ◌⊎◌, inl, inr, Bool, true, false, List, [], ◌∷◌, ◌++◌, length, map, slice_index_or, Option, Some, None, All, AllPairs, Any, Contains, refl, sym, ◌∙◌, ap, subst, arith}
+use Rattle.std.proofs.Common.{◌≡◌, ℕ, ◌+◌, ◌-◌, ◌<◌, ◌≤◌, ◌⊎◌, inl, inr, Bool, true, false, List, slice_index_or, None, refl, sym, ◌∙◌, ap, subst, arith}
 use Rattle.std.proofs.lemmas.Bool.{cases_Bool}
 use Rattle.std.proofs.lemmas.List.{get_or_default}
 use Rattle.plan_base.specs.declared.parts.Parts.{Parts}
 use Rattle.plan_base.specs.declared.parts.RequestPart.{RequestPart}
 use Rattle.plan_base.specs.declared.claim.Placement.{Placement}
-use Rattle.plan_base.specs.declared.number.TelescopeNo.{TelescopeNo}
-use Rattle.plan_base.specs.Requests.{IsKnown, quota_of, telescopes_of}
-use Rattle.plan_base.specs.Starts.{IsPossibleStart, ShareSlice, Occupies, slices_for, size_of}
+use Rattle.plan_base.specs.Requests.{quota_of}
+use Rattle.plan_base.specs.Starts.{IsPossibleStart, ShareSlice, size_of}
 use Rattle.plan_base.specs.Feasible.{IsEachPossible}
 use Rattle.plan_base.specs.Saturated.{IsFree, IsNoLater, IsEarliestFree}
 use Rattle.plan_base.specs.Snapshot.{IsOrderly}
@@ -33,17 +32,19 @@ room_from_free s i q plan taken room p simple orderly stands is_room marks each 
     let back : s.first.0 + (p.slice.0 - s.first.0) ≡ p.slice.0 = omega arith in
     let within : IsWithin room (p.slice.0 - s.first.0) = (is_room.starts (p.slice.0 - s.first.0)).1 (rw back gives.1) in
     let size : size_of s p.request.0 ≡ room.size = ap (λ (r : ℕ). size_of s r) same ∙ size_is s i q stands ∙ sym is_room.size in
-    let end : room.end ≤ s.slices = is_room.end in
-    (within, λ k low high. elim (cases_Bool (slice_index_or taken k false)) [
-      | inr f ↦ f
-      | inl t ↦
-          let below : k < s.slices = omega arith in
-          let by = (marks.marked k below).0 t in
-          let here : slice_index_or plan by.0 by.1 ≡ by.1 = by.3 in
-          let other : by.1.telescope ≡ record { 0 = 0 } = on_the_one s by.1 simple orderly (subst (IsPossibleStart s) here (each by.0 by.1 by.2)) in
-          let share : ShareSlice s p by.1 = (gives.0 ∙ sym other, s.first.0 + k, (omega arith, omega arith), by.4) in
-          absurd (subst (λ (x : Placement). ¬ (ShareSlice s p x)) here (free.apart by.0 by.1 by.2) share)
-    ])
+    let end : room.end ≤ s.slices = is_room.end in (
+      within,
+      λ k low high. elim (cases_Bool (slice_index_or taken k false)) [
+        | inr f ↦ f
+        | inl t ↦
+            let below : k < s.slices = omega arith in
+            let by = (marks.marked k below).0 t in
+            let here : slice_index_or plan by.0 by.1 ≡ by.1 = by.3 in
+            let other : by.1.telescope ≡ record { 0 = 0 } = on_the_one s by.1 simple orderly (subst (IsPossibleStart s) here (each by.0 by.1 by.2)) in
+            let share : ShareSlice s p by.1 = (gives.0 ∙ sym other, s.first.0 + k, (omega arith, omega arith), by.4) in
+            absurd (subst (λ (x : Placement). ¬ (ShareSlice s p x)) here (free.apart by.0 by.1 by.2) share)
+      ],
+    )
 
 -- where the room has room, the request has a free start
 pub free_from_room : (s : Parts) (i : ℕ) (q : RequestPart) (plan : List Placement) (taken : List Bool) (room : Room) (j : ℕ)
@@ -57,14 +58,14 @@ free_from_room s i q plan taken room j pos simple stands is_room marks has =
     record {
       possible = possible_from s i q (s.first.0 + j) pos simple stands can;
       apart = λ n d below share.
-        let k : ℕ = share.1 in
-        let from : s.first.0 + j ≤ k = share.2.0 in
-        let to : k < s.first.0 + j + size_of s q.request.0 = share.2.1 in
-        let back : s.first.0 + (k - s.first.0) ≡ k = omega arith in
-        let marked : slice_index_or taken (k - s.first.0) false ≡ true = (marks.marked (k - s.first.0) (omega arith)).1
-        (n, slice_index_or plan n d, below, get_or_default plan n (slice_index_or plan n d) d below, rw back share.3) in
-        let none : slice_index_or taken (k - s.first.0) false ≡ false = has.1 (k - s.first.0) (omega arith) (omega arith) in
-        cc;
+          let k : ℕ = share.1 in
+          let from : s.first.0 + j ≤ k = share.2.0 in
+          let to : k < s.first.0 + j + size_of s q.request.0 = share.2.1 in
+          let back : s.first.0 + (k - s.first.0) ≡ k = omega arith in
+          let marked : slice_index_or taken (k - s.first.0) false ≡ true = (marks.marked (k - s.first.0) (omega arith)).1
+          (n, slice_index_or plan n d, below, get_or_default plan n (slice_index_or plan n d) d below, rw back share.3) in
+          let none : slice_index_or taken (k - s.first.0) false ≡ false = has.1 (k - s.first.0) (omega arith) (omega arith) in
+          cc;
       within_quota = λ n named. let none : quota_of s q.request.0 ≡ None = quota_is s i q stands in cc;
     }
 
@@ -85,8 +86,8 @@ earliest_from_room s i q plan taken room j pos simple orderly stands is_room mar
   same_request = refl;
   free = free_from_room s i q plan taken room j pos simple stands is_room marks has;
   earliest = λ p same free.
-    let gives = possible_gives s i q p stands same free.possible in
-    let begins : s.first.0 ≤ p.slice.0 = gives.1.begins in
-    let later : j ≤ p.slice.0 - s.first.0 = least (p.slice.0 - s.first.0) (room_from_free s i q plan taken room p simple orderly stands is_room marks each same free) in
-    no_later s.first.0 j q p gives.0 (omega arith);
+      let gives = possible_gives s i q p stands same free.possible in
+      let begins : s.first.0 ≤ p.slice.0 = gives.1.begins in
+      let later : j ≤ p.slice.0 - s.first.0 = least (p.slice.0 - s.first.0) (room_from_free s i q plan taken room p simple orderly stands is_room marks each same free) in
+      no_later s.first.0 j q p gives.0 (omega arith);
 }

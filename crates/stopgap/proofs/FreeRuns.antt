@@ -1,7 +1,7 @@
 -- The scan for the first run of free slices.
-use Rattle.std.proofs.Common.{◌≡◌, ◌≢◌, ℕ, ◌+◌, ◌-◌, ◌≤◌, ◌<◌, ◌⊎◌, inl, inr, Bool, true, false, List, length, slice_index_or, refl, sym, subst, arith}
+use Rattle.std.proofs.Common.{◌≡◌, ◌≢◌, ℕ, ◌+◌, ◌-◌, ◌≤◌, ◌<◌, ◌⊎◌, inl, inr, Bool, true, false, List, slice_index_or, sym, subst, arith}
 use Rattle.stopgap.specs.declared.room.Room.{Room}
-use Rattle.stopgap.specs.Timeline.{IsWithin, IsFreeRun, HasRoom}
+use Rattle.stopgap.specs.Timeline.{IsFreeRun}
 
 -- before slice k no run is long enough, and the longest that ends there has this length
 pub record IsScanned (taken : List Bool) (room : Room) (k free : ℕ) : Type 0 where

@@ -1,5 +1,5 @@
 -- The placements of the greedy plan, listed by slice, are a feasible plan.
-use Rattle.std.proofs.Common.{◌≡◌, ◌≢◌, ℕ, ◌+◌, ◌*◌, ◌<◌, ◌≤◌, ◌⊎◌, inl, inr, ℤ, pos, neg_ℤ, ◌≤ℤ◌, ◌^◌, List, [], ◌∷◌, length, map, slice_index_or, Some, All, AllPairs, Contains, IsPermutation, sum_by, refl, sym, ◌∙◌, ap, subst, arith}
+use Rattle.std.proofs.Common.{◌≡◌, ◌≢◌, ℕ, ◌<◌, ◌≤◌, inl, inr, ℤ, pos, List, [], length, slice_index_or, All, IsPermutation, sum_by, sym, ◌∙◌, ap, subst, arith}
 use Rattle.std.specs.List.Sorted.{IsNonDecreasingBy}
 use Rattle.std.proofs.lemmas.Bool.{cases_lt}
 use Rattle.std.proofs.lemmas.Int.{ints}
@@ -10,9 +10,9 @@ use Rattle.plan_base.specs.declared.parts.Parts.{Parts}
 use Rattle.plan_base.specs.declared.parts.Op.TheVariants.{Single, OneOf, And}
 use Rattle.plan_base.specs.declared.claim.Placement.{Placement}
 use Rattle.plan_base.specs.declared.claim.Claim.{Claim}
-use Rattle.plan_base.specs.Requests.{listed, IsKind, IsOf}
-use Rattle.plan_base.specs.Starts.{IsPossibleStart, ShareSlice, IsListedBefore, slices_for, size_of, worth_at, value_of_plan}
-use Rattle.plan_base.specs.Feasible.{requests_of, quota_at, quota_seconds, AreOfOneOneOf, IsEachPossible, IsEachOnce, IsDisjoint, IsFeasible}
+use Rattle.plan_base.specs.Requests.{listed}
+use Rattle.plan_base.specs.Starts.{IsPossibleStart, ShareSlice, slices_for, size_of, worth_at, value_of_plan}
+use Rattle.plan_base.specs.Feasible.{requests_of, IsEachPossible, IsDisjoint, IsFeasible}
 use Rattle.plan_base.specs.Bound.{IsBound}
 use Rattle.plan_base.specs.Fill.{IsGreedy}
 use Rattle.plan_base.specs.Repaired.{IsListing}
@@ -21,7 +21,7 @@ use Rattle.plan_base.specs.Verdict.{IsPriceInRange, IsCertified}
 use Rattle.stopgap.specs.declared.fill.Timeline.{Timeline}
 use Rattle.stopgap.specs.Stopgap.{IsSimple, IsStopgap, value_prices}
 use Rattle.stopgap.specs.Timeline.{IsTimeline}
-use Rattle.stopgap.proofs.Simple.{known_stands, length-listed}
+use Rattle.stopgap.proofs.Simple.{known_stands}
 use Rattle.stopgap.proofs.Possible.{size_is}
 use Rattle.stopgap.proofs.Rooms.{slices_some}
 use Rattle.stopgap.proofs.Free.{on_the_one}
@@ -51,16 +51,16 @@ listing_is s t placements simple orderly valid same sorted =
     record {
       same = same;
       rising = λ i j d less below.
-        let a : Placement = slice_index_or placements i d in
-        let b : Placement = slice_index_or placements j d in
-        let telescopes : a.telescope ≡ b.telescope = on_the_one s a simple orderly (possible i d (omega arith)) ∙ sym (on_the_one s b simple orderly (possible j d below)) in
-        let order : a.slice.0 ≤ b.slice.0 = sorted i j d (omega arith) below in
-        let a_size : 0 < size_of s a.request.0 = some_slice s a simple orderly (possible i d (omega arith)) in
-        let b_size : 0 < size_of s b.request.0 = some_slice s b simple orderly (possible j d below) in
-        elim (cases_lt a.slice.0 b.slice.0) [
-          | inl before ↦ inr (telescopes, before)
-          | inr not_before ↦ absurd (apart i j d less below (telescopes, b.slice.0, (omega arith, omega arith), (omega arith, omega arith)))
-        ];
+          let a : Placement = slice_index_or placements i d in
+          let b : Placement = slice_index_or placements j d in
+          let telescopes : a.telescope ≡ b.telescope = on_the_one s a simple orderly (possible i d (omega arith)) ∙ sym (on_the_one s b simple orderly (possible j d below)) in
+          let order : a.slice.0 ≤ b.slice.0 = sorted i j d (omega arith) below in
+          let a_size : 0 < size_of s a.request.0 = some_slice s a simple orderly (possible i d (omega arith)) in
+          let b_size : 0 < size_of s b.request.0 = some_slice s b simple orderly (possible j d below) in
+          elim (cases_lt a.slice.0 b.slice.0) [
+            | inl before ↦ inr (telescopes, before)
+            | inr not_before ↦ absurd (apart i j d less below (telescopes, b.slice.0, (omega arith, omega arith), (omega arith, omega arith)))
+          ];
     }
 
 -- on a simple desk the rules of ONEOF and AND groups and of quotas ask nothing
@@ -76,8 +76,8 @@ feasible_listing s t placements simple valid same = record {
 
 prices_in_range : (s : Parts) → IsOrderly s → All IsPriceInRange (value_prices s)
 prices_in_range s orderly = All-map IsPriceInRange (λ x. pos x.request.value) (listed s) (λ k d below.
-  let ranges = orderly.ranges.values k d below in
-  (omega (arith, ints), omega (arith, ints)))
+    let ranges = orderly.ranges.values k d below in
+    (omega (arith, ints), omega (arith, ints)))
 
 value_of_listing : (s : Parts) (t : Timeline) (placements : List Placement) → IsTimeline s t → IsPermutation t.plan.items placements → t.value ≡ value_of_plan s placements
 value_of_listing s t placements valid same = valid.value ∙ sym (sum_by-IsPermutation (worth_at s) t.plan.items placements same)

@@ -1,5 +1,5 @@
 -- The ranks of the groups, sorted, give the order in which they are tried.
-use Rattle.std.proofs.Common.{◌≡◌, ◌≢◌, true, false, ℕ, ◌+◌, ◌<◌, ◌≤◌, ◌⊎◌, inl, inr, List, [], ◌∷◌, ◌++◌, length, map, slice_index_or, slice_get, Option, Some, None, All, AllPairs, Contains, IsPermutation, Ordering, Less, Equal, sum_by, refl, sym, ◌∙◌, ap, subst, arith}
+use Rattle.std.proofs.Common.{◌≡◌, ◌≢◌, true, false, ℕ, ◌+◌, ◌<◌, ◌≤◌, ◌⊎◌, inl, inr, List, [], ◌∷◌, ◌++◌, length, map, slice_index_or, slice_get, Option, Some, All, AllPairs, Contains, IsPermutation, Ordering, Less, Equal, sum_by, refl, sym, ◌∙◌, ap, subst, arith}
 use Rattle.std.specs.Option.{option_map}
 use Rattle.std.specs.Cmp.{nat_cmp_is}
 use Rattle.std.specs.Ordering.{is_lt, nat_cmp, ordering_then}
@@ -132,22 +132,22 @@ order_from_ranks s ranks sorted order simple orderly are same near is =
     subst (IsFillOrder s) (sym is) record {
       places = All-map (λ g. g < length s.groups) (λ r. r.place) sorted (λ k d below. (known k d below).below);
       complete = λ g below.
-        let at = are.each g below in
-        let has : Contains ranks (rank_at g at.0) = (g, slice_get_within ranks g (rank_at g at.0) at.2, get_or_from_slice_get ranks g (rank_at g at.0) (rank_at g at.0) at.2) in
-        contains_map (λ r. r.place) sorted (rank_at g at.0) (Contains-permutation ranks sorted (rank_at g at.0) same has);
+          let at = are.each g below in
+          let has : Contains ranks (rank_at g at.0) = (g, slice_get_within ranks g (rank_at g at.0) at.2, get_or_from_slice_get ranks g (rank_at g at.0) (rank_at g at.0) at.2) in
+          contains_map (λ r. r.place) sorted (rank_at g at.0) (Contains-permutation ranks sorted (rank_at g at.0) same has);
       falling = λ i j d less below.
-        let len : length (map (λ (r : Rank). r.place) sorted) ≡ length sorted = length-map sorted (λ r. r.place) in
-        let e : Rank = record { value = record { 0 = 0 }; place = d } in
-        let x : Rank = slice_index_or sorted i e in
-        let y : Rank = slice_index_or sorted j e in
-        let x_worth : x.value.0 ≡ group_worth s x.place = (known i e (omega arith)).worth in
-        let y_worth : y.value.0 ≡ group_worth s y.place = (known j e (omega arith)).worth in
-        let other : x.place ≢ y.place = apart i j e less (omega arith) in
-        let first : slice_index_or (map (λ (r : Rank). r.place) sorted) i d ≡ x.place = get_or-map (λ r. r.place) sorted i e d (omega arith) in
-        let second : slice_index_or (map (λ (r : Rank). r.place) sorted) j d ≡ y.place = get_or-map (λ r. r.place) sorted j e d (omega arith) in
-        let holds : (group_worth s y.place < group_worth s x.place) ⊎ ((group_worth s x.place ≡ group_worth s y.place) × (x.place < y.place)) = elim (falling i j e less (omega arith)) [
-          | inl worth ↦ inl (omega arith)
-          | inr tie ↦ inr (omega arith, omega arith)
-        ] in
-        rw (first, second) holds;
+          let len : length (map (λ (r : Rank). r.place) sorted) ≡ length sorted = length-map sorted (λ r. r.place) in
+          let e : Rank = record { value = record { 0 = 0 }; place = d } in
+          let x : Rank = slice_index_or sorted i e in
+          let y : Rank = slice_index_or sorted j e in
+          let x_worth : x.value.0 ≡ group_worth s x.place = (known i e (omega arith)).worth in
+          let y_worth : y.value.0 ≡ group_worth s y.place = (known j e (omega arith)).worth in
+          let other : x.place ≢ y.place = apart i j e less (omega arith) in
+          let first : slice_index_or (map (λ (r : Rank). r.place) sorted) i d ≡ x.place = get_or-map (λ r. r.place) sorted i e d (omega arith) in
+          let second : slice_index_or (map (λ (r : Rank). r.place) sorted) j d ≡ y.place = get_or-map (λ r. r.place) sorted j e d (omega arith) in
+          let holds : (group_worth s y.place < group_worth s x.place) ⊎ ((group_worth s x.place ≡ group_worth s y.place) × (x.place < y.place)) = elim (falling i j e less (omega arith)) [
+            | inl worth ↦ inl (omega arith)
+            | inr tie ↦ inr (omega arith, omega arith)
+          ] in
+          rw (first, second) holds;
     }

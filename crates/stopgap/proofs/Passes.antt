@@ -1,15 +1,15 @@
 -- One pass over the groups, and why a second adds nothing.
-use Rattle.std.proofs.Common.{◌≡◌, ◌≢◌, ℕ, ◌+◌, ◌<◌, ◌≤◌, ◌⊎◌, inl, inr, List, [], ◌∷◌, ◌++◌, length, map, slice_index_or, take, Option, Some, None, All, AllPairs, Contains, refl, sym, ◌∙◌, ap, subst, arith}
+use Rattle.std.proofs.Common.{◌≡◌, ◌≢◌, ℕ, ◌+◌, ◌<◌, ◌≤◌, ◌⊎◌, inl, inr, List, [], ◌∷◌, ◌++◌, length, slice_index_or, take, Some, None, All, Contains, refl, sym, ◌∙◌, ap, subst, arith}
 use Rattle.std.proofs.lemmas.List.{map_push, take_more, take_all, length_push, get_or_append_left, get_or_default}
 use Rattle.std.proofs.lemmas.List.Elements.{All-nil, All-cons, All-head, All-tail, Contains-push_cases, Contains-append_left}
 use Rattle.plan_base.specs.declared.parts.Parts.{Parts}
 use Rattle.plan_base.specs.declared.parts.RequestPart.{RequestPart}
 use Rattle.plan_base.specs.declared.claim.Placement.{Placement}
-use Rattle.plan_base.specs.Requests.{quota_of, place_of, members}
+use Rattle.plan_base.specs.Requests.{quota_of, place_of}
 use Rattle.plan_base.specs.Feasible.{requests_of}
 use Rattle.plan_base.specs.Starts.{ShareSlice}
-use Rattle.plan_base.specs.Saturated.{IsFree, HasNoFree, HasNonePlaced}
-use Rattle.plan_base.specs.Fill.{group_worth, IsFillOrder, TriesOne, VisitsGroup, VisitsEach, IsPass, PassesTo, IsGreedy}
+use Rattle.plan_base.specs.Saturated.{IsFree, HasNonePlaced}
+use Rattle.plan_base.specs.Fill.{group_worth, IsFillOrder, TriesOne, VisitsGroup, VisitsEach, IsPass, IsGreedy}
 use Rattle.plan_base.specs.Snapshot.{IsOrderly}
 use Rattle.stopgap.specs.declared.fill.Timeline.{Timeline}
 use Rattle.stopgap.specs.Stopgap.{IsSimple, StandsAt}
@@ -33,8 +33,8 @@ free_before : (s : Parts) (plan : List Placement) (p x : Placement) → quota_of
 free_before s plan p x none free = record {
   possible = free.possible;
   apart = λ k d below.
-    let more : length (plan ++ p ∷ []) ≡ length plan + 1 = length_push plan p in
-    subst (λ (q : Placement). ¬ (ShareSlice s x q)) (get_or_append_left plan (p ∷ []) d k below) (free.apart k d (omega arith));
+      let more : length (plan ++ p ∷ []) ≡ length plan + 1 = length_push plan p in
+      subst (λ (q : Placement). ¬ (ShareSlice s x q)) (get_or_append_left plan (p ∷ []) d k below) (free.apart k d (omega arith));
   within_quota = λ q named. let both : None ≡ Some q = sym none ∙ named in cc;
 }
 
@@ -95,8 +95,8 @@ next_not_placed s order i t simple orderly is_order below filled =
     let stands = stands_below s (slice_index_or order i 0) simple orderly (is_order.places i 0 below) in
     let r : ℕ = stands.0.request.0 in
     let fresh : ¬ (Contains (requests_of t.plan.items) r) = λ has.
-      let earlier = filled.visited r has in
-      order_differs s order earlier.0 i is_order earlier.1 below (earlier.2 ∙ stands.1.place) in
+    let earlier = filled.visited r has in
+    order_differs s order earlier.0 i is_order earlier.1 below (earlier.2 ∙ stands.1.place) in
     subst (All (λ n. ¬ (Contains (requests_of t.plan.items) n))) (sym stands.1.members_at)
     (All-cons (λ n. ¬ (Contains (requests_of t.plan.items) n)) r [] fresh (All-nil (λ n. ¬ (Contains (requests_of t.plan.items) n))))
 
@@ -137,9 +137,12 @@ greedy_by_passes s (p ∷ ps) first second = ((p ∷ ps) ∷ [], (first, (λ e. 
 -- after the whole order the plan is greedy
 pub greedy_from : (s : Parts) (order : List ℕ) (i : ℕ) (t : Timeline) → IsSimple s → IsOrderly s → IsFillOrder s order → length order ≤ i → IsFilledTo s order i t → IsGreedy s t.plan.items
 greedy_from s order i t simple orderly is_order whole filled =
-    greedy_by_passes s t.plan.items (order, is_order, subst (λ (gs : List ℕ). VisitsEach s [] gs t.plan.items) (take_all i order whole) filled.visits)
-    (order, is_order, visits_none s t.plan.items order (λ k d below.
-      let stands = stands_below s (slice_index_or order k 0) simple orderly (is_order.places k 0 below) in
-      let again : VisitsGroup s t.plan.items (slice_index_or order k 0) t.plan.items = visit_from_try s t.plan.items t.plan.items (slice_index_or order k 0) stands.0 simple stands.1
-        (try_settled s t.plan.items stands.0.request.0 (filled.settled k stands.0 (omega arith) stands.1)) in
-      subst (λ (g : ℕ). VisitsGroup s t.plan.items g t.plan.items) (get_or_default order k 0 d below) again))
+    greedy_by_passes s t.plan.items (order, is_order, subst (λ (gs : List ℕ). VisitsEach s [] gs t.plan.items) (take_all i order whole) filled.visits) (
+      order,
+      is_order,
+      visits_none s t.plan.items order (λ k d below.
+          let stands = stands_below s (slice_index_or order k 0) simple orderly (is_order.places k 0 below) in
+          let again : VisitsGroup s t.plan.items (slice_index_or order k 0) t.plan.items = visit_from_try s t.plan.items t.plan.items (slice_index_or order k 0) stands.0 simple stands.1
+          (try_settled s t.plan.items stands.0.request.0 (filled.settled k stands.0 (omega arith) stands.1)) in
+          subst (λ (g : ℕ). VisitsGroup s t.plan.items g t.plan.items) (get_or_default order k 0 d below) again),
+    )

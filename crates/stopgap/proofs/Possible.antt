@@ -1,18 +1,16 @@
 -- On a simple desk a request may start where it lies within the horizon and inside its window.
-use Rattle.std.proofs.Common.{◌≡◌, ℕ, ◌+◌, ◌-◌, ◌*◌, ◌/◌, ◌<◌, ◌≤◌, min, max, List, [], ◌∷◌, length, map, slice_index_or, Option, Some, None, All, Any, Contains, refl, sym, ◌∙◌, ap, subst, arith}
+use Rattle.std.proofs.Common.{◌≡◌, ℕ, ◌+◌, ◌-◌, ◌*◌, ◌<◌, ◌≤◌, List, [], ◌∷◌, map, slice_index_or, None, All, Any, Contains, refl, sym, ◌∙◌, ap, subst, arith}
 use Rattle.std.proofs.Math.Nat.{mul-le-mul_right}
 use Rattle.std.proofs.lemmas.List.Elements.{All-nil}
 use Rattle.plan_base.specs.declared.parts.Parts.{Parts}
 use Rattle.plan_base.specs.declared.parts.TelescopePart.{TelescopePart}
 use Rattle.plan_base.specs.declared.parts.RequestPart.{RequestPart}
 use Rattle.plan_base.specs.declared.number.TelescopeNo.{TelescopeNo}
-use Rattle.plan_base.specs.declared.number.TargetNo.{TargetNo}
 use Rattle.plan_base.specs.declared.span.Span.{Span}
 use Rattle.plan_base.specs.declared.claim.Placement.{Placement}
-use Rattle.plan_base.specs.Requests.{IsKnown, quota_of, seconds_of, request_value, fade_of, windows_of, telescopes_of, targets_of}
+use Rattle.plan_base.specs.Requests.{quota_of, seconds_of, request_value, fade_of, windows_of, telescopes_of, targets_of}
 use Rattle.plan_base.specs.Starts.{HasSecond, IsPossibleStart, IsUsable, IsVisible, IsObserved, site_of, slices_for, size_of, earliest_slice, faded, worth_at}
-use Rattle.plan_base.specs.Snapshot.{IsOrderly}
-use Rattle.stopgap.specs.Stopgap.{IsSimple, horizon_of, whole_horizon, StandsAt}
+use Rattle.stopgap.specs.Stopgap.{IsSimple, horizon_of, StandsAt}
 use Rattle.stopgap.specs.Timeline.{CanBegin}
 use Rattle.stopgap.proofs.Simple.{known_or_is, known_at}
 use Rattle.stopgap.proofs.Rooms.{slices_le}
@@ -91,7 +89,7 @@ possible_from s i q k pos simple stands can =
       begins = can.begins;
       ends = omega arith;
       window = subst (λ (ws : List Span). Any (λ w. (w.from.0 ≤ k * s.len) × (k * s.len + seconds_of s q.request.0 ≤ w.to.0)) ws) (sym (windows_is s i q stands))
-      (subst (λ (d : ℕ). Any (λ w. (w.from.0 ≤ k * s.len) × (k * s.len + d ≤ w.to.0)) q.windows) (sym seconds) can.window);
+          (subst (λ (d : ℕ). Any (λ w. (w.from.0 ≤ k * s.len) × (k * s.len + d ≤ w.to.0)) q.windows) (sym seconds) can.window);
       usable = λ x seen. let until : x < k * s.len + seconds_of s q.request.0 = seen.1 in usable_in s x simple (omega arith) (omega arith);
       visible = subst (All (λ target. (x : ℕ) → IsObserved s (start_at q k) x → IsVisible s target.0 (site_of s 0) x)) (sym (targets_is s i q stands)) (All-nil (λ target. (x : ℕ) → IsObserved s (start_at q k) x → IsVisible s target.0 (site_of s 0) x));
     }

@@ -1,12 +1,11 @@
 -- In which ranges a request's numbers lie.
-use Rattle.std.proofs.Common.{◌≡◌, ℕ, zero, suc, ◌+◌, ◌<◌, ◌≤◌, List, [], ◌∷◌, ◌++◌, length, slice_index_or, slice_get, Some, All, refl, sym, ◌∙◌, ap, subst, arith}
+use Rattle.std.proofs.Common.{◌≡◌, ℕ, zero, suc, ◌+◌, ◌≤◌, List, [], ◌∷◌, ◌++◌, length, slice_get, Some, All, subst, arith}
 use Rattle.std.specs.List.{flat_map}
 use Rattle.std.proofs.lemmas.List.{length-append, get_or_append_left, get_or-append-add}
 use Rattle.std.proofs.lemmas.Option.{slice_get_within, get_or_from_slice_get}
 use Rattle.plan_base.specs.declared.parts.Parts.{Parts}
 use Rattle.plan_base.specs.declared.parts.RequestPart.{RequestPart}
-use Rattle.plan_base.specs.declared.span.Span.{Span}
-use Rattle.plan_base.specs.Requests.{Listed, listed}
+use Rattle.plan_base.specs.Requests.{listed}
 use Rattle.plan_base.specs.Snapshot.{IsMoment, IsOrderly}
 use Rattle.stopgap.specs.Stopgap.{StandsAt, only_at}
 use Rattle.stopgap.specs.Timeline.{IsTimely}
@@ -40,5 +39,5 @@ timely s i q orderly stands =
       some = seconds.0;
       most = seconds.1;
       moments = all_of_one (λ w. IsMoment w.from.0 × IsMoment w.to.0) (λ x. x.request.windows) (listed s) i (only_at i q) stands.listed_at
-      (all_right (λ w. IsMoment w.from.0 × IsMoment w.to.0) (flat_map (λ t. t.usable) s.telescopes ++ flat_map (λ y. y.spans) s.skies) (flat_map (λ x. x.request.windows) (listed s)) orderly.ranges.moments);
+          (all_right (λ w. IsMoment w.from.0 × IsMoment w.to.0) (flat_map (λ t. t.usable) s.telescopes ++ flat_map (λ y. y.spans) s.skies) (flat_map (λ x. x.request.windows) (listed s)) orderly.ranges.moments);
     }

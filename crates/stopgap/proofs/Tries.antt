@@ -1,25 +1,20 @@
 -- A group of one request is visited by a try of the request.
-use Rattle.std.proofs.Common.{◌≡◌, ◌≢◌, ℕ, ◌+◌, ◌<◌, ◌≤◌, ◌⊎◌, inl, inr, List, [], ◌∷◌, ◌++◌, length, map, slice_index_or, take, Option, Some, None, All, AllPairs, Contains, refl, sym, ◌∙◌, ap, subst, arith}
+use Rattle.std.proofs.Common.{◌≡◌, ℕ, ◌<◌, ◌⊎◌, inl, inr, List, [], ◌∷◌, ◌++◌, length, slice_index_or, None, Contains, refl, sym, ◌∙◌, subst}
 use Rattle.std.proofs.lemmas.List.{map_push, get_or_past}
-use Rattle.std.proofs.lemmas.List.Elements.{Contains-push, Contains-push_cases, Contains-append_left, Contains-get_or}
-use Rattle.std.proofs.lemmas.Option.{slice_get_within, slice_get_cases, get_or_from_slice_get}
+use Rattle.std.proofs.lemmas.List.Elements.{Contains-push}
+use Rattle.std.proofs.lemmas.Option.{slice_get_cases}
 use Rattle.plan_base.specs.declared.parts.Parts.{Parts}
 use Rattle.plan_base.specs.declared.parts.GroupPart.{GroupPart}
 use Rattle.plan_base.specs.declared.parts.RequestPart.{RequestPart}
 use Rattle.plan_base.specs.declared.parts.Op.{Op}
-use Rattle.plan_base.specs.declared.parts.Op.TheVariants.{Single, Many, OneOf, And}
+use Rattle.plan_base.specs.declared.parts.Op.TheVariants.{Single, OneOf, And}
 use Rattle.plan_base.specs.declared.claim.Placement.{Placement}
-use Rattle.plan_base.specs.Requests.{quota_of, place_of, IsKind, members}
-use Rattle.plan_base.specs.Starts.{ShareSlice}
+use Rattle.plan_base.specs.Requests.{IsKind}
 use Rattle.plan_base.specs.Feasible.{requests_of}
-use Rattle.plan_base.specs.Saturated.{IsFree, HasNoFree, HasNonePlaced, IsEarliestFree}
-use Rattle.plan_base.specs.Fill.{IsFillOrder, TriesOne, TriesEach, VisitsGroup, VisitsEach, IsPass, PassesTo, IsFilled, IsGreedy}
-use Rattle.plan_base.specs.Snapshot.{IsOrderly}
-use Rattle.stopgap.specs.declared.fill.Timeline.{Timeline}
+use Rattle.plan_base.specs.Saturated.{HasNoFree}
+use Rattle.plan_base.specs.Fill.{TriesOne, TriesEach, VisitsGroup}
 use Rattle.stopgap.specs.Stopgap.{IsSimple, IsSimpleGroup, StandsAt}
-use Rattle.stopgap.specs.Timeline.{IsTimeline}
-use Rattle.stopgap.proofs.Simple.{stands_below, simple_group_at}
-use Rattle.stopgap.proofs.Possible.{quota_is}
+use Rattle.stopgap.proofs.Simple.{simple_group_at}
 
 -- each group of a simple desk is a SINGLE, and past the groups there is no kind
 pub single_at : (s : Parts) (k : Op) (g : ℕ) → IsSimple s → IsKind s k g → k ≡ Single
@@ -47,6 +42,7 @@ visit_from_try s plan after g q simple stands tries = record {
 } where
   not_oneof : (s : Parts) (g : ℕ) → IsSimple s → ¬ (IsKind s OneOf g)
   not_oneof s g simple kind = let same : OneOf ≡ Single = single_at s OneOf g simple kind in cc
+
   not_and : (s : Parts) (g : ℕ) → IsSimple s → ¬ (IsKind s And g)
   not_and s g simple kind = let same : And ≡ Single = single_at s And g simple kind in cc
 

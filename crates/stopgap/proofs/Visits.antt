@@ -1,14 +1,13 @@
 -- What a visit does to a plan and its marks.
-use Rattle.std.proofs.Common.{◌≡◌, ◌≢◌, ℕ, ◌+◌, ◌-◌, ◌*◌, ◌<◌, ◌≤◌, ◌↔◌, ◌⊎◌, inl, inr, Bool, true, false, List, [], ◌∷◌, ◌++◌, length, map, slice_index_or, Option, Some, None, All, AllPairs, Any, Contains, sum_by, replicate, refl, sym, ◌∙◌, ap, subst, arith}
-use Rattle.std.proofs.lemmas.List.{get_or_default, map_push, get_or-replicate, length-replicate, length-append, get_or_append_left, length_push, get_or_push}
-use Rattle.std.proofs.lemmas.List.Elements.{All-push, All-head, Contains-push_cases, Contains-get_or}
+use Rattle.std.proofs.Common.{◌≡◌, ◌≢◌, ℕ, ◌+◌, ◌-◌, ◌*◌, ◌<◌, ◌≤◌, ◌⊎◌, inl, inr, Bool, false, List, [], ◌∷◌, ◌++◌, length, slice_index_or, All, AllPairs, Any, Contains, replicate, refl, sym, ◌∙◌, ap, subst, arith}
+use Rattle.std.proofs.lemmas.List.{map_push, get_or-replicate, length-replicate, get_or_append_left, length_push, get_or_push}
+use Rattle.std.proofs.lemmas.List.Elements.{All-push, All-head, Contains-get_or}
 use Rattle.std.proofs.lemmas.List.Quantifiers.{all_pairs_push, Any-push}
-use Rattle.std.proofs.lemmas.List.Sums.{sum_by-le, sum_by-append, sum_by_push}
+use Rattle.std.proofs.lemmas.List.Sums.{sum_by-le, sum_by_push}
 use Rattle.plan_base.specs.declared.parts.Parts.{Parts}
 use Rattle.plan_base.specs.declared.parts.RequestPart.{RequestPart}
 use Rattle.plan_base.specs.declared.claim.Placement.{Placement}
-use Rattle.plan_base.specs.Requests.{IsKnown, quota_of, telescopes_of}
-use Rattle.plan_base.specs.Starts.{IsPossibleStart, ShareSlice, Occupies, slices_for, size_of, worth_at, value_of_plan}
+use Rattle.plan_base.specs.Starts.{IsPossibleStart, ShareSlice, Occupies, size_of, worth_at, value_of_plan}
 use Rattle.plan_base.specs.Feasible.{requests_of, IsEachPossible, IsEachOnce, IsDisjoint}
 use Rattle.plan_base.specs.Saturated.{IsFree, HasNonePlaced}
 use Rattle.plan_base.specs.Fill.{VisitsGroup}
@@ -19,7 +18,7 @@ use Rattle.stopgap.specs.Stopgap.{IsSimple, StandsAt}
 use Rattle.stopgap.specs.Timeline.{IsRoomOf, HasRoom, MarksTaken, IsTakenAfter, IsTimeline, AddsStart}
 use Rattle.stopgap.proofs.Simple.{known_stands}
 use Rattle.stopgap.proofs.Ranges.{value_in_range}
-use Rattle.stopgap.proofs.Possible.{start_at, size_is, quota_is, possible_gives, possible_from, worth_is}
+use Rattle.stopgap.proofs.Possible.{start_at, size_is, worth_is}
 use Rattle.stopgap.proofs.Free.{room_from_free, free_from_room, earliest_from_room}
 use Rattle.stopgap.proofs.Tries.{visit_from_try}
 
@@ -63,27 +62,27 @@ marks_more s plan before after p from to marks same taken starts ends =
     record {
       count = same ∙ count;
       marked = λ k below.
-        let now = taken k (omega arith) in
-        let then = marks.marked k below in (
-          λ t. elim (now.0 t) [
-            | inl old ↦ any_before (λ x. Occupies s x (s.first.0 + k)) plan p (then.0 old)
-            | inr new ↦ Any-push (λ x. Occupies s x (s.first.0 + k)) plan p (omega arith, omega arith)
-          ],
-          λ any. now.1 (elim (any_push_cases (λ x. Occupies s x (s.first.0 + k)) plan p any) [
-            | inl old ↦ inl (then.1 old)
-            | inr new ↦ inr (omega arith, omega arith)
-          ]),
-        );
+          let now = taken k (omega arith) in
+          let then = marks.marked k below in (
+            λ t. elim (now.0 t) [
+              | inl old ↦ any_before (λ x. Occupies s x (s.first.0 + k)) plan p (then.0 old)
+              | inr new ↦ Any-push (λ x. Occupies s x (s.first.0 + k)) plan p (omega arith, omega arith)
+            ],
+            λ any. now.1 (elim (any_push_cases (λ x. Occupies s x (s.first.0 + k)) plan p any) [
+              | inl old ↦ inl (then.1 old)
+              | inr new ↦ inr (omega arith, omega arith)
+            ]),
+          );
     }
 
 -- a plan of possible starts is worth at most the greatest value for each
 pub value_most : (s : Parts) (plan : List Placement) → IsSimple s → IsOrderly s → IsEachPossible s plan → value_of_plan s plan ≤ length plan * 288000000
 value_most s plan simple orderly each = sum_by-le (worth_at s) 288000000 plan (λ k d below.
-  let p : Placement = slice_index_or plan k d in
-  let stands = known_stands s p.request.0 simple orderly (each k d below).known in
-  let ranges = value_in_range s _ stands.0 orderly stands.1 in
-  let worth : worth_at s p ≡ stands.0.value = worth_is s _ stands.0 p stands.1 ranges.0 (sym stands.2) in
-  omega arith)
+    let p : Placement = slice_index_or plan k d in
+    let stands = known_stands s p.request.0 simple orderly (each k d below).known in
+    let ranges = value_in_range s _ stands.0 orderly stands.1 in
+    let worth : worth_at s p ≡ stands.0.value = worth_is s _ stands.0 p stands.1 ranges.0 (sym stands.2) in
+    omega arith)
 
 -- a free start of a request that isn't placed keeps the rules of the plan
 pub timeline_more : (s : Parts) (before after : Timeline) (i : ℕ) (q : RequestPart) (p : Placement)
@@ -100,9 +99,9 @@ timeline_more s before after i q p orderly stands same old free fresh plan marks
     record {
       possible = subst (IsEachPossible s) (sym plan) (All-push (IsPossibleStart s) before.plan.items p old.possible free.possible);
       once = subst IsEachOnce (sym plan) (subst (AllPairs (λ a b. a ≢ b)) (sym numbers) (all_pairs_push (λ a b. a ≢ b) (requests_of before.plan.items) p.request.0 old.once
-      (λ k d below e. fresh (subst (Contains (requests_of before.plan.items)) (e ∙ same) (Contains-get_or (requests_of before.plan.items) k d below)))));
+          (λ k d below e. fresh (subst (Contains (requests_of before.plan.items)) (e ∙ same) (Contains-get_or (requests_of before.plan.items) k d below)))));
       disjoint = subst (IsDisjoint s) (sym plan) (all_pairs_push (λ a b. ¬ (ShareSlice s a b)) before.plan.items p old.disjoint
-      (λ k d below share. free.apart k d below (sym share.0, share.1, share.3, share.2)));
+          (λ k d below share. free.apart k d below (sym share.0, share.1, share.3, share.2)));
       marks = subst (λ (l : List Placement). MarksTaken s l after.taken.items) (sym plan) marks;
       value = let whole : after.value ≡ value_of_plan s (before.plan.items ++ p ∷ []) = omega arith in subst (λ (l : List Placement). after.value ≡ value_of_plan s l) (sym plan) whole;
     }

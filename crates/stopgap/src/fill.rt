@@ -46,7 +46,13 @@ impl Timeline {
 
     /// Adds a start that takes the slices of the horizon from `from` to the one before `to`. Fails only for want of
     /// memory.
-    fn add(&mut self, start: Placement, from: usize, to: usize, value: u32) -> Result<(), AllocError>
+    fn add(
+        &mut self,
+        start: Placement,
+        from: usize,
+        to: usize,
+        value: u32,
+    ) -> Result<(), AllocError>
         requires order { from ≤ to }
         requires end { to ≤ length self.old.taken.items }
         requires value { self.old.value + value < 2 ^ 64 }

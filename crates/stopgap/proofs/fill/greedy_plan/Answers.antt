@@ -1,4 +1,4 @@
-use Rattle.std.proofs.Common.{ℕ, ◌≤◌, length, arith}
+use Rattle.std.proofs.Common.{◌≤◌, length, arith}
 use Rattle.plan_base.specs.declared.fault.Counted.TheVariants.{Groups}
 use Rattle.stopgap.proofs.Passes.{next_not_placed, filled_more, greedy_from}
 use Rattle.stopgap.proofs.fill.greedy_plan.Goals as goal

@@ -1,4 +1,4 @@
-use Rattle.std.proofs.Common.{◌+◌, sym, subst, arith}
+use Rattle.std.proofs.Common.{◌+◌, sym, subst}
 use Rattle.stopgap.specs.Order.{AreRanksOf}
 use Rattle.stopgap.proofs.Orders.{ranks_more}
 use Rattle.stopgap.proofs.order.ranks_of.Goals as goal

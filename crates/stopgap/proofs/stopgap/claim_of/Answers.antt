@@ -1,5 +1,5 @@
 use Rattle.std.proofs.Common.{refl}
-use Rattle.stopgap.proofs.Listings.{IsMadeOf, stopgap_from, certified_from}
+use Rattle.stopgap.proofs.Listings.{stopgap_from, certified_from}
 use Rattle.stopgap.proofs.stopgap.claim_of.Goals as goal
 
 pub returns-clause-stopgap : goal.returns-clause-stopgap

@@ -1,4 +1,4 @@
-use Rattle.std.proofs.Common.{◌≡◌, ℕ, ◌+◌, ◌*◌, ◌<◌, ◌≤◌, List, length, Some, arith}
+use Rattle.std.proofs.Common.{ℕ, ◌*◌, ◌≤◌, length, arith}
 use Rattle.std.proofs.lemmas.Result.{on_ok_weaker}
 use Rattle.plan_base.specs.Starts.{value_of_plan}
 use Rattle.stopgap.specs.Timeline.{HasRoom}
@@ -27,10 +27,10 @@ returns-in_default-clause-visit c =
 
 pub returns-clause-valid : goal.returns-clause-valid
 returns-clause-valid c = on_ok_weaker c.add.result (λ adds.
-  let found : HasRoom c.args.self.now.taken.items c.room_of-room.result c.in-Some.from × ((i : ℕ) → HasRoom c.args.self.now.taken.items c.room_of-room.result i → c.in-Some.from ≤ i) = rw (← c.deref.ensures.value) c.in-Some.ensures in
-  timeline_added c.args.parts.now c.args.self.now c.add.new.self c.args.place c.request_at-request.result.now c.room_of-room.result c.in-Some.from c.requires.simple c.requires.orderly c.request_at-request.ensures c.room_of-room.ensures.room c.requires.valid c.requires.not_placed found.0 adds) c.add.ensures
+    let found : HasRoom c.args.self.now.taken.items c.room_of-room.result c.in-Some.from × ((i : ℕ) → HasRoom c.args.self.now.taken.items c.room_of-room.result i → c.in-Some.from ≤ i) = rw (← c.deref.ensures.value) c.in-Some.ensures in
+    timeline_added c.args.parts.now c.args.self.now c.add.new.self c.args.place c.request_at-request.result.now c.room_of-room.result c.in-Some.from c.requires.simple c.requires.orderly c.request_at-request.ensures c.room_of-room.ensures.room c.requires.valid c.requires.not_placed found.0 adds) c.add.ensures
 
 pub returns-clause-visit : goal.returns-clause-visit
 returns-clause-visit c = on_ok_weaker c.add.result (λ adds.
-  let found : HasRoom c.args.self.now.taken.items c.room_of-room.result c.in-Some.from × ((i : ℕ) → HasRoom c.args.self.now.taken.items c.room_of-room.result i → c.in-Some.from ≤ i) = rw (← c.deref.ensures.value) c.in-Some.ensures in
-  visit_added c.args.parts.now c.args.self.now c.add.new.self c.args.place c.request_at-request.result.now c.room_of-room.result c.in-Some.from c.requires.simple c.requires.orderly c.request_at-request.ensures c.room_of-room.ensures.room c.requires.valid c.requires.not_placed found.0 found.1 adds) c.add.ensures
+    let found : HasRoom c.args.self.now.taken.items c.room_of-room.result c.in-Some.from × ((i : ℕ) → HasRoom c.args.self.now.taken.items c.room_of-room.result i → c.in-Some.from ≤ i) = rw (← c.deref.ensures.value) c.in-Some.ensures in
+    visit_added c.args.parts.now c.args.self.now c.add.new.self c.args.place c.request_at-request.result.now c.room_of-room.result c.in-Some.from c.requires.simple c.requires.orderly c.request_at-request.ensures c.room_of-room.ensures.room c.requires.valid c.requires.not_placed found.0 found.1 adds) c.add.ensures
