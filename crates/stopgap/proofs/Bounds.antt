@@ -1,8 +1,8 @@
 -- The bound at prices that are the values: every weight is 0, and each rebate is the value.
-use Rattle.std.proofs.Common.{◌≡◌, ◌≢◌, ℕ, ◌+◌, ◌<◌, ◌≤◌, ℤ, pos, ◌≤ℤ◌, List, [], ◌∷◌, length, map, slice_index_or, slice_get, Option, Some, All, AllPairs, sum_by, refl, sym, ◌∙◌, ap, subst, arith}
+use Rattle.std.proofs.Common.{◌≡◌, ◌≢◌, ℕ, ◌+◌, ◌<◌, ◌≤◌, ℤ, pos, ◌≤ℤ◌, List, [], ◌∷◌, length, map, slice_index_or, slice_get, Option, Some, All, AllPairs, sum_by, refl, sym, ◌∙◌, ap, subst, arith, take, ◌++◌}
 use Rattle.std.specs.Option.{option_map}
 use Rattle.std.proofs.lemmas.Int.{ints}
-use Rattle.std.proofs.lemmas.List.{length-map}
+use Rattle.std.proofs.lemmas.List.{length-map, map_push}
 use Rattle.std.proofs.lemmas.List.Elements.{All-nil, All-cons, All-head, All-tail}
 use Rattle.std.proofs.lemmas.List.Sums.{sum_by-cons}
 use Rattle.std.proofs.lemmas.Option.{slice_get-map, get_or_from_slice_get}
@@ -16,7 +16,7 @@ use Rattle.plan_base.specs.Starts.{IsPossibleStart, worth_at}
 use Rattle.plan_base.specs.Bound.{price, weight, surplus, IsBest, charge, net_price, IsRebate, IsBound}
 use Rattle.plan_base.specs.Snapshot.{IsOrderly}
 use Rattle.stopgap.specs.Stopgap.{IsSimple, StandsAt, only_at, value_prices}
-use Rattle.stopgap.proofs.Simple.{known_or_is, known_at, known_stands, stands_below, length-listed}
+use Rattle.stopgap.proofs.Simple.{listed_more, known_or_is, known_at, known_stands, stands_below, length-listed}
 use Rattle.stopgap.proofs.Possible.{quota_is, worth_is}
 use Rattle.stopgap.proofs.Ranges.{value_in_range}
 use Rattle.stopgap.proofs.Tries.{single_at}
@@ -35,6 +35,14 @@ total_of_naturals f (x ∷ xs) =
     let rest : total (λ b. b) (map (λ x. pos (f x)) xs) ≡ pos (sum_by f xs) = total_of_naturals f xs in
     let sum : sum_by f (x ∷ xs) ≡ f x + sum_by f xs = sum_by-cons f x xs in
     rw sum (omega (arith, ints))
+
+-- one price more
+pub prices_more : (s : Parts) (i : ℕ) (q : RequestPart) (before after : List ℤ) (item : ℤ) → StandsAt s i q → item ≡ pos q.value → before ≡ map (λ x. pos x.request.value) (take i (listed s))
+    → after ≡ before ++ item ∷ [] → after ≡ map (λ x. pos x.request.value) (take (i + 1) (listed s))
+prices_more s i q before after item stands is old pushed =
+    let more : map (λ x. pos x.request.value) (take (i + 1) (listed s)) ≡ map (λ x. pos x.request.value) (take i (listed s)) ++ pos q.value ∷ [] =
+      ap (map (λ (x : Listed). pos x.request.value)) (listed_more s i q stands) ∙ map_push (λ (x : Listed). pos x.request.value) (take i (listed s)) (only_at i q) in
+    pushed ∙ ap (λ (z : ℤ). before ++ z ∷ []) is ∙ ap (λ (l : List ℤ). l ++ pos q.value ∷ []) old ∙ sym more
 
 -- the price of a request is its value
 pub price_is : (s : Parts) (i : ℕ) (q : RequestPart) → StandsAt s i q → price s (value_prices s) q.request.0 ≡ pos q.value

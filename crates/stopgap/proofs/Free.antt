@@ -1,12 +1,12 @@
 -- The free starts of a request are those of its room whose slices aren't marked.
-use Rattle.std.proofs.Common.{◌≡◌, ℕ, ◌+◌, ◌-◌, ◌<◌, ◌≤◌, ◌⊎◌, inl, inr, Bool, true, false, List, slice_index_or, None, refl, sym, ◌∙◌, ap, subst, arith}
+use Rattle.std.proofs.Common.{◌≡◌, ℕ, ◌+◌, ◌-◌, ◌<◌, ◌≤◌, ◌⊎◌, inl, inr, Bool, true, false, All, List, slice_index_or, None, refl, sym, ◌∙◌, ap, subst, arith, Any}
 use Rattle.std.proofs.lemmas.Bool.{cases_Bool}
 use Rattle.std.proofs.lemmas.List.{get_or_default}
 use Rattle.plan_base.specs.declared.parts.Parts.{Parts}
 use Rattle.plan_base.specs.declared.parts.RequestPart.{RequestPart}
 use Rattle.plan_base.specs.declared.claim.Placement.{Placement}
 use Rattle.plan_base.specs.Requests.{quota_of}
-use Rattle.plan_base.specs.Starts.{IsPossibleStart, ShareSlice, size_of}
+use Rattle.plan_base.specs.Starts.{Occupies, IsPossibleStart, ShareSlice, size_of}
 use Rattle.plan_base.specs.Feasible.{IsEachPossible}
 use Rattle.plan_base.specs.Saturated.{IsFree, IsNoLater, IsEarliestFree}
 use Rattle.plan_base.specs.Snapshot.{IsOrderly}
@@ -21,6 +21,14 @@ pub on_the_one : (s : Parts) (p : Placement) → IsSimple s → IsOrderly s → 
 on_the_one s p simple orderly possible =
     let stands = known_stands s p.request.0 simple orderly possible.known in
     (possible_gives s _ stands.0 p stands.1 (sym stands.2) possible).0
+
+-- what holds of all holds of one that is found
+known_of_any : {X : Type 0} (P Q : X → Type 0) (xs : List X) → All P xs → (any : Any Q xs) → P any.1
+known_of_any P Q xs all (k, x, below, at, holds) = subst P at (all k x below)
+
+-- what holds of none is not found
+none_of_all : {X : Type 0} (P : X → Type 0) (xs : List X) → All (λ x. ¬ (P x)) xs → ¬ (Any P xs)
+none_of_all P xs all (k, x, below, at, holds) = subst (λ y. ¬ (P y)) at (all k x below) holds
 
 -- a free start of the request begins where the room has room
 pub room_from_free : (s : Parts) (i : ℕ) (q : RequestPart) (plan : List Placement) (taken : List Bool) (room : Room) (p : Placement)
@@ -39,10 +47,8 @@ room_from_free s i q plan taken room p simple orderly stands is_room marks each 
         | inl t ↦
             let below : k < s.slices = omega arith in
             let by = (marks.marked k below).0 t in
-            let here : slice_index_or plan by.0 by.1 ≡ by.1 = by.3 in
-            let other : by.1.telescope ≡ record { 0 = 0 } = on_the_one s by.1 simple orderly (subst (IsPossibleStart s) here (each by.0 by.1 by.2)) in
-            let share : ShareSlice s p by.1 = (gives.0 ∙ sym other, s.first.0 + k, (omega arith, omega arith), by.4) in
-            absurd (subst (λ (x : Placement). ¬ (ShareSlice s p x)) here (free.apart by.0 by.1 by.2) share)
+            let other : by.1.telescope ≡ record { 0 = 0 } = on_the_one s by.1 simple orderly (known_of_any (IsPossibleStart s) (λ q. Occupies s q (s.first.0 + k)) plan each by) in
+            absurd (none_of_all (ShareSlice s p) plan free.apart (by.0, by.1, by.2, by.3, (gives.0 ∙ sym other, s.first.0 + k, (omega arith, omega arith), by.4)))
       ],
     )
 

@@ -11,3 +11,4 @@ pub mod Orders
 pub mod Pairs
 pub mod Bounds
 pub mod Listings
+pub mod DeskRanges

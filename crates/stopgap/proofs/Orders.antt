@@ -7,7 +7,7 @@ use Rattle.std.proofs.lemmas.Bool.{cases_eq, cases_lt}
 use Rattle.std.proofs.lemmas.Map.Keys.{ge_from_not_lt}
 use Rattle.stopgap.proofs.Pairs.{all_pairs_permutation, all_pairs_from_neighbours}
 use Rattle.std.proofs.lemmas.List.{length_push, length-map, get_or-map, get_or_append_left, get_or_push}
-use Rattle.std.proofs.lemmas.List.Elements.{All-map}
+use Rattle.std.proofs.lemmas.List.Elements.{All-map, Contains-get_or}
 use Rattle.std.proofs.lemmas.List.Sorted.{All-permutation, Contains-permutation}
 use Rattle.std.proofs.lemmas.List.Sums.{sum_by-cons}
 use Rattle.std.proofs.lemmas.Option.{slice_get_within, slice_get_read, slice_get_cases, slice_get-map, get_or_from_slice_get}
@@ -22,37 +22,26 @@ use Rattle.plan_base.specs.Snapshot.{IsOrderly}
 use Rattle.stopgap.specs.declared.order.Rank.{Rank}
 use Rattle.stopgap.specs.Stopgap.{IsSimple, IsSimpleGroup, StandsAt, only_at}
 use Rattle.stopgap.proofs.Simple.{one_request_of, simple_group_at, stands_at}
-use Rattle.stopgap.specs.Order.{rank_at, AreRanksOf, AreRanks}
+use Rattle.stopgap.specs.Order.{IsRankOf, AreRanksOf, AreRanks}
 
 last_or_before : (j i : ℕ) → j < i + 1 → (j ≡ i) ⊎ (j < i)
 last_or_before j i h = grind arith
 
-push_before : (ranks : List Rank) (x : Rank) (i : ℕ) (y : Rank) → slice_get ranks i ≡ Some y → slice_get (ranks ++ x ∷ []) i ≡ Some y
-push_before ranks x i y at =
-    let below : i < length ranks = slice_get_within ranks i y at in
-    let more : length (ranks ++ x ∷ []) ≡ length ranks + 1 = length_push ranks x in
-    slice_get_read (ranks ++ x ∷ []) (length (ranks ++ x ∷ [])) i y refl (omega arith) (sym (get_or_append_left ranks (x ∷ []) y i below ∙ get_or_from_slice_get ranks i y y at))
-
-push_last : (ranks : List Rank) (x : Rank) (i : ℕ) → length ranks ≡ i → slice_get (ranks ++ x ∷ []) i ≡ Some x
-push_last ranks x i len =
-    let more : length (ranks ++ x ∷ []) ≡ length ranks + 1 = length_push ranks x in
-    slice_get_read (ranks ++ x ∷ []) (length (ranks ++ x ∷ [])) i x refl (omega arith) (sym (get_or_push ranks x x i len))
-
 -- one rank more
-pub ranks_more : (s : Parts) (ranks : List Rank) (n : ℕ) (q : RequestPart) → AreRanksOf s n ranks → StandsAt s n q → AreRanksOf s (n + 1) (ranks ++ rank_at n q ∷ [])
-ranks_more s ranks n q are stands =
+pub ranks_more : (s : Parts) (ranks : List Rank) (n : ℕ) (x : Rank) → AreRanksOf s n ranks → IsRankOf s n x → AreRanksOf s (n + 1) (ranks ++ x ∷ [])
+ranks_more s ranks n x are is =
     let count : length ranks ≡ n = are.count in
     record {
-      count = length_push ranks (rank_at n q) ∙ ap (λ (m : ℕ). m + 1) count;
-      each = λ i below. elim (last_or_before i n below) [
-        | inl last ↦ (q, subst (λ (m : ℕ). StandsAt s m q) (sym last) stands, push_last ranks (rank_at n q) i (omega arith) ∙ ap (λ (m : ℕ). Some (rank_at m q)) (sym last))
-        | inr before ↦ let old = are.each i before in (old.0, old.1, push_before ranks (rank_at n q) i (rank_at i old.0) old.2)
+      count = length_push ranks x ∙ ap (λ (m : ℕ). m + 1) count;
+      each = λ i below d. elim (last_or_before i n below) [
+        | inl last ↦ subst (IsRankOf s i) (sym (get_or_push ranks x d i (omega arith))) (subst (λ (m : ℕ). IsRankOf s m x) (sym last) is)
+        | inr before ↦ subst (IsRankOf s i) (sym (get_or_append_left ranks (x ∷ []) d i (omega arith))) (are.each i before d)
       ];
     }
 
 -- a comes before b in the order
 abbrev IsRankedBefore : Rank → Rank → Type 0
-IsRankedBefore a b = (b.value.0 < a.value.0) ⊎ ((a.value.0 ≡ b.value.0) × (a.place ≤ b.place))
+IsRankedBefore a b = (b.worth.0 < a.worth.0) ⊎ ((a.worth.0 ≡ b.worth.0) × (a.place ≤ b.place))
 
 not_less : (a b c d : ℕ) → is_lt (ordering_then (nat_cmp a b) (nat_cmp c d)) ≡ false → (b < a) ⊎ ((a ≡ b) × (d ≤ c))
 not_less a b c d h = elim (cases_lt b a) [
@@ -98,22 +87,20 @@ worth_is_value s i q simple orderly stands = elim (slice_get_cases s.groups i).1
 -- what is known of each rank
 pub record IsRankIn (s : Parts) (r : Rank) : Type 0 where
   pub below : r.place < length s.groups
-  pub worth : r.value.0 ≡ group_worth s r.place
+  pub worth : r.worth.0 ≡ group_worth s r.place
 
-rank_known : (s : Parts) (ranks : List Rank) → IsSimple s → IsOrderly s → AreRanks s ranks → All (IsRankIn s) ranks
-rank_known s ranks simple orderly are = λ k d below.
+rank_known : (s : Parts) (ranks : List Rank) → AreRanks s ranks → All (IsRankIn s) ranks
+rank_known s ranks are = λ k d below.
     let count : length ranks ≡ length s.groups = are.count in
-    let at = are.each k (omega arith) in
-    let here : slice_index_or ranks k d ≡ rank_at k at.0 = get_or_from_slice_get ranks k (rank_at k at.0) d at.2 in
-    subst (IsRankIn s) (sym here) record { below = at.1.below; worth = sym (worth_is_value s k at.0 simple orderly at.1) }
+    let at = are.each k (omega arith) d in
+    let place : (slice_index_or ranks k d).place ≡ k = at.place in
+    record { below = omega arith; worth = at.worth ∙ ap (group_worth s) (sym place) }
 
 rank_places : (s : Parts) (ranks : List Rank) → AreRanks s ranks → AllPairs (λ a b. a.place ≢ b.place) ranks
 rank_places s ranks are = λ i j d less below.
     let count : length ranks ≡ length s.groups = are.count in
-    let first = are.each i (omega arith) in
-    let second = are.each j (omega arith) in
-    let first_place : (slice_index_or ranks i d).place ≡ i = ap (λ (r : Rank). r.place) (get_or_from_slice_get ranks i (rank_at i first.0) d first.2) in
-    let second_place : (slice_index_or ranks j d).place ≡ j = ap (λ (r : Rank). r.place) (get_or_from_slice_get ranks j (rank_at j second.0) d second.2) in
+    let first : (slice_index_or ranks i d).place ≡ i = (are.each i (omega arith) d).place in
+    let second : (slice_index_or ranks j d).place ≡ j = (are.each j (omega arith) d).place in
     omega arith
 
 contains_map : {X Y : Type 0} (f : X → Y) (xs : List X) (x : X) → Contains xs x → Contains (map f xs) (f x)
@@ -122,26 +109,28 @@ contains_map f xs x (k, below, at) =
     (k, omega arith, get_or-map f xs k x (f x) below ∙ ap f at)
 
 -- the places of the sorted ranks are all groups by falling worth, then place
-pub order_from_ranks : (s : Parts) (ranks sorted : List Rank) (order : List ℕ) → IsSimple s → IsOrderly s → AreRanks s ranks → IsPermutation ranks sorted
-    → ((k : ℕ) (d : Rank) → 0 ≤ k → k + 1 < length sorted → is_lt (ordering_then (nat_cmp (slice_index_or sorted k d).value.0 (slice_index_or sorted (k + 1) d).value.0) (nat_cmp (slice_index_or sorted (k + 1) d).place (slice_index_or sorted k d).place)) ≡ false)
+pub order_from_ranks : (s : Parts) (ranks sorted : List Rank) (order : List ℕ) → AreRanks s ranks → IsPermutation ranks sorted
+    → ((k : ℕ) (d : Rank) → 0 ≤ k → k + 1 < length sorted → is_lt (ordering_then (nat_cmp (slice_index_or sorted k d).worth.0 (slice_index_or sorted (k + 1) d).worth.0) (nat_cmp (slice_index_or sorted (k + 1) d).place (slice_index_or sorted k d).place)) ≡ false)
     → order ≡ map (λ r. r.place) sorted → IsFillOrder s order
-order_from_ranks s ranks sorted order simple orderly are same near is =
-    let known : All (IsRankIn s) sorted = All-permutation (IsRankIn s) ranks sorted same (rank_known s ranks simple orderly are) in
+order_from_ranks s ranks sorted order are same near is =
+    let known : All (IsRankIn s) sorted = All-permutation (IsRankIn s) ranks sorted same (rank_known s ranks are) in
     let apart : AllPairs (λ a b. a.place ≢ b.place) sorted = all_pairs_permutation (λ a b. a.place ≢ b.place) (λ x y other e. other (sym e)) ranks sorted same (rank_places s ranks are) in
     let falling : AllPairs IsRankedBefore sorted = all_pairs_from_neighbours IsRankedBefore joined sorted (λ k d below. not_less _ _ _ _ (near k d (omega arith) below)) in
     subst (IsFillOrder s) (sym is) record {
       places = All-map (λ g. g < length s.groups) (λ r. r.place) sorted (λ k d below. (known k d below).below);
       complete = λ g below.
-          let at = are.each g below in
-          let has : Contains ranks (rank_at g at.0) = (g, slice_get_within ranks g (rank_at g at.0) at.2, get_or_from_slice_get ranks g (rank_at g at.0) (rank_at g at.0) at.2) in
-          contains_map (λ r. r.place) sorted (rank_at g at.0) (Contains-permutation ranks sorted (rank_at g at.0) same has);
+          let count : length ranks ≡ length s.groups = are.count in
+        let e : Rank = record { worth = record { 0 = 0 }; place = 0 } in
+        let r : Rank = slice_index_or ranks g e in
+        let has : Contains sorted r = Contains-permutation ranks sorted r same (Contains-get_or ranks g e (omega arith)) in
+        subst (Contains (map (λ (x : Rank). x.place) sorted)) (are.each g below e).place (contains_map (λ x. x.place) sorted r has);
       falling = λ i j d less below.
           let len : length (map (λ (r : Rank). r.place) sorted) ≡ length sorted = length-map sorted (λ r. r.place) in
-          let e : Rank = record { value = record { 0 = 0 }; place = d } in
+          let e : Rank = record { worth = record { 0 = 0 }; place = d } in
           let x : Rank = slice_index_or sorted i e in
           let y : Rank = slice_index_or sorted j e in
-          let x_worth : x.value.0 ≡ group_worth s x.place = (known i e (omega arith)).worth in
-          let y_worth : y.value.0 ≡ group_worth s y.place = (known j e (omega arith)).worth in
+          let x_worth : x.worth.0 ≡ group_worth s x.place = (known i e (omega arith)).worth in
+          let y_worth : y.worth.0 ≡ group_worth s y.place = (known j e (omega arith)).worth in
           let other : x.place ≢ y.place = apart i j e less (omega arith) in
           let first : slice_index_or (map (λ (r : Rank). r.place) sorted) i d ≡ x.place = get_or-map (λ r. r.place) sorted i e d (omega arith) in
           let second : slice_index_or (map (λ (r : Rank). r.place) sorted) j d ≡ y.place = get_or-map (λ r. r.place) sorted j e d (omega arith) in

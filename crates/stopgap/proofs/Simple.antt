@@ -1,7 +1,8 @@
 -- On a simple desk the group at a place has one request, and what is known of it is what it holds.
-use Rattle.std.proofs.Common.{◌≡◌, ℕ, zero, suc, ◌+◌, ◌<◌, true, false, ◌==◌, List, [], ◌∷◌, length, map, slice_index_or, slice_get, Option, Some, None, All, inl, inr, refl, sym, ◌∙◌, ap, subst, arith}
+use Rattle.std.proofs.Common.{◌≡◌, ℕ, zero, suc, ◌+◌, ◌<◌, true, false, ◌==◌, List, [], ◌∷◌, length, map, slice_index_or, slice_get, Option, Some, None, All, inl, inr, refl, sym, ◌∙◌, ap, subst, arith, take, ◌≤◌, ◌++◌}
 use Rattle.std.specs.Option.{option_map}
 use Rattle.std.proofs.lemmas.Bool.Decides.{nat_tests}
+use Rattle.std.proofs.lemmas.List.{take_more, take_all}
 use Rattle.std.proofs.lemmas.List.Elements.{All-head, All-tail}
 use Rattle.std.proofs.lemmas.List.Sums.{position_or_len_is, passes_at_first}
 use Rattle.std.proofs.lemmas.Option.{slice_get_within, slice_get_cases, slice_get-map, get_or_from_slice_get}
@@ -125,3 +126,13 @@ known_stands s r simple orderly known =
     let passes = passes_at_first (λ y. y.request.request.0 == r) (listed s) x known in
     let here : slice_index_or (listed s) (place_of s r) x ≡ x = get_or_from_slice_get (listed s) (place_of s r) x x found.1.listed_at in
     (found.0, found.1, same_from_test _ r (subst (λ (y : Listed). (y.request.request.0 == r) ≡ true) here passes))
+
+-- the list up to the place after i is that up to i with the request at i
+pub listed_more : (s : Parts) (i : ℕ) (q : RequestPart) → StandsAt s i q → take (i + 1) (listed s) ≡ take i (listed s) ++ only_at i q ∷ []
+listed_more s i q stands =
+    let x : Listed = only_at i q in
+    take_more (listed s) i x (slice_get_within (listed s) i x stands.listed_at) ∙ ap (λ (y : Listed). take i (listed s) ++ y ∷ []) (get_or_from_slice_get (listed s) i x x stands.listed_at)
+
+-- and up to the number of groups it is whole
+pub listed_whole : (s : Parts) (i : ℕ) → IsSimple s → length s.groups ≤ i → take i (listed s) ≡ listed s
+listed_whole s i simple whole = let count : length (listed s) ≡ length s.groups = length-listed s simple in take_all i (listed s) (omega arith)

@@ -6,5 +6,7 @@ mod order;
 mod request;
 mod room;
 mod stopgap;
+#[cfg(test)]
+mod tests;
 
 pub use stopgap::claim_of;

@@ -1,7 +1,7 @@
 // In which order the groups are tried.
 
-ghost use Rattle.std.specs.Prelude.{◌≡◌, length, map, IfOk};
-ghost use Rattle.stopgap.specs.Order.{AreRanks};
+ghost use Rattle.std.specs.Prelude.{◌≡◌, ◌<◌, length, map, IfOk};
+ghost use Rattle.stopgap.specs.Order.{IsRankOf, AreRanks};
 ghost use Rattle.plan_base.specs.Snapshot.{IsOrderly};
 ghost use Rattle.plan_base.specs.Fill.{IsFillOrder};
 ghost use Rattle.stopgap.specs.Stopgap.{IsSimple};
@@ -11,11 +11,23 @@ use plan_base::Parts;
 use std::alloc::{AllocError, Global};
 use std::cmp::Reverse;
 
-/// The place of a group, ordered by the value of its request, falling, and then by itself.
+/// The place of a group, ordered by the group's worth, falling, and then by itself. The worth is the value of its
+/// one request.
 #[derive(Clone, Copy, Debug, PartialEq, Eq, PartialOrd, Ord)]
 pub struct Rank {
-    pub value: Reverse<u32>,
+    pub worth: Reverse<u32>,
     pub place: usize,
+}
+
+/// The rank of the group at a place.
+fn rank_of(parts: &Parts, place: usize) -> Rank
+    requires simple { IsSimple parts.now }
+    requires orderly { IsOrderly parts.now }
+    requires place { place < length parts.now.groups }
+    ensures { IsRankOf parts.now place result }
+{
+    let worth = Reverse(request_at(parts, place).value);
+    Rank { worth, place }
 }
 
 /// The ranks of all groups, in the order of the groups. Fails only for want of memory.
@@ -26,10 +38,7 @@ fn ranks_of(alloc: Global, parts: &Parts) -> Result<Vec<Rank>, AllocError>
 {
     let mut ranks = Vec::new(alloc);
     for place in 0..parts.groups.len() {
-        ranks.push(Rank {
-            value: Reverse(request_at(parts, place).value),
-            place,
-        })?;
+        ranks.push(rank_of(parts, place))?;
     }
     Ok(ranks)
 }
