@@ -41,7 +41,7 @@ pub prices_more : (s : Parts) (i : ℕ) (q : RequestPart) (before after : List �
     → after ≡ before ++ item ∷ [] → after ≡ map (λ x. pos x.request.value) (take (i + 1) (listed s))
 prices_more s i q before after item stands is old pushed =
     let more : map (λ x. pos x.request.value) (take (i + 1) (listed s)) ≡ map (λ x. pos x.request.value) (take i (listed s)) ++ pos q.value ∷ [] =
-      ap (map (λ (x : Listed). pos x.request.value)) (listed_more s i q stands) ∙ map_push (λ (x : Listed). pos x.request.value) (take i (listed s)) (only_at i q) in
+    ap (map (λ (x : Listed). pos x.request.value)) (listed_more s i q stands) ∙ map_push (λ (x : Listed). pos x.request.value) (take i (listed s)) (only_at i q) in
     pushed ∙ ap (λ (z : ℤ). before ++ z ∷ []) is ∙ ap (λ (l : List ℤ). l ++ pos q.value ∷ []) old ∙ sym more
 
 -- the price of a request is its value

@@ -120,10 +120,10 @@ order_from_ranks s ranks sorted order are same near is =
       places = All-map (λ g. g < length s.groups) (λ r. r.place) sorted (λ k d below. (known k d below).below);
       complete = λ g below.
           let count : length ranks ≡ length s.groups = are.count in
-        let e : Rank = record { worth = record { 0 = 0 }; place = 0 } in
-        let r : Rank = slice_index_or ranks g e in
-        let has : Contains sorted r = Contains-permutation ranks sorted r same (Contains-get_or ranks g e (omega arith)) in
-        subst (Contains (map (λ (x : Rank). x.place) sorted)) (are.each g below e).place (contains_map (λ x. x.place) sorted r has);
+          let e : Rank = record { worth = record { 0 = 0 }; place = 0 } in
+          let r : Rank = slice_index_or ranks g e in
+          let has : Contains sorted r = Contains-permutation ranks sorted r same (Contains-get_or ranks g e (omega arith)) in
+          subst (Contains (map (λ (x : Rank). x.place) sorted)) (are.each g below e).place (contains_map (λ x. x.place) sorted r has);
       falling = λ i j d less below.
           let len : length (map (λ (r : Rank). r.place) sorted) ≡ length sorted = length-map sorted (λ r. r.place) in
           let e : Rank = record { worth = record { 0 = 0 }; place = d } in

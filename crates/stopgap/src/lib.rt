@@ -9,4 +9,4 @@ mod stopgap;
 #[cfg(test)]
 mod tests;
 
-pub use stopgap::claim_of;
+pub use stopgap::stopgap_claim;

@@ -10,7 +10,7 @@ ghost use Rattle.stopgap.specs.Stopgap.{IsSimple, IsStopgap, value_prices};
 use crate::fill::greedy_plan;
 use crate::order::fill_order;
 use crate::request::request_at;
-use plan_base::{Claim, ListOf, Parts, Placement, Prices, QuotaPrices};
+use plan_base::{Claim, ListOf, Parts, Placement, Prices, QuotaPrices, Snapshot};
 use std::alloc::{AllocError, Global};
 
 /// The value of each request as its price. Fails only for want of memory.
@@ -48,10 +48,8 @@ fn listing_of(mut plan: Vec<Placement>) -> ListOf<Placement>
     ListOf::from_vec(plan)
 }
 
-/// The claim whose prices are the values of the requests, whose bound is therefore the sum of the values, and whose
-/// placements are the greedy plan. It is made for a desk with one telescope and requests that are groups of their own.
-/// Fails only for want of memory.
-pub fn claim_of(alloc: Global, parts: &Parts) -> Result<Claim, AllocError>
+/// The claim that is made of these parts.
+fn claim_of(alloc: Global, parts: &Parts) -> Result<Claim, AllocError>
     requires simple { IsSimple parts.now }
     requires orderly { IsOrderly parts.now }
     ensures stopgap { IfOk result (IsStopgap parts.now) }
@@ -66,4 +64,15 @@ pub fn claim_of(alloc: Global, parts: &Parts) -> Result<Claim, AllocError>
         value: timeline.value,
         bound: total_value(parts),
     })
+}
+
+/// The claim that is published until plans are sought: the prices are the values of the requests, the bound is
+/// therefore the sum of the values, and the placements are the greedy plan. It is made for a desk with one telescope
+/// that is usable in the whole horizon, and with requests that are groups of their own. Fails only for want of memory.
+pub fn stopgap_claim(alloc: Global, snapshot: &Snapshot) -> Result<Claim, AllocError>
+    requires { IsSimple snapshot.now }
+    ensures stopgap { IfOk result (IsStopgap snapshot.now) }
+    ensures certified { IfOk result (IsCertified snapshot.now) }
+{
+    claim_of(alloc, snapshot.parts())
 }

@@ -8,7 +8,7 @@ ghost use Rattle.stopgap.specs.Desks.{IsGroupInRanges};
 use super::*;
 use plan_base::{
     Claim, GroupNo, GroupPart, ListOf, Op, Parts, Placement, Prices, QuotaPrices, RequestNo,
-    RequestPart, Sec, SiteNo, SliceNo, Span, TelescopeNo, TelescopePart,
+    RequestPart, Sec, SiteNo, SliceNo, Snapshot, Span, TelescopeNo, TelescopePart,
 };
 use std::alloc::{AllocError, Global};
 use std::process::Abort;
@@ -134,37 +134,76 @@ fn claim(
     })
 }
 
-/// Asserts that the desk with these requests has this claim.
+/// Asserts that the desk with these requests has the expected claim.
 fn assert_claim(
     rt: &impl Abort,
     alloc: Global,
     wishes: &[Wish],
     expected: &Claim,
 ) -> Result<(), Fail> {
-    let parts = desk(alloc, wishes)?;
-    assert_eq!(rt; &claim_of(alloc, &parts)?, expected);
+    let snapshot = Snapshot::build(alloc, desk(alloc, wishes)?)?;
+    assert_eq!(rt; &stopgap_claim(alloc, &snapshot)?, expected);
     Ok(())
 }
 
-/// A request of 300 seconds.
-fn wish_of(value: u16, from: u16, to: u16) -> Wish {
+/// A request with this window.
+fn observation(seconds: u32, value: u32, from: u64, to: u64) -> Wish
+    requires some_seconds { 1 ≤ seconds }
+    requires most_seconds { seconds ≤ 86400 }
+    requires some_value { 1 ≤ value }
+    requires most_value { value ≤ 288000000 }
+    requires from { from ≤ 10 ^ 12 }
+    requires to { to ≤ 10 ^ 12 }
+{
     Wish {
-        seconds: 300,
-        value: u32::from(value).saturating_add(1),
-        from: u64::from(from),
-        to: u64::from(to),
+        seconds,
+        value,
+        from,
+        to,
     }
 }
 
 #[test]
-fn the_better_of_two_requests_is_placed(rt: HostRuntime) -> Result<(), Fail> {
+fn a_request_is_placed_where_it_first_fits(rt: HostRuntime) -> Result<(), Fail> {
     let alloc = rt.alloc();
-    let early = Wish {
-        seconds: 300,
-        value: 50000,
-        from: 0,
-        to: 3600,
-    };
+    let whole_horizon = [observation(300, 50000, 0, 3600)];
     let expected = claim(alloc, &[(1, 0)], &[50000], 50000, 50000)?;
-    assert_claim(&rt, alloc, &[early], &expected)
+    assert_claim(&rt, alloc, &whole_horizon, &expected)?;
+    let a_second_late = [observation(300, 50000, 1, 3600)];
+    let expected = claim(alloc, &[(1, 1)], &[50000], 50000, 50000)?;
+    assert_claim(&rt, alloc, &a_second_late, &expected)?;
+    let last_slice = [observation(300, 9, 3300, 3600)];
+    let expected = claim(alloc, &[(1, 11)], &[9], 9, 9)?;
+    assert_claim(&rt, alloc, &last_slice, &expected)
+}
+
+#[test]
+fn a_second_more_takes_a_slice_more(rt: HostRuntime) -> Result<(), Fail> {
+    let alloc = rt.alloc();
+    let longer_first = [observation(301, 7, 0, 3600), observation(300, 5, 0, 900)];
+    let expected = claim(alloc, &[(1, 0), (2, 2)], &[7, 5], 12, 12)?;
+    assert_claim(&rt, alloc, &longer_first, &expected)?;
+    let longer_second = [observation(300, 7, 300, 600), observation(301, 5, 0, 3600)];
+    let expected = claim(alloc, &[(1, 1), (2, 2)], &[7, 5], 12, 12)?;
+    assert_claim(&rt, alloc, &longer_second, &expected)?;
+    let beyond_the_horizon = [observation(301, 9, 3300, 4000)];
+    let expected = claim(alloc, &[], &[9], 0, 9)?;
+    assert_claim(&rt, alloc, &beyond_the_horizon, &expected)
+}
+
+#[test]
+fn the_greater_value_and_then_the_lower_number_comes_first(rt: HostRuntime) -> Result<(), Fail> {
+    let alloc = rt.alloc();
+    let one_slice_for_two = [
+        observation(300, 50000, 0, 300),
+        observation(300, 80000, 0, 300),
+    ];
+    let expected = claim(alloc, &[(2, 0)], &[50000, 80000], 80000, 130000)?;
+    assert_claim(&rt, alloc, &one_slice_for_two, &expected)?;
+    let equal_values = [observation(300, 5, 0, 300), observation(300, 5, 0, 300)];
+    let expected = claim(alloc, &[(1, 0)], &[5, 5], 5, 10)?;
+    assert_claim(&rt, alloc, &equal_values, &expected)?;
+    let greater_value_later = [observation(300, 5, 0, 300), observation(300, 7, 600, 900)];
+    let expected = claim(alloc, &[(1, 0), (2, 2)], &[5, 7], 12, 12)?;
+    assert_claim(&rt, alloc, &greater_value_later, &expected)
 }

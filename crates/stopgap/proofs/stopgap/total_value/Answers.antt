@@ -19,7 +19,7 @@ loop-place-preserved c =
     let s = c.args.parts.now in
     let f : Listed → ℕ = λ y. y.request.value in
     let more : sum_by f (take (c.loop-place.place + 1) (listed s)) ≡ sum_by f (take c.loop-place.place (listed s)) + c.request_at.result.now.value =
-      ap (sum_by f) (listed_more s c.loop-place.place c.request_at.result.now c.request_at.ensures) ∙ sum_by_push f (take c.loop-place.place (listed s)) (only_at c.loop-place.place c.request_at.result.now) in
+    ap (sum_by f) (listed_more s c.loop-place.place c.request_at.result.now c.request_at.ensures) ∙ sum_by_push f (take c.loop-place.place (listed s)) (only_at c.loop-place.place c.request_at.result.now) in
     let ranges = value_in_range s c.loop-place.place c.request_at.result.now c.requires.orderly c.request_at.ensures in
     let is : c.from-total.result ≡ c.request_at.result.now.value = c.from-total.ensures in
     (omega arith, omega arith)
