@@ -15,26 +15,12 @@ use Rattle.plan_base.specs.Requests.{Listed, listed, place_of, group_of, quota_o
 use Rattle.plan_base.specs.Starts.{IsPossibleStart, worth_at}
 use Rattle.plan_base.specs.Bound.{price, weight, surplus, IsBest, charge, net_price, IsRebate, IsBound}
 use Rattle.plan_base.specs.Snapshot.{IsOrderly}
+use Rattle.plan_base.proofs.Totals.{total_map, total_none, total_of_naturals}
 use Rattle.stopgap.specs.Stopgap.{IsSimple, StandsAt, only_at, value_prices}
 use Rattle.stopgap.proofs.Simple.{listed_more, known_or_is, known_at, known_stands, stands_below, length-listed}
 use Rattle.stopgap.proofs.Possible.{quota_is, worth_is}
 use Rattle.stopgap.proofs.Ranges.{value_in_range}
 use Rattle.stopgap.proofs.Tries.{single_at}
-
-total_none : {X : Type 0} (f : X → ℤ) (xs : List X) → All (λ x. f x ≡ pos 0) xs → total f xs ≡ pos 0
-total_none f [] a = refl
-total_none f (x ∷ xs) a =
-    let here : f x ≡ pos 0 = All-head (λ x. f x ≡ pos 0) x xs a in
-    let rest : total f xs ≡ pos 0 = total_none f xs (All-tail (λ x. f x ≡ pos 0) x xs a) in
-    omega (arith, ints)
-
--- the sum of naturals as a signed sum
-total_of_naturals : {X : Type 0} (f : X → ℕ) (xs : List X) → total (λ b. b) (map (λ x. pos (f x)) xs) ≡ pos (sum_by f xs)
-total_of_naturals f [] = refl
-total_of_naturals f (x ∷ xs) =
-    let rest : total (λ b. b) (map (λ x. pos (f x)) xs) ≡ pos (sum_by f xs) = total_of_naturals f xs in
-    let sum : sum_by f (x ∷ xs) ≡ f x + sum_by f xs = sum_by-cons f x xs in
-    rw sum (omega (arith, ints))
 
 -- one price more
 pub prices_more : (s : Parts) (i : ℕ) (q : RequestPart) (before after : List ℤ) (item : ℤ) → StandsAt s i q → item ≡ pos q.value → before ≡ map (λ x. pos x.request.value) (take i (listed s))
@@ -156,7 +142,7 @@ bound_is s simple orderly =
         parts = value_prices s;
         count = length-map (listed s) (λ x. pos x.request.value) ∙ length-listed s simple;
         each = λ i below. let stands = stands_below s i simple orderly below in subst (IsRebate s (net_price s (value_prices s) []) i) (sym (value_at s i stands.0 stands.1)) (rebate_is s i stands.0 simple orderly stands.1);
-        sum = total_of_naturals (λ x. x.request.value) (listed s);
+        sum = sym (total_map (λ (b : ℤ). b) (λ x. pos x.request.value) (listed s)) ∙ total_of_naturals (λ x. x.request.value) (listed s);
       };
       quota = record {
         parts = [];

@@ -1,5 +1,6 @@
 -- The scan for the first run of free slices.
 use Rattle.std.proofs.Common.{◌≡◌, ◌≢◌, ℕ, ◌+◌, ◌-◌, ◌≤◌, ◌<◌, ◌⊎◌, inl, inr, Bool, true, false, List, slice_index_or, sym, subst, arith}
+use Rattle.stopgap.proofs.Counting.{last_or_before}
 use Rattle.stopgap.specs.declared.room.Room.{Room}
 use Rattle.stopgap.specs.Timeline.{IsFreeRun}
 
@@ -11,18 +12,11 @@ pub record IsScanned (taken : List Bool) (room : Room) (k free : ℕ) : Type 0 w
   pub run : IsFreeRun taken (k - free) k
   pub longest : (i : ℕ) → room.begin ≤ i → i + free < k → ¬ (IsFreeRun taken i k)
 
-same_or_below : (i k : ℕ) → i < k + 1 → (i ≡ k) ⊎ (i < k)
-same_or_below i k h = grind arith
-
--- a run that ends after slice k has it, and is a run up to it
-run_has_last : (taken : List Bool) (i k : ℕ) → i ≤ k → IsFreeRun taken i (k + 1) → slice_index_or taken k false ≡ false
-run_has_last taken i k h run = run k h (omega arith)
-
 run_shorter : (taken : List Bool) (i j k : ℕ) → j ≤ k → IsFreeRun taken i k → IsFreeRun taken i j
 run_shorter taken i j k h run = λ m low high. run m low (omega arith)
 
 run_longer : (taken : List Bool) (i k : ℕ) → slice_index_or taken k false ≡ false → IsFreeRun taken i k → IsFreeRun taken i (k + 1)
-run_longer taken i k free run = λ m low high. elim (same_or_below m k high) [
+run_longer taken i k free run = λ m low high. elim (last_or_before m k high) [
   | inl e ↦ subst (λ (n : ℕ). slice_index_or taken n false ≡ false) (sym e) free
   | inr less ↦ run m low less
 ]
@@ -33,7 +27,7 @@ pub scanned_taken : (taken : List Bool) (room : Room) (k free : ℕ) → room.be
 scanned_taken taken room k free from size at old = record {
   within = omega arith;
   short = size;
-  none = λ i low high run. elim (same_or_below (i + room.size) (k + 1) (omega arith)) [
+  none = λ i low high run. elim (last_or_before (i + room.size) (k + 1) (omega arith)) [
     | inl e ↦ let last : slice_index_or taken k false ≡ false = run k (omega arith) (omega arith) in cc
     | inr less ↦ old.none i low (omega arith) run
   ];
@@ -50,7 +44,7 @@ scanned_free taken room k free from long at old =
     record {
       within = omega arith;
       short = omega arith;
-      none = λ i low high run. elim (same_or_below (i + room.size) (k + 1) (omega arith)) [
+      none = λ i low high run. elim (last_or_before (i + room.size) (k + 1) (omega arith)) [
         | inl e ↦ old.longest i low (omega arith) (run_shorter taken i k (i + room.size) (omega arith) run)
         | inr less ↦ old.none i low (omega arith) run
       ];

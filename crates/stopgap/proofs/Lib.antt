@@ -1,3 +1,4 @@
+pub mod Counting
 pub mod FreeRuns
 pub mod Rooms
 pub mod Simple

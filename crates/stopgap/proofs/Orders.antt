@@ -5,6 +5,7 @@ use Rattle.std.specs.Cmp.{nat_cmp_is}
 use Rattle.std.specs.Ordering.{is_lt, nat_cmp, ordering_then}
 use Rattle.std.proofs.lemmas.Bool.{cases_eq, cases_lt}
 use Rattle.std.proofs.lemmas.Map.Keys.{ge_from_not_lt}
+use Rattle.stopgap.proofs.Counting.{last_or_before}
 use Rattle.stopgap.proofs.Pairs.{all_pairs_permutation, all_pairs_from_neighbours}
 use Rattle.std.proofs.lemmas.List.{length_push, length-map, get_or-map, get_or_append_left, get_or_push}
 use Rattle.std.proofs.lemmas.List.Elements.{All-map, Contains-get_or}
@@ -19,13 +20,11 @@ use Rattle.plan_base.specs.declared.parts.Op.TheVariants.{Single}
 use Rattle.plan_base.specs.Requests.{Listed}
 use Rattle.plan_base.specs.Fill.{worth_by_kind, worth_of_group, group_worth, IsFillOrder}
 use Rattle.plan_base.specs.Snapshot.{IsOrderly}
+use Rattle.plan_base.proofs.Lists.{contains_map}
 use Rattle.stopgap.specs.declared.order.Rank.{Rank}
 use Rattle.stopgap.specs.Stopgap.{IsSimple, IsSimpleGroup, StandsAt, only_at}
 use Rattle.stopgap.proofs.Simple.{one_request_of, simple_group_at, stands_at}
 use Rattle.stopgap.specs.Order.{IsRankOf, AreRanksOf, AreRanks}
-
-last_or_before : (j i : ℕ) → j < i + 1 → (j ≡ i) ⊎ (j < i)
-last_or_before j i h = grind arith
 
 -- one rank more
 pub ranks_more : (s : Parts) (ranks : List Rank) (n : ℕ) (x : Rank) → AreRanksOf s n ranks → IsRankOf s n x → AreRanksOf s (n + 1) (ranks ++ x ∷ [])
@@ -102,11 +101,6 @@ rank_places s ranks are = λ i j d less below.
     let first : (slice_index_or ranks i d).place ≡ i = (are.each i (omega arith) d).place in
     let second : (slice_index_or ranks j d).place ≡ j = (are.each j (omega arith) d).place in
     omega arith
-
-contains_map : {X Y : Type 0} (f : X → Y) (xs : List X) (x : X) → Contains xs x → Contains (map f xs) (f x)
-contains_map f xs x (k, below, at) =
-    let len : length (map f xs) ≡ length xs = length-map xs f in
-    (k, omega arith, get_or-map f xs k x (f x) below ∙ ap f at)
 
 -- the places of the sorted ranks are all groups by falling worth, then place
 pub order_from_ranks : (s : Parts) (ranks sorted : List Rank) (order : List ℕ) → AreRanks s ranks → IsPermutation ranks sorted

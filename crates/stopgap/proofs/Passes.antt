@@ -14,6 +14,7 @@ use Rattle.plan_base.specs.Snapshot.{IsOrderly}
 use Rattle.stopgap.specs.declared.fill.Timeline.{Timeline}
 use Rattle.stopgap.specs.Stopgap.{IsSimple, StandsAt}
 use Rattle.stopgap.specs.Timeline.{IsTimeline}
+use Rattle.stopgap.proofs.Counting.{last_or_before}
 use Rattle.stopgap.proofs.Simple.{stands_below}
 use Rattle.stopgap.proofs.Possible.{quota_is}
 use Rattle.stopgap.proofs.Tries.{IsSettled, try_from_visit, visit_from_try, try_settled, settled_from_try}
@@ -99,9 +100,6 @@ next_not_placed s order i t simple orderly is_order below filled =
     order_differs s order earlier.0 i is_order earlier.1 below (earlier.2 ∙ stands.1.place) in
     subst (All (λ n. ¬ (Contains (requests_of t.plan.items) n))) (sym stands.1.members_at)
     (All-cons (λ n. ¬ (Contains (requests_of t.plan.items) n)) r [] fresh (All-nil (λ n. ¬ (Contains (requests_of t.plan.items) n))))
-
-last_or_before : (j i : ℕ) → j < i + 1 → (j ≡ i) ⊎ (j < i)
-last_or_before j i h = grind arith
 
 -- one visit more
 pub filled_more : (s : Parts) (order : List ℕ) (i : ℕ) (before after : Timeline) → IsSimple s → IsOrderly s → IsFillOrder s order → i < length order → IsFilledTo s order i before

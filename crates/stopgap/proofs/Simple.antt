@@ -11,6 +11,7 @@ use Rattle.plan_base.specs.declared.parts.GroupPart.{GroupPart}
 use Rattle.plan_base.specs.declared.parts.RequestPart.{RequestPart}
 use Rattle.plan_base.specs.Requests.{Listed, listed_from, listed, place_of, known_or, IsKnown, members, members_of}
 use Rattle.plan_base.specs.Snapshot.{IsOrderly}
+use Rattle.plan_base.proofs.RowLemmas.{place_of_listed}
 use Rattle.stopgap.specs.Stopgap.{IsSimpleRequest, IsSimpleGroup, IsSimple, only_at, StandsAt}
 
 -- a group of one request, with that request
@@ -59,21 +60,6 @@ length-listed s simple = length-listed_from 0 s.groups simple.groups
 same_from_test : (a b : ℕ) → (a == b) ≡ true → a ≡ b
 same_from_test a b h = grind (arith, nat_tests)
 
-test_from_same : (a b : ℕ) → a ≡ b → (a == b) ≡ true
-test_from_same a b h = grind (arith, nat_tests)
-
-test_from_less : (a b : ℕ) → a < b → (a == b) ≡ false
-test_from_less a b h = grind (arith, nat_tests)
-
--- numbers rise, so the first with the number of an entry is that entry
-place_of_listed : (s : Parts) (i : ℕ) (x : Listed) → IsOrderly s → slice_get (listed s) i ≡ Some x → place_of s x.request.request.0 ≡ i
-place_of_listed s i x orderly at =
-    let below : i < length (listed s) = slice_get_within (listed s) i x at in
-    let here : slice_index_or (listed s) i x ≡ x = get_or_from_slice_get (listed s) i x x at in
-    position_or_len_is (λ y. y.request.request.0 == x.request.request.0) (listed s) i x (omega arith)
-    (λ k h. test_from_less _ _ (subst (λ (y : Listed). (slice_index_or (listed s) k x).request.request.0 < y.request.request.0) here (orderly.requests_rise k i x h below)))
-    (λ h. test_from_same _ _ (ap (λ (y : Listed). y.request.request.0) here))
-
 pub simple_group_at : (s : Parts) (i : ℕ) (x : GroupPart) → IsSimple s → slice_get s.groups i ≡ Some x → IsSimpleGroup x
 simple_group_at s i x simple at = subst IsSimpleGroup (get_or_from_slice_get s.groups i x x at) (simple.groups i x (slice_get_within s.groups i x at))
 
@@ -91,7 +77,7 @@ stands_at s i x q simple orderly at one =
       below = slice_get_within s.groups i x at;
       listed_at = found;
       members_at = members_at_one s i x q at one;
-      place = place_of_listed s i (only_at i q) orderly found;
+      place = place_of_listed s orderly i (only_at i q) found;
       simple = All-head IsSimpleRequest q [] (subst (All IsSimpleRequest) one group.simple);
     }
 

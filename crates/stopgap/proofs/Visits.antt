@@ -1,5 +1,6 @@
 -- What a visit does to a plan and its marks.
 use Rattle.std.proofs.Common.{◌≡◌, ◌≢◌, ℕ, ◌+◌, ◌-◌, ◌*◌, ◌<◌, ◌≤◌, ◌⊎◌, inl, inr, Bool, false, List, [], ◌∷◌, ◌++◌, length, slice_index_or, All, AllPairs, Any, Contains, replicate, refl, sym, ◌∙◌, ap, subst, arith}
+use Rattle.std.proofs.lemmas.Bool.{cases_lt}
 use Rattle.std.proofs.lemmas.List.{map_push, get_or-replicate, length-replicate, get_or_append_left, length_push, get_or_push}
 use Rattle.std.proofs.lemmas.List.Elements.{All-push, All-head, Contains-get_or}
 use Rattle.std.proofs.lemmas.List.Quantifiers.{all_pairs_push, Any-push}
@@ -12,6 +13,7 @@ use Rattle.plan_base.specs.Feasible.{requests_of, IsEachPossible, IsEachOnce, Is
 use Rattle.plan_base.specs.Saturated.{IsFree, HasNonePlaced}
 use Rattle.plan_base.specs.Fill.{VisitsGroup}
 use Rattle.plan_base.specs.Snapshot.{IsOrderly}
+use Rattle.plan_base.proofs.Limits.{worth_at_most}
 use Rattle.stopgap.specs.declared.room.Room.{Room}
 use Rattle.stopgap.specs.declared.fill.Timeline.{Timeline}
 use Rattle.stopgap.specs.Stopgap.{IsSimple, StandsAt}
@@ -21,9 +23,6 @@ use Rattle.stopgap.proofs.Ranges.{value_in_range}
 use Rattle.stopgap.proofs.Possible.{start_at, size_is, worth_is}
 use Rattle.stopgap.proofs.Free.{room_from_free, free_from_room, earliest_from_room}
 use Rattle.stopgap.proofs.Tries.{visit_from_try}
-
-below_or_from : (j k : ℕ) → (j < k) ⊎ (k ≤ j)
-below_or_from j k = grind arith
 
 none_taken : (P : Placement → Type 0) → ¬ (Any P [])
 none_taken P any = absurd (omega arith)
@@ -39,7 +38,7 @@ marks_none s = record {
 }
 
 any_push_cases : (P : Placement → Type 0) (plan : List Placement) (p : Placement) → Any P (plan ++ p ∷ []) → Any P plan ⊎ P p
-any_push_cases P plan p (k, x, below, at, holds) = elim (below_or_from k (length plan)) [
+any_push_cases P plan p (k, x, below, at, holds) = elim (cases_lt k (length plan)) [
   | inl less ↦ inl (k, x, less, sym (get_or_append_left plan (p ∷ []) x k less) ∙ at, holds)
   | inr more ↦
       let more_by : length (plan ++ p ∷ []) ≡ length plan + 1 = length_push plan p in
@@ -76,13 +75,8 @@ marks_more s plan before after p from to marks same taken starts ends =
     }
 
 -- a plan of possible starts is worth at most the greatest value for each
-pub value_most : (s : Parts) (plan : List Placement) → IsSimple s → IsOrderly s → IsEachPossible s plan → value_of_plan s plan ≤ length plan * 288000000
-value_most s plan simple orderly each = sum_by-le (worth_at s) 288000000 plan (λ k d below.
-    let p : Placement = slice_index_or plan k d in
-    let stands = known_stands s p.request.0 simple orderly (each k d below).known in
-    let ranges = value_in_range s _ stands.0 orderly stands.1 in
-    let worth : worth_at s p ≡ stands.0.value = worth_is s _ stands.0 p stands.1 ranges.0 (sym stands.2) in
-    omega arith)
+pub value_most : (s : Parts) (plan : List Placement) → IsOrderly s → IsEachPossible s plan → value_of_plan s plan ≤ length plan * 288000000
+value_most s plan orderly each = sum_by-le (worth_at s) 288000000 plan (λ k d below. worth_at_most s (slice_index_or plan k d) orderly (each k d below))
 
 -- a free start of a request that isn't placed keeps the rules of the plan
 pub timeline_more : (s : Parts) (before after : Timeline) (i : ℕ) (q : RequestPart) (p : Placement)

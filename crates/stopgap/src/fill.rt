@@ -31,7 +31,6 @@ fn free_slices(alloc: Global, count: usize) -> Result<Vec<bool>, AllocError>
 }
 
 impl Timeline {
-    #[tactic(auto, using(crate::proofs::Visits::marks_more))]
     /// The empty plan. Fails only for want of memory.
     pub fn new(alloc: Global, parts: &Parts) -> Result<Timeline, AllocError>
         ensures empty { IfOk result (λ timeline. timeline.plan.items ≡ []) }

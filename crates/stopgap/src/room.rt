@@ -73,6 +73,7 @@ pub fn first_free(taken: &[bool], room: Room) -> Option<usize>
         ((i : ℕ) → ¬ (HasRoom taken.now room i))
         (λ found. HasRoom taken.now room found × ((i : ℕ) → HasRoom taken.now room i → found ≤ i)) }
 {
+    // How many free slices end with the one before `k`.
     let mut free = 0;
     for k in room.begin..room.end {
         free = if taken[k] { 0 } else { free + 1 };

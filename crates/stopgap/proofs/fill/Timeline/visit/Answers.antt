@@ -17,7 +17,7 @@ add-requires-clause-value c =
     let s = c.args.parts.now in
     let plan = c.args.self.now.plan.items in
     let ranges = value_in_range s c.args.place c.request_at-request.result.now c.requires.orderly c.request_at-request.ensures in
-    let most : value_of_plan s plan ≤ length plan * 288000000 = value_most s plan c.requires.simple c.requires.orderly c.requires.valid.possible in
+    let most : value_of_plan s plan ≤ length plan * 288000000 = value_most s plan c.requires.orderly c.requires.valid.possible in
     omega arith
 
 pub returns-in_default-clause-visit : goal.returns-in_default-clause-visit
