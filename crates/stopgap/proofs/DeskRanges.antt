@@ -1,5 +1,5 @@
 -- The numbers of the desks that tests make are in their ranges.
-use Rattle.std.proofs.Common.{◌≡◌, ℕ, suc, ◌+◌, ◌*◌, ◌≤◌, ◌^◌, List, [], ◌∷◌, ◌++◌, length, map, All, sym, subst, arith}
+use Rattle.std.proofs.Common.{ℕ, suc, ◌+◌, ◌*◌, ◌≤◌, ◌^◌, List, [], ◌∷◌, ◌++◌, map, All, sym, subst}
 use Rattle.std.specs.List.{flat_map}
 use Rattle.std.proofs.lemmas.List.Elements.{All-nil, All-cons, All-head, All-tail, All-append, All-map}
 use Rattle.plan_base.specs.declared.parts.Parts.{Parts}
@@ -9,7 +9,7 @@ use Rattle.plan_base.specs.declared.parts.GroupPart.{GroupPart}
 use Rattle.plan_base.specs.declared.parts.RequestPart.{RequestPart}
 use Rattle.plan_base.specs.declared.span.Span.{Span}
 use Rattle.plan_base.specs.Requests.{Listed, listed_from, listed}
-use Rattle.plan_base.specs.Snapshot.{IsMoment, IsInRanges, all_spans}
+use Rattle.plan_base.specs.Snapshot.{IsMoment, IsInRanges}
 use Rattle.stopgap.specs.Stopgap.{IsSimple, horizon_of}
 use Rattle.stopgap.specs.Desks.{IsRequestInRanges, IsGroupInRanges}
 

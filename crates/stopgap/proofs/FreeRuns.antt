@@ -1,5 +1,5 @@
 -- The scan for the first run of free slices.
-use Rattle.std.proofs.Common.{◌≡◌, ◌≢◌, ℕ, ◌+◌, ◌-◌, ◌≤◌, ◌<◌, ◌⊎◌, inl, inr, Bool, true, false, List, slice_index_or, sym, subst, arith}
+use Rattle.std.proofs.Common.{◌≡◌, ◌≢◌, ℕ, ◌+◌, ◌-◌, ◌≤◌, ◌<◌, inl, inr, Bool, true, false, List, slice_index_or, sym, subst, arith}
 use Rattle.stopgap.proofs.Counting.{last_or_before}
 use Rattle.stopgap.specs.declared.room.Room.{Room}
 use Rattle.stopgap.specs.Timeline.{IsFreeRun}

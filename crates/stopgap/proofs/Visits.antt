@@ -18,7 +18,6 @@ use Rattle.stopgap.specs.declared.room.Room.{Room}
 use Rattle.stopgap.specs.declared.fill.Timeline.{Timeline}
 use Rattle.stopgap.specs.Stopgap.{IsSimple, StandsAt}
 use Rattle.stopgap.specs.Timeline.{IsRoomOf, HasRoom, MarksTaken, IsTakenAfter, IsTimeline, AddsStart}
-use Rattle.stopgap.proofs.Simple.{known_stands}
 use Rattle.stopgap.proofs.Ranges.{value_in_range}
 use Rattle.stopgap.proofs.Possible.{start_at, size_is, worth_is}
 use Rattle.stopgap.proofs.Free.{room_from_free, free_from_room, earliest_from_room}

@@ -1,5 +1,5 @@
 -- The desks that tests make.
-use Rattle.std.specs.Prelude.{ℕ, ◌≤◌, All}
+use Rattle.std.specs.Prelude.{◌≤◌, All}
 use Rattle.plan_base.specs.declared.parts.GroupPart.{GroupPart}
 use Rattle.plan_base.specs.declared.parts.RequestPart.{RequestPart}
 use Rattle.plan_base.specs.Snapshot.{IsMoment}

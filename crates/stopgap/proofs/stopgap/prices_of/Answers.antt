@@ -1,8 +1,7 @@
-use Rattle.std.proofs.Common.{◌≡◌, ◌∷◌, ◌++◌, [], ℤ, pos, List, map, sym, ap, ◌∙◌, arith, rules, to_z, of_z, w64}
+use Rattle.std.proofs.Common.{◌≡◌, pos, List, map, ap, ◌∙◌, arith, rules, to_z, of_z, w64}
 use Rattle.std.proofs.lemmas.Int.{to_z-of_z}
-use Rattle.std.proofs.lemmas.List.{map_push}
 use mir.Val.{SFits}
-use Rattle.plan_base.specs.Requests.{Listed, listed}
+use Rattle.plan_base.specs.Requests.{Listed}
 use Rattle.stopgap.proofs.Simple.{listed_whole}
 use Rattle.stopgap.proofs.Bounds.{prices_more}
 use Rattle.stopgap.proofs.stopgap.prices_of.Goals as goal
