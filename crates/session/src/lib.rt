@@ -1,0 +1,11 @@
+//! A session of the desk: lines are read, done in order, and each answered by the text of its entries.
+#![tactic(auto)]
+
+mod command;
+mod entry;
+mod status;
+mod words;
+
+pub use command::{Command, Opening, Submission, read_command};
+pub use entry::{EventEntry, Refusal, Reply, What};
+pub use status::Status;
