@@ -1,3 +1,5 @@
 pub mod Words
 pub mod Refusals
 pub mod Commands
+pub mod StateSeen
+pub mod Step

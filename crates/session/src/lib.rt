@@ -3,9 +3,11 @@
 
 mod command;
 mod entry;
+mod state;
 mod status;
 mod words;
 
 pub use command::{Command, Opening, Submission, read_command};
 pub use entry::{EventEntry, Refusal, Reply, What};
+pub use state::State;
 pub use status::Status;
