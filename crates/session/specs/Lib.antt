@@ -3,3 +3,4 @@ pub mod Refusals
 pub mod Commands
 pub mod StateSeen
 pub mod Step
+pub mod Texts

@@ -5,9 +5,11 @@ mod command;
 mod entry;
 mod state;
 mod status;
+mod text;
 mod words;
 
 pub use command::{Command, Opening, Submission, read_command};
 pub use entry::{EventEntry, Refusal, Reply, What};
 pub use state::State;
 pub use status::Status;
+pub use text::write_entry;
