@@ -1,2 +1,4 @@
 pub mod Readings
 pub mod Floats
+pub mod Histories
+pub mod Versions

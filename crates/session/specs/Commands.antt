@@ -4,6 +4,8 @@ use Rattle.std.specs.Str.{is_utf8}
 use Rattle.serde_json.specs.Data.{Data}
 use Rattle.serde_json.specs.Find.{get, as_str, as_number, as_u64}
 use Rattle.serde_json.specs.Read.{read}
+use Rattle.plan_io.specs.declared.lines.ScriptLine.{ScriptLine}
+use Rattle.plan_io.specs.declared.lines.ScriptLine.TheVariants.{Bytes, TooLong}
 use Rattle.session.specs.declared.command.Command.{Command}
 use Rattle.session.specs.declared.command.Command.TheVariants.{Open, Submit, Plan}
 use Rattle.session.specs.declared.command.Opening.{Opening}
@@ -50,6 +52,11 @@ reading_of bytes = if is_utf8 bytes then read bytes else None
 -- what the bytes of a line say: a command, or that the line isn't built
 unfoldable pub read_bytes : List ℕ → Result Command Refusal
 read_bytes bytes = ok_or (option_and_then command_of_data (reading_of bytes)) NotBuilt
+
+-- what a line says
+abbrev pub command_of : ScriptLine → Result Command Refusal
+command_of (Bytes bytes) = read_bytes bytes
+command_of TooLong = Err NotBuilt
 
 -- the numbers of an opening are in their ranges
 pub record IsOpening (o : Opening) : Type 0 where

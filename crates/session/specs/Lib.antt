@@ -4,3 +4,6 @@ pub mod Commands
 pub mod StateSeen
 pub mod Step
 pub mod Texts
+pub mod DeskSnapshot
+pub mod History
+pub mod Laws

@@ -52,9 +52,9 @@ abbrev pub step_line : StateSeen → Result Command Refusal → Stepped
 step_line s (Ok command) = step s command
 step_line s (Err refusal) = refused s refusal
 
--- the command asks for a plan, and the desk is opened
-abbrev pub IsPlanning : StateSeen → Command → Type 0
-IsPlanning s command = (command ≡ Plan) × IsSome s.opening
+-- the line asks for a plan, and the desk is opened
+abbrev pub IsPlanning : StateSeen → Result Command Refusal → Type 0
+IsPlanning s read = (read ≡ Ok Plan) × IsSome s.opening
 
 -- a publication is a change
 abbrev pub published : StateSeen → StateSeen

@@ -3,6 +3,7 @@
 
 mod command;
 mod entry;
+mod laws;
 mod state;
 mod status;
 mod text;
@@ -10,6 +11,7 @@ mod words;
 
 pub use command::{Command, Opening, Submission, read_command};
 pub use entry::{EventEntry, Refusal, Reply, What};
+pub use laws::versions_count;
 pub use state::State;
 pub use status::Status;
 pub use text::write_entry;

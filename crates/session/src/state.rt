@@ -1,5 +1,5 @@
 //! What a desk holds, and what a command does to it.
-ghost use Rattle.std.specs.Prelude.{◌≡◌, ◌<◌, ◌≤◌, ◌↔◌, IsTrue, IsSome, IfOk, OnOk, OnErr, length};
+ghost use Rattle.std.specs.Prelude.{◌≡◌, ◌<◌, ◌≤◌, ◌↔◌, IsTrue, IsSome, Ok, IfOk, OnOk, OnErr, length};
 ghost use Rattle.session.specs.Commands.{IsCommand, IsOpening, IsSubmission};
 ghost use Rattle.session.specs.Step.{start, step, published, IsPlanning};
 
@@ -63,7 +63,7 @@ impl State {
     pub fn apply(&mut self, alloc: Global, command: &Command) -> Result<Reply, AllocError>
         requires version { self.old.version < 524288 }
         requires ranges { IsCommand command.now }
-        requires step { ¬ (IsPlanning self.old command.now) }
+        requires step { ¬ (IsPlanning self.old (Ok command.now)) }
         ensures reply { IfOk result (λ reply. reply ≡ (step self.old command.now).reply) }
         ensures state { OnOk result (self.new ≡ (step self.old command.now).state) }
         ensures err { OnErr result (self.new ≡ self.old) }
