@@ -4,6 +4,7 @@
 mod command;
 mod entry;
 mod laws;
+mod snapshot;
 mod state;
 mod status;
 mod text;
