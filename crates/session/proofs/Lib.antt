@@ -2,3 +2,4 @@ pub mod Readings
 pub mod Floats
 pub mod Histories
 pub mod Versions
+pub mod DeskParts
