@@ -3,3 +3,4 @@ pub mod Floats
 pub mod Histories
 pub mod Versions
 pub mod DeskParts
+pub mod Cutting

@@ -2,6 +2,7 @@
 #![tactic(auto)]
 
 mod command;
+mod cut;
 mod entry;
 mod laws;
 mod snapshot;
