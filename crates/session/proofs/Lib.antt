@@ -4,3 +4,6 @@ pub mod Histories
 pub mod Versions
 pub mod DeskParts
 pub mod Cutting
+pub mod Written
+pub mod Turns
+pub mod Played
