@@ -7,3 +7,4 @@ pub mod Cutting
 pub mod Written
 pub mod Turns
 pub mod Played
+pub mod StartCounts

@@ -8,5 +8,4 @@ pub mod DeskSnapshot
 pub mod History
 pub mod Laws
 pub mod Scratch
-pub mod Stopgap
 pub mod Session

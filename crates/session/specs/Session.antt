@@ -29,7 +29,7 @@ use Rattle.session.specs.Step.{step_line, published, IsPlanning}
 use Rattle.session.specs.DeskSnapshot.{IsSnapshotOf}
 use Rattle.session.specs.History.{IsLegal, IsWhole, Publishes}
 use Rattle.session.specs.Texts.{text_of_history}
-use Rattle.session.specs.Stopgap.{IsStopgap}
+use Rattle.stopgap.specs.Stopgap.{IsStopgap}
 
 -- ---- what is claimed of a published claim
 
