@@ -1,12 +1,13 @@
 //! The snapshot that a plan of the desk is made for.
 ghost use Rattle.std.specs.Prelude.{◌≡◌, ℕ, ◌+◌, ◌*◌, ◌≤◌, ◌<◌, [], ◌∷◌, length, All, Some, IfOk};
 ghost use Rattle.session.specs.Commands.{IsOpening, IsSubmission};
+ghost use Rattle.session.specs.StateSeen.{StateSeen, IsState};
 ghost use Rattle.session.specs.DeskSnapshot.{first_slice, horizon_span, desk_telescope, request_part, group_part, groups_from, snapshot_of};
 
 use crate::command::{Opening, Submission};
 use plan_base::{
-    GroupNo, GroupPart, ListOf, Op, Parts, RequestNo, RequestPart, Sec, SiteNo, SliceNo, Span,
-    TelescopeNo, TelescopePart,
+    GroupNo, GroupPart, ListOf, Op, Parts, RequestNo, RequestPart, Sec, SiteNo, SliceNo, Snapshot,
+    SnapshotFault, Span, TelescopeNo, TelescopePart,
 };
 use std::alloc::{AllocError, Global};
 
@@ -96,7 +97,7 @@ fn make_groups(alloc: Global, submissions: &[Submission]) -> Result<ListOf<Group
 }
 
 /// The parts of the snapshot of a desk that was opened so.
-pub(crate) fn snapshot_parts(
+fn snapshot_parts(
     alloc: Global,
     version: u64,
     opening: Opening,
@@ -117,4 +118,26 @@ pub(crate) fn snapshot_parts(
         groups: make_groups(alloc, submissions)?,
         quotas: ListOf::new(alloc),
     })
+}
+
+/// The snapshot of a desk that was opened so. Fails only for want of memory.
+pub(crate) fn desk_snapshot(
+    alloc: Global,
+    version: u64,
+    opening: Opening,
+    submissions: &[Submission],
+) -> Result<Snapshot, AllocError>
+    requires version { version ≤ 524288 }
+    requires opening { IsOpening opening }
+    requires state { IsState (record { version = version; opening = Some opening; submissions = submissions.now }) }
+    ensures { IfOk result (λ snapshot. snapshot ≡ snapshot_of (record { version = version; opening = Some opening; submissions = submissions.now }) opening) }
+{
+    let parts = snapshot_parts(alloc, version, opening, submissions)?;
+    match Snapshot::build(alloc, parts) {
+        Ok(snapshot) => Ok(snapshot),
+        Err(fault) => match fault {
+            SnapshotFault::NoMemory => Err(AllocError),
+            _ => unreachable!(),
+        },
+    }
 }

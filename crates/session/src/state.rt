@@ -1,11 +1,13 @@
 //! What a desk holds, and what a command does to it.
-ghost use Rattle.std.specs.Prelude.{◌≡◌, ◌<◌, ◌≤◌, ◌↔◌, IsTrue, IsSome, Ok, IfOk, OnOk, OnErr, length};
+ghost use Rattle.std.specs.Prelude.{◌≡◌, ◌<◌, ◌≤◌, ◌↔◌, IsTrue, IsSome, None, MatchOption, Ok, IfOk, OnOk, OnErr, length};
 ghost use Rattle.session.specs.Commands.{IsCommand, IsOpening, IsSubmission};
+ghost use Rattle.session.specs.DeskSnapshot.{IsSnapshotOf};
 ghost use Rattle.session.specs.Step.{start, step, published, IsPlanning};
 
 use crate::command::{Command, Opening, Submission};
 use crate::entry::{Refusal, Reply};
-use plan_base::{GroupNo, ListOf, RequestNo};
+use crate::snapshot::desk_snapshot;
+use plan_base::{GroupNo, ListOf, RequestNo, Snapshot};
 use std::alloc::{AllocError, Global};
 use std::marker::Model;
 
@@ -55,6 +57,20 @@ impl State {
         ensures { IsTrue result ↔ IsSome self.now.opening }
     {
         self.opening.is_some()
+    }
+
+    /// The snapshot that a plan of the desk is made for; none where the desk isn't opened. Fails only for want of
+    /// memory.
+    pub fn snapshot(&self, alloc: Global) -> Result<Option<Snapshot>, AllocError>
+        requires { self.now.version ≤ 524288 }
+        ensures { IfOk result (λ found. MatchOption found (self.now.opening ≡ None) (λ parts. IsSnapshotOf self.now parts)) }
+    {
+        let Some(opening) = self.opening else {
+            return Ok(None);
+        };
+        let submissions = self.submissions.as_slice();
+        let snapshot = desk_snapshot(alloc, self.version, opening, submissions)?;
+        Ok(Some(snapshot))
     }
 
     /// Does a command, and says what is replied. A refused command changes nothing. A plan on an opened desk is no
