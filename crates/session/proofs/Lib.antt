@@ -8,3 +8,4 @@ pub mod Written
 pub mod Turns
 pub mod Played
 pub mod StartCounts
+pub mod DeskClaims

@@ -19,7 +19,7 @@ use Rattle.session.specs.StateSeen.{StateSeen}
 use Rattle.session.specs.Step.{start, step_open, step_submit, step_line, published, IsPlanning}
 use Rattle.session.specs.DeskSnapshot.{IsSnapshotOf}
 use Rattle.session.specs.History.{read_found, read_at, after_what, replay, Answers, AnswersPrefix, HasTaken, IsPublication, IsReply, IsEntry, EachAfter, IsLegal, IsWhole, Publishes}
-use Rattle.session.specs.Session.{IsBoundedClaim, IsBoundedHistory, IsDeskClaim, step_entry, take_entry, publish_entry, DoesLine, BeginsLine}
+use Rattle.session.specs.Session.{IsBoundedClaim, IsBoundedHistory, IsSound, IsDeskClaim, step_entry, take_entry, publish_entry, DoesLine, BeginsLine}
 use Rattle.session.proofs.Histories.{replay_more, each_more, each_none}
 use Rattle.session.proofs.Turns.{AreMine, mine_more, entries_mine, turns, turns_more, answers_more, last_more, one_caller, one_whole}
 
@@ -170,21 +170,16 @@ whole_played lines h s p = one_whole lines h p.leaves.mine p.answered
 pub legal_take : (lines : List ScriptLine) (n : ℕ) (h : List EventEntry) (s : StateSeen) → Played lines n h s → n < length lines → Leaves lines (h ++ take_entry s (n + 1) ∷ []) s → IsLegal (lines ∷ []) (h ++ take_entry s (n + 1) ∷ [])
 legal_take lines n h s p few l = record { order = one_caller lines (h ++ take_entry s (n + 1) ∷ []) l.mine (n, inr (turns h, few, turns_more h (take_entry s (n + 1) ∷ []), p.answered)); each = l.each }
 
--- a legal history with bounded claims
-pub record IsPart (lines : List ScriptLine) (h : List EventEntry) : Type 0 where
-  pub legal : IsLegal (lines ∷ []) h
-  pub bounded : IsBoundedHistory (lines ∷ []) h
+pub sound_played : (lines : List ScriptLine) (n : ℕ) (h : List EventEntry) (s : StateSeen) → Played lines n h s → n ≤ length lines → IsSound lines h
+sound_played lines n h s p few = record { legal = legal_played lines n h s p few; bounded = p.leaves.bounded }
 
-pub part_played : (lines : List ScriptLine) (n : ℕ) (h : List EventEntry) (s : StateSeen) → Played lines n h s → n ≤ length lines → IsPart lines h
-part_played lines n h s p few = record { legal = legal_played lines n h s p few; bounded = p.leaves.bounded }
-
-part_take : (lines : List ScriptLine) (n : ℕ) (h : List EventEntry) (s : StateSeen) (line : ScriptLine) → Played lines n h s → n < length lines → slice_get lines n ≡ Some line → IsPlanning s (command_of line) → IsPart lines (h ++ take_entry s (n + 1) ∷ [])
-part_take lines n h s line p few at asks =
+sound_take : (lines : List ScriptLine) (n : ℕ) (h : List EventEntry) (s : StateSeen) (line : ScriptLine) → Played lines n h s → n < length lines → slice_get lines n ≡ Some line → IsPlanning s (command_of line) → IsSound lines (h ++ take_entry s (n + 1) ∷ [])
+sound_take lines n h s line p few at asks =
     let l = leaves_take lines n h s line p.leaves at asks in
     record { legal = legal_take lines n h s p few l; bounded = l.bounded }
 
 -- with the entries of the next line, or the first of them
-pub part_begun : (lines : List ScriptLine) (n : ℕ) (h : List EventEntry) (s : StateSeen) (line : ScriptLine) (es : List EventEntry) → Played lines n h s → n < length lines → slice_get lines n ≡ Some line → BeginsLine s (n + 1) (command_of line) es → IsPart lines (h ++ es)
-part_begun lines n h s line es p few at (inl d) = subst (λ (xs : List EventEntry). IsPart lines xs) (sym (ap (λ (ys : List EventEntry). h ++ ys) d ∙ append-nil h)) (part_played lines n h s p (omega arith))
-part_begun lines n h s line es p few at (inr (inl d)) = subst (λ (xs : List EventEntry). IsPart lines (h ++ xs)) (sym d.1) (part_take lines n h s line p few at d.0)
-part_begun lines n h s line es p few at (inr (inr d)) = part_played lines (n + 1) (h ++ es) d.0 (played_line lines n h s d.0 line es p at d.1) (omega arith)
+pub sound_begun : (lines : List ScriptLine) (n : ℕ) (h : List EventEntry) (s : StateSeen) (line : ScriptLine) (es : List EventEntry) → Played lines n h s → n < length lines → slice_get lines n ≡ Some line → BeginsLine s (n + 1) (command_of line) es → IsSound lines (h ++ es)
+sound_begun lines n h s line es p few at (inl d) = subst (λ (xs : List EventEntry). IsSound lines xs) (sym (ap (λ (ys : List EventEntry). h ++ ys) d ∙ append-nil h)) (sound_played lines n h s p (omega arith))
+sound_begun lines n h s line es p few at (inr (inl d)) = subst (λ (xs : List EventEntry). IsSound lines (h ++ xs)) (sym d.1) (sound_take lines n h s line p few at d.0)
+sound_begun lines n h s line es p few at (inr (inr d)) = sound_played lines (n + 1) (h ++ es) d.0 (played_line lines n h s d.0 line es p at d.1) (omega arith)

@@ -1,7 +1,8 @@
 //! What a line asks the desk to do.
 ghost use Rattle.std.specs.Prelude.{◌≡◌, ◌≤◌, IfOk, IfSome, Some, None, option_map};
 ghost use Rattle.serde_json.specs.View.{view};
-ghost use Rattle.session.specs.Commands.{within, whole_of, whole_member, open_of, submit_of, form_of, command_of_data, read_bytes, IsCommand};
+ghost use Rattle.session.specs.Commands.{within, whole_of, whole_member, open_of, submit_of, form_of, command_of_data, read_bytes, command_of, IsCommand};
+ghost use Rattle.plan_io.specs.LinesOf.{line_of};
 
 use crate::entry::Refusal;
 use plan_base::{Sec, Span};
@@ -10,6 +11,9 @@ use std::alloc::{AllocError, Global};
 
 /// The last moment that a line may name: the end of the year 9999.
 const LATEST: u64 = 253_402_300_799;
+
+/// The most bytes of a line.
+const LONGEST: usize = 1_048_576;
 
 /// What the desk is opened with.
 #[derive(Clone, Copy, Debug, PartialEq, Eq)]
@@ -112,18 +116,12 @@ fn read_value(value: &Value) -> Option<Command>
     read_form(value.get("do")?.as_str()?, value)
 }
 
-/// Reads what a line says: a JSON object of one of the three forms, with other members ignored. A line that isn't
-/// one, or that has more than 1,048,576 bytes, is `NotBuilt`. Fails only for want of memory.
-///
-/// - `open`: `now` 0 to 253,402,300,799, `slice` 60 to 3,600, `horizon` 1 to 1,440.
-/// - `submit`: `seconds` 1 to 86,400, `value` 1 to 288,000,000, `from` and `to` 0 to 253,402,300,799 with
-///   `from < to`.
-/// - `plan`: no further members.
-pub fn read_command(alloc: Global, line: &[u8]) -> Result<Result<Command, Refusal>, AllocError>
-    ensures read { IfOk result (λ read. read ≡ read_bytes line.now) }
+/// Reads what the bytes of a line say.
+fn read_bytes(alloc: Global, bytes: &[u8]) -> Result<Result<Command, Refusal>, AllocError>
+    ensures read { IfOk result (λ read. read ≡ read_bytes bytes.now) }
     ensures ranges { IfOk result (λ read. IfOk read IsCommand) }
 {
-    match Value::from_slice(alloc, line) {
+    match Value::from_slice(alloc, bytes) {
         Ok(value) => Ok(read_value(&value).ok_or(Refusal::NotBuilt)),
         Err(error) => {
             if error.is_memory() {
@@ -132,4 +130,21 @@ pub fn read_command(alloc: Global, line: &[u8]) -> Result<Result<Command, Refusa
             Ok(Err(Refusal::NotBuilt))
         }
     }
+}
+
+/// Reads what a line says: a JSON object of one of the three forms, with other members ignored. A line that isn't
+/// one, or that has more than 1,048,576 bytes, is `NotBuilt`. Fails only for want of memory.
+///
+/// - `open`: `now` 0 to 253,402,300,799, `slice` 60 to 3,600, `horizon` 1 to 1,440.
+/// - `submit`: `seconds` 1 to 86,400, `value` 1 to 288,000,000, `from` and `to` 0 to 253,402,300,799 with
+///   `from < to`.
+/// - `plan`: no further members.
+pub fn read_command(alloc: Global, line: &[u8]) -> Result<Result<Command, Refusal>, AllocError>
+    ensures read { IfOk result (λ read. read ≡ command_of (line_of line.now)) }
+    ensures ranges { IfOk result (λ read. IfOk read IsCommand) }
+{
+    if line.len() <= LONGEST {
+        return read_bytes(alloc, line);
+    }
+    Ok(Err(Refusal::NotBuilt))
 }

@@ -1,6 +1,7 @@
 //! What a desk holds, and what a command does to it.
 ghost use Rattle.std.specs.Prelude.{◌≡◌, ◌<◌, ◌≤◌, ◌↔◌, IsTrue, IsSome, None, MatchOption, Ok, IfOk, OnOk, OnErr, length};
 ghost use Rattle.session.specs.Commands.{IsCommand, IsOpening, IsSubmission};
+ghost use Rattle.session.specs.StateSeen.{IsState};
 ghost use Rattle.session.specs.DeskSnapshot.{IsSnapshotOf};
 ghost use Rattle.session.specs.Step.{start, step, published, IsPlanning};
 
@@ -63,7 +64,8 @@ impl State {
     /// memory.
     pub fn snapshot(&self, alloc: Global) -> Result<Option<Snapshot>, AllocError>
         requires { self.now.version ≤ 524288 }
-        ensures { IfOk result (λ found. MatchOption found (self.now.opening ≡ None) (λ parts. IsSnapshotOf self.now parts)) }
+        ensures found { IfOk result (λ found. MatchOption found (self.now.opening ≡ None) (λ parts. IsSnapshotOf self.now parts)) }
+        ensures state { IsState self.now }
     {
         let Some(opening) = self.opening else {
             return Ok(None);

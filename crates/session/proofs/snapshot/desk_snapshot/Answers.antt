@@ -12,4 +12,5 @@ build-requires c =
 pub unreachable-requires : goal.unreachable-requires
 unreachable-requires c =
     let none : fault_of c.in_ok-parts.parts ≡ None = ap fault_of c.in_ok-parts.ensures ∙ desk_faultless _ c.args.opening c.requires.state c.requires.opening in
-    let err = c.in-Err.ensures.err in ?
+    let some : fault_of c.in_ok-parts.parts ≡ Some c.in-Err.fault = c.in-Err.ensures.err c.in_default.not-NoMemory in
+    let both : ◌≡◌ {A = _} (Some c.in-Err.fault) None = sym some ∙ none in cc

@@ -2,7 +2,7 @@ use Rattle.std.proofs.Common.{◌∙◌, sym, ap, IsTrue, false}
 use Rattle.std.specs.Option.{ok_or}
 use Rattle.session.specs.declared.entry.Refusal.TheVariants.{NotBuilt}
 use Rattle.session.proofs.Readings.{read_of_value, read_of_none}
-use Rattle.session.proofs.command.read_command.Goals as goal
+use Rattle.session.proofs.command.read_bytes.Goals as goal
 
 pub returns-in-Ok-clause-read : goal.returns-in-Ok-clause-read
 returns-in-Ok-clause-read c =
