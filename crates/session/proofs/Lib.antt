@@ -9,3 +9,6 @@ pub mod Turns
 pub mod Played
 pub mod StartCounts
 pub mod DeskClaims
+pub mod LineTexts
+pub mod Doing
+pub mod Inputs

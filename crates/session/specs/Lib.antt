@@ -7,5 +7,4 @@ pub mod Texts
 pub mod DeskSnapshot
 pub mod History
 pub mod Laws
-pub mod Scratch
 pub mod Session
