@@ -20,3 +20,6 @@ pub use run::run_session;
 pub use state::State;
 pub use status::Status;
 pub use text::write_entry;
+
+#[cfg(test)]
+mod tests;

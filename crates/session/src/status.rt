@@ -25,7 +25,7 @@ pub enum Status {
 
 impl Status {
     /// The exit status, 0 to 8.
-    pub fn number(self) -> i32 {
-        self as i32
+    pub fn number(self) -> u8 {
+        self as u8
     }
 }
