@@ -1,3 +1,4 @@
 pub mod Key
 pub mod Register
 pub mod Rising
+pub mod Amounts

@@ -1,0 +1,42 @@
+// The sums that are kept of each account, so that no call goes over all entries.
+
+ghost use Rattle.std.specs.Prelude.{◌≡◌, ◌+◌, ◌^◌, ◌<◌, ◌≤◌, ℕ, All, length, slice_index_or};
+ghost use Rattle.allocations.specs.Amounts.{amount_at, no_sums};
+
+/// Seconds of the account at a place of the register.
+#[derive(Clone, Copy, Debug)]
+pub struct Amount {
+    pub account: usize,
+    pub seconds: u64,
+}
+
+/// What the entries leave of an account, and what groups hold of it.
+#[derive(Clone, Copy, Debug)]
+pub struct Sums {
+    pub balance: u64,
+    pub held: u64,
+}
+
+/// Adds amounts to what is held.
+pub fn raise(sums: &mut [Sums], amounts: &[Amount])
+    requires places { All (λ m. m.account < length sums.old) amounts.now }
+    requires room { (i : ℕ) → i < length sums.old → (slice_index_or sums.old i no_sums).held + amount_at i amounts.now < 2 ^ 64 }
+    ensures held { (i : ℕ) → i < length sums.old → (slice_index_or sums.new i no_sums).held ≡ (slice_index_or sums.old i no_sums).held + amount_at i amounts.now }
+    ensures balance { (i : ℕ) → i < length sums.old → (slice_index_or sums.new i no_sums).balance ≡ (slice_index_or sums.old i no_sums).balance }
+{
+    for amount in amounts {
+        sums[amount.account].held += amount.seconds;
+    }
+}
+
+/// Takes amounts from what is held.
+pub fn lower(sums: &mut [Sums], amounts: &[Amount])
+    requires places { All (λ m. m.account < length sums.old) amounts.now }
+    requires held { (i : ℕ) → i < length sums.old → amount_at i amounts.now ≤ (slice_index_or sums.old i no_sums).held }
+    ensures held { (i : ℕ) → i < length sums.old → (slice_index_or sums.new i no_sums).held + amount_at i amounts.now ≡ (slice_index_or sums.old i no_sums).held }
+    ensures balance { (i : ℕ) → i < length sums.old → (slice_index_or sums.new i no_sums).balance ≡ (slice_index_or sums.old i no_sums).balance }
+{
+    for amount in amounts {
+        sums[amount.account].held -= amount.seconds;
+    }
+}
