@@ -4,7 +4,9 @@
 mod entry;
 mod fault;
 mod key;
+mod posting;
 mod register;
+mod store;
 mod sums;
 
 pub use entry::{Entry, EntryKind, Hold};

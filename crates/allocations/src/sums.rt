@@ -1,7 +1,9 @@
 // The sums that are kept of each account, so that no call goes over all entries.
 
 ghost use Rattle.std.specs.Prelude.{◌≡◌, ◌+◌, ◌^◌, ◌<◌, ◌≤◌, ℕ, All, length, slice_index_or};
-ghost use Rattle.allocations.specs.Amounts.{amount_at, no_sums};
+ghost use Rattle.allocations.specs.Amounts.{amount_at, no_sums, sums_after, CanTake};
+
+use crate::entry::EntryKind;
 
 /// Seconds of the account at a place of the register.
 #[derive(Clone, Copy, Debug)]
@@ -15,6 +17,23 @@ pub struct Amount {
 pub struct Sums {
     pub balance: u64,
     pub held: u64,
+}
+
+impl Sums {
+    /// The sums after an entry.
+    pub fn after(self, kind: EntryKind, seconds: u64) -> Sums
+        requires { CanTake self kind seconds }
+        ensures { result ≡ sums_after self kind seconds }
+    {
+        let balance = match kind {
+            EntryKind::Grant | EntryKind::Refund => self.balance + seconds,
+            EntryKind::Charge => self.balance - seconds,
+        };
+        Sums {
+            balance,
+            held: self.held,
+        }
+    }
 }
 
 /// Adds amounts to what is held.
