@@ -14,7 +14,7 @@ use Rattle.allocations.specs.Key.{account_rank, key_cmp, is_key}
 pub key_cmp_total : IsTotalOrder key_cmp
 key_cmp_total = then_total (on_total (λ (k : Key). k.proposal) nat_list_cmp_total) (then_total (on_total (λ (k : Key). account_rank k.account) nat_cmp_total) (on_total (λ (k : Key). k.instrument) nat_list_cmp_total))
 
-nat_same : (x y : ℕ) → nat_cmp x y ≡ Equal → x ≡ y
+pub nat_same : (x y : ℕ) → nat_cmp x y ≡ Equal → x ≡ y
 nat_same x y h = by_ranked _ _ _ (nat_cmp x y) (ranked x y (nat_cmp x y) refl) (λ l p. cc (sym l, h)) (λ _ p. p) (λ g p. cc (sym g, h))
 
 pub then_equal : (r s : Ordering) → ordering_then r s ≡ Equal → (r ≡ Equal) × (s ≡ Equal)

@@ -2,3 +2,4 @@ pub mod Keys
 pub mod Order
 pub mod Registers
 pub mod Tied
+pub mod Groups

@@ -1,22 +1,21 @@
 // The books as they are kept: accounts, entries and holds by place, with sums beside them.
 
-ghost use Rattle.std.specs.Prelude.{◌≡◌, ◌+◌, ◌-◌, ◌^◌, ◌<◌, ◌≤◌, ◌++◌, ◌∷◌, [], ℕ, None, AllPairs, All, Contains, IfOk, IfErr, OnOk, OnErr, length, map, slice_get};
+ghost use Rattle.std.specs.Prelude.{◌≡◌, ◌+◌, ◌-◌, ◌^◌, ◌<◌, ◌≤◌, ◌++◌, ◌∷◌, [], All, Contains, IfSome, IfOk, IfErr, OnOk, OnErr, length, slice_get};
 ghost use Rattle.std.specs.List.{insert};
 ghost use Rattle.std.specs.Ordering.{nat_cmp};
 ghost use Rattle.std.specs.BTreeSet.{insert_key};
-ghost use Rattle.allocations.specs.declared.entry.EntryKind.TheVariants.{Grant, Charge, Refund};
+ghost use Rattle.allocations.specs.declared.entry.EntryKind.TheVariants.{Charge};
 ghost use Rattle.allocations.specs.Key.{key_cmp};
 ghost use Rattle.allocations.specs.Rising.{Rises, IsGap, IsFoundAt};
-ghost use Rattle.allocations.specs.Amounts.{amount_at};
-ghost use Rattle.allocations.specs.Raw.{key_at, posted, held_at};
-ghost use Rattle.allocations.specs.Store.{StoreSeen, no_group, group_at, given_at, with_posting, with_group};
+ghost use Rattle.allocations.specs.Raw.{posted, held_at};
+ghost use Rattle.allocations.specs.Store.{group_at, given_at, with_posting, with_group, numbers_of, empty_group, amount_keys, CanHold};
 
 use crate::entry::EntryKind;
 use crate::key::Key;
 use crate::posting::{GroupState, Posting};
 use crate::register::Register;
 use crate::sums::{Amount, Sums, lower, raise};
-use plan_base::{GroupNo, ListOf, Name};
+use plan_base::{GroupNo, ListOf};
 use std::alloc::{AllocError, Global};
 use std::marker::Model;
 use std::mem;
@@ -125,5 +124,70 @@ impl Store {
         self.sums[posting.account] = sums.after(posting.kind, posting.seconds);
         let _ = self.postings.push(posting);
         self.spare -= 1;
+    }
+
+    /// Where a group stands, or where it would.
+    pub fn group_index(&self, group: GroupNo) -> Result<usize, usize>
+        ensures { IsFoundAt nat_cmp (numbers_of self.now.groups) group.0 result }
+    {
+        let number = group.0;
+        self.groups
+            .binary_search_by(|state| state.group.0.cmp(&number))
+    }
+
+    /// Makes room for a group. Fails only for want of memory.
+    pub fn make_slot(&mut self) -> Result<(), AllocError>
+        ensures slot { OnOk result (0 < self.new.slots) }
+        ensures rest { self.new ≡ record self.old { slots = self.new.slots } }
+    {
+        self.groups.reserve(1)
+    }
+
+    /// Adds a group that holds nothing.
+    pub fn open(&mut self, alloc: Global, index: usize, group: GroupNo)
+        requires gap { IsGap nat_cmp (numbers_of self.old.groups) group.0 index }
+        requires slot { 0 < self.old.slots }
+        ensures { self.new ≡ record self.old { groups = insert self.old.groups index (empty_group group); slots = self.new.slots } }
+    {
+        let state = GroupState {
+            group,
+            holds: ListOf::new(alloc),
+            ipp: None,
+        };
+        let _ = self.groups.insert(index, state);
+    }
+
+    /// Ends what a group holds, and gives the list of it.
+    pub fn lift(&mut self, alloc: Global, index: usize) -> ListOf<Amount>
+        requires { index < length self.old.groups }
+        ensures holds { result ≡ (group_at self.old.groups index).holds }
+        ensures rest { self.new ≡ with_group self.old index (record (group_at self.old.groups index) { holds = [] }) }
+    {
+        let state = &mut self.groups[index];
+        let holds = mem::replace(&mut state.holds, ListOf::new(alloc));
+        lower(self.sums.as_mut_slice(), holds.as_slice());
+        holds
+    }
+
+    /// Gives a group that holds nothing what it holds from now on.
+    pub fn lay(&mut self, index: usize, holds: ListOf<Amount>)
+        requires index { index < length self.old.groups }
+        requires nothing { (group_at self.old.groups index).holds ≡ [] }
+        requires places { All (λ m. m.account < length self.old.keys) holds }
+        requires rising { Rises key_cmp (amount_keys self.old.keys holds) }
+        requires room { CanHold self.old holds }
+        ensures { self.new ≡ with_group self.old index (record (group_at self.old.groups index) { holds = holds }) }
+    {
+        raise(self.sums.as_mut_slice(), holds.as_slice());
+        self.groups[index].holds = holds;
+    }
+
+    /// Sets which ipp charge of a group stands.
+    pub fn set_ipp(&mut self, index: usize, ipp: Option<Amount>)
+        requires index { index < length self.old.groups }
+        requires place { IfSome ipp (λ m. m.account < length self.old.keys) }
+        ensures { self.new ≡ with_group self.old index (record (group_at self.old.groups index) { ipp = ipp }) }
+    {
+        self.groups[index].ipp = ipp;
     }
 }

@@ -1,6 +1,6 @@
 // The sums that are kept of each account, so that no call goes over all entries.
 
-ghost use Rattle.std.specs.Prelude.{◌≡◌, ◌+◌, ◌^◌, ◌<◌, ◌≤◌, ℕ, All, length, slice_index_or};
+ghost use Rattle.std.specs.Prelude.{◌≡◌, ◌+◌, ◌<◌, ◌≤◌, ℕ, All, length, slice_index_or};
 ghost use Rattle.allocations.specs.Amounts.{amount_at, no_sums, sums_after, CanTake};
 
 use crate::entry::EntryKind;
@@ -34,17 +34,29 @@ impl Sums {
             held: self.held,
         }
     }
+
+    /// The sums when more is held.
+    fn raised(self, seconds: u64) -> Sums
+        requires { self.held + seconds ≤ self.balance }
+        ensures { result ≡ record self { held = self.held + seconds } }
+    {
+        Sums {
+            balance: self.balance,
+            held: self.held + seconds,
+        }
+    }
 }
 
 /// Adds amounts to what is held.
 pub fn raise(sums: &mut [Sums], amounts: &[Amount])
     requires places { All (λ m. m.account < length sums.old) amounts.now }
-    requires room { (i : ℕ) → i < length sums.old → (slice_index_or sums.old i no_sums).held + amount_at i amounts.now < 2 ^ 64 }
+    requires room { (i : ℕ) → i < length sums.old → (slice_index_or sums.old i no_sums).held + amount_at i amounts.now ≤ (slice_index_or sums.old i no_sums).balance }
     ensures held { (i : ℕ) → i < length sums.old → (slice_index_or sums.new i no_sums).held ≡ (slice_index_or sums.old i no_sums).held + amount_at i amounts.now }
     ensures balance { (i : ℕ) → i < length sums.old → (slice_index_or sums.new i no_sums).balance ≡ (slice_index_or sums.old i no_sums).balance }
 {
     for amount in amounts {
-        sums[amount.account].held += amount.seconds;
+        let place = amount.account;
+        sums[place] = sums[place].raised(amount.seconds);
     }
 }
 
