@@ -3,3 +3,4 @@ pub mod Order
 pub mod Registers
 pub mod Tied
 pub mod Groups
+pub mod Seen

@@ -6,3 +6,4 @@ pub mod Books
 pub mod Raw
 pub mod Store
 pub mod StoreInside
+pub mod Refusals
