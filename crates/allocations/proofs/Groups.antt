@@ -1,5 +1,6 @@
 -- What changes of groups keep.
-use Rattle.std.proofs.Common.{◌≡◌, ℕ, ◌+◌, ◌-◌, ◌<◌, ◌≤◌, List, [], ◌∷◌, ◌++◌, length, get_or, set, take, drop, refl, sym, ap, ◌∙◌, subst, inl, inr, ⊎_elim, arith, map, None}
+use Rattle.std.proofs.lemmas.List.{get_or-set_same}
+use Rattle.std.proofs.Common.{◌≡◌, ℕ, zero, suc, ◌+◌, ◌-◌, ◌<◌, ◌≤◌, List, [], ◌∷◌, ◌++◌, length, get_or, set, take, drop, refl, sym, ap, ◌∙◌, subst, inl, inr, ⊎_elim, arith, map, None}
 use Rattle.std.specs.Prelude.{All, AllPairs}
 use Rattle.std.specs.List.{insert}
 use Rattle.std.specs.Ordering.{nat_cmp}
@@ -72,3 +73,16 @@ grouped_open keys gs j n h g = record {
 -- a write to all of a list
 pub put_all : {X : Type 0} (n : ℕ) (new old : List X) → n ≡ length old → length new ≡ length old → take n (new ++ drop (length new) old) ≡ new
 put_all n new old e f = ap (λ (m : ℕ). take m (new ++ drop (length new) old)) (e ∙ sym f) ∙ take-append_seam new (drop (length new) old)
+
+pub set_set : {X : Type 0} (xs : List X) (i : ℕ) (x y : X) → set (set xs i x) i y ≡ set xs i y
+set_set {X} []  i x y = refl
+set_set {X} (z ∷ zs) zero x y = refl
+set_set {X} (z ∷ zs) (suc i) x y = ap (λ (l : List X). z ∷ l) (set_set zs i x y)
+
+-- a group that is lifted, and then has no charge that stands
+pub emptied : (gs : List GroupState) (j : ℕ) → j < length gs
+    → set (set gs j (record (group_at gs j) { holds = [] })) j (record (group_at (set gs j (record (group_at gs j) { holds = [] })) j) { ipp = None }) ≡ set gs j (empty_group (group_at gs j).group)
+emptied gs j l =
+    let lifted : GroupState = record (group_at gs j) { holds = [] } in
+    let at : group_at (set gs j lifted) j ≡ lifted = get_or-set_same gs j lifted no_group l in
+    ap (λ (g : GroupState). set (set gs j lifted) j (record g { ipp = None })) at ∙ set_set gs j lifted (empty_group (group_at gs j).group)

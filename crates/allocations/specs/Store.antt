@@ -1,5 +1,5 @@
 -- What contracts see of a store.
-use Rattle.std.specs.Prelude.{◌≡◌, ℕ, ◌+◌, ◌-◌, ◌<◌, ◌≤◌, ◌++◌, ◌∷◌, List, [], Option, Some, None, length, map, slice_index_or, slice_set}
+use Rattle.std.specs.Prelude.{◌≡◌, ℕ, ◌+◌, ◌-◌, ◌^◌, ◌<◌, ◌≤◌, ◌++◌, ◌∷◌, List, [], Option, Some, None, length, map, slice_index_or, slice_set}
 use Rattle.allocations.specs.declared.key.Key.{Key}
 use Rattle.allocations.specs.declared.entry.EntryKind.{EntryKind}
 use Rattle.allocations.specs.declared.entry.EntryKind.TheVariants.{Grant, Charge, Refund}
@@ -7,6 +7,7 @@ use Rattle.allocations.specs.declared.sums.Amount.{Amount}
 use Rattle.allocations.specs.declared.posting.Posting.{Posting}
 use Rattle.allocations.specs.declared.posting.GroupState.{GroupState}
 use Rattle.allocations.specs.Books.{Books}
+use Rattle.std.specs.Option.{option_to_list}
 use Rattle.plan_base.specs.declared.number.GroupNo.{GroupNo}
 use Rattle.allocations.specs.Amounts.{amount_at}
 use Rattle.allocations.specs.Raw.{key_at, books_of, posted, held_at}
@@ -59,3 +60,35 @@ amount_keys keys amounts = map (λ m. key_at keys m.account) amounts
 -- the amounts fit what is left of each account
 abbrev pub CanHold : StoreSeen → List Amount → Type 0
 CanHold s amounts = (i : ℕ) → i < length s.keys → held_at i s.groups + amount_at i amounts + posted Charge i s.postings ≤ given_at i s.postings
+
+-- the posting that gives a group's ipp charge back
+abbrev pub refund_posting : GroupNo → Amount → Posting
+refund_posting group m = record { account = m.account; kind = Refund; seconds = m.seconds; group = group; request = record { 0 = 0 } }
+
+-- the refund of a group's ipp charge, where that stands
+abbrev pub refunds_of : GroupState → List Posting
+refunds_of g = map (refund_posting g.group) (option_to_list g.ipp)
+
+-- the postings once the group at a place, if one is named, was refunded
+abbrev pub freed_postings : Option ℕ → List Posting → List GroupState → List Posting
+freed_postings None postings groups = postings
+freed_postings (Some j) postings groups = postings ++ refunds_of (group_at groups j)
+
+-- the groups once the group at a place, if one is named, holds nothing
+abbrev pub freed_groups : Option ℕ → List GroupState → List GroupState
+freed_groups None groups = groups
+freed_groups (Some j) groups = slice_set groups j (empty_group (group_at groups j).group)
+
+-- the books once the group at a place, if one is named, was refunded and holds nothing
+abbrev pub freed_books : StoreSeen → Option ℕ → Books
+freed_books s old = books_of s.keys (freed_postings old s.postings s.groups) (freed_groups old s.groups)
+
+-- what is left of an account by its charges and holds
+abbrev pub left_at : ℕ → List Posting → List GroupState → ℕ
+left_at i postings groups = given_at i postings - posted Charge i postings - held_at i groups
+
+-- an entry leaves an account covered and in its range
+abbrev pub CanPost : StoreSeen → ℕ → EntryKind → ℕ → Type 0
+CanPost s i Grant seconds = given_at i s.postings + seconds < 2 ^ 64
+CanPost s i Charge seconds = held_at i s.groups + posted Charge i s.postings + seconds ≤ given_at i s.postings
+CanPost s i Refund seconds = given_at i s.postings + seconds < 2 ^ 64

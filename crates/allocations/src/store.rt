@@ -1,6 +1,6 @@
 // The books as they are kept: accounts, entries and holds by place, with sums beside them.
 
-ghost use Rattle.std.specs.Prelude.{◌≡◌, ◌+◌, ◌-◌, ◌^◌, ◌<◌, ◌≤◌, ◌++◌, ◌∷◌, [], All, Contains, IfSome, IfOk, IfErr, OnOk, OnErr, length, slice_get};
+ghost use Rattle.std.specs.Prelude.{◌≡◌, ◌+◌, ◌-◌, ◌^◌, ◌<◌, ◌≤◌, ◌++◌, ◌∷◌, [], Some, All, Contains, IfSome, IfOk, IfErr, OnOk, OnErr, length, slice_get};
 ghost use Rattle.std.specs.List.{insert};
 ghost use Rattle.std.specs.Ordering.{nat_cmp};
 ghost use Rattle.std.specs.BTreeSet.{insert_key};
@@ -8,14 +8,14 @@ ghost use Rattle.allocations.specs.declared.entry.EntryKind.TheVariants.{Charge}
 ghost use Rattle.allocations.specs.Key.{key_cmp};
 ghost use Rattle.allocations.specs.Rising.{Rises, IsGap, IsFoundAt};
 ghost use Rattle.allocations.specs.Raw.{posted, held_at};
-ghost use Rattle.allocations.specs.Store.{group_at, given_at, with_posting, with_group, numbers_of, empty_group, amount_keys, CanHold};
+ghost use Rattle.allocations.specs.Store.{group_at, given_at, with_posting, with_group, numbers_of, empty_group, amount_keys, CanHold, CanPost, refunds_of, freed_postings, freed_groups, left_at};
 
 use crate::entry::EntryKind;
 use crate::key::Key;
 use crate::posting::{GroupState, Posting};
 use crate::register::Register;
-use crate::sums::{Amount, Sums, lower, raise};
-use plan_base::{GroupNo, ListOf};
+use crate::sums::{Amount, Sums, lower, raise, seconds_at, seconds_in};
+use plan_base::{GroupNo, ListOf, RequestNo};
 use std::alloc::{AllocError, Global};
 use std::marker::Model;
 use std::mem;
@@ -116,8 +116,7 @@ impl Store {
     pub fn post(&mut self, posting: Posting)
         requires spare { 0 < self.old.spare }
         requires place { posting.account < length self.old.keys }
-        requires fits { given_at posting.account self.old.postings + posting.seconds < 2 ^ 64 }
-        requires covered { held_at posting.account self.old.groups + posted Charge posting.account (self.old.postings ++ posting ∷ []) ≤ given_at posting.account (self.old.postings ++ posting ∷ []) }
+        requires room { CanPost self.old posting.account posting.kind posting.seconds }
         ensures { self.new ≡ with_posting self.old posting }
     {
         let sums = self.sums[posting.account];
@@ -189,5 +188,47 @@ impl Store {
         ensures { self.new ≡ with_group self.old index (record (group_at self.old.groups index) { ipp = ipp }) }
     {
         self.groups[index].ipp = ipp;
+    }
+
+    /// What is left of an account by its charges and holds, with what the group at `old` gives back.
+    pub fn available(&self, place: usize, old: Option<usize>) -> u64
+        requires place { place < length self.now.keys }
+        requires old { IfSome old (λ j. j < length self.now.groups) }
+        requires fits { given_at place (freed_postings old self.now.postings self.now.groups) < 2 ^ 64 }
+        ensures { result ≡ left_at place (freed_postings old self.now.postings self.now.groups) (freed_groups old self.now.groups) }
+    {
+        let sums = self.sums[place];
+        match old {
+            None => sums.balance - sums.held,
+            Some(old) => {
+                let state = &self.groups[old];
+                let refunded = seconds_in(state.ipp, place);
+                let freed = seconds_at(state.holds.as_slice(), place);
+                sums.balance + refunded - (sums.held - freed)
+            }
+        }
+    }
+
+    /// Ends what a group holds, and refunds its ipp charge where that stands.
+    pub fn free(&mut self, alloc: Global, index: usize)
+        requires index { index < length self.old.groups }
+        requires spare { 0 < self.old.spare }
+        requires fits { All (λ p. given_at p.account self.old.postings + p.seconds < 2 ^ 64) (refunds_of (group_at self.old.groups index)) }
+        ensures freed { self.new ≡ record self.old { postings = freed_postings (Some index) self.old.postings self.old.groups; groups = freed_groups (Some index) self.old.groups; spare = self.new.spare } }
+        ensures spare { self.old.spare ≤ self.new.spare + 1 }
+    {
+        let group = self.groups[index].group;
+        let ipp = self.groups[index].ipp;
+        let _ = self.lift(alloc, index);
+        self.set_ipp(index, None);
+        if let Some(amount) = ipp {
+            self.post(Posting {
+                account: amount.account,
+                kind: EntryKind::Refund,
+                seconds: amount.seconds,
+                group,
+                request: RequestNo(0),
+            });
+        }
     }
 }

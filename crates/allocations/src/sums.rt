@@ -1,6 +1,7 @@
 // The sums that are kept of each account, so that no call goes over all entries.
 
-ghost use Rattle.std.specs.Prelude.{◌≡◌, ◌+◌, ◌<◌, ◌≤◌, ℕ, All, length, slice_index_or};
+ghost use Rattle.std.specs.Prelude.{◌≡◌, ◌+◌, ◌^◌, ◌<◌, ◌≤◌, ℕ, All, length, slice_index_or};
+ghost use Rattle.std.specs.Option.{option_to_list};
 ghost use Rattle.allocations.specs.Amounts.{amount_at, no_sums, sums_after, CanTake};
 
 use crate::entry::EntryKind;
@@ -69,5 +70,29 @@ pub fn lower(sums: &mut [Sums], amounts: &[Amount])
 {
     for amount in amounts {
         sums[amount.account].held -= amount.seconds;
+    }
+}
+
+/// The seconds of one account in a list of amounts.
+pub fn seconds_at(amounts: &[Amount], account: usize) -> u64
+    requires { amount_at account amounts.now < 2 ^ 64 }
+    ensures { result ≡ amount_at account amounts.now }
+{
+    let mut seconds = 0u64;
+    for amount in amounts {
+        if amount.account == account {
+            seconds += amount.seconds;
+        }
+    }
+    seconds
+}
+
+/// The seconds of one account in an amount, if there is one.
+pub fn seconds_in(amount: Option<Amount>, account: usize) -> u64
+    ensures { result ≡ amount_at account (option_to_list amount) }
+{
+    match amount {
+        Some(amount) if amount.account == account => amount.seconds,
+        _ => 0,
     }
 }
