@@ -4,3 +4,4 @@ pub mod Registers
 pub mod Tied
 pub mod Groups
 pub mod Seen
+pub mod Freed

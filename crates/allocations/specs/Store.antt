@@ -1,16 +1,17 @@
 -- What contracts see of a store.
-use Rattle.std.specs.Prelude.{◌≡◌, ℕ, ◌+◌, ◌-◌, ◌^◌, ◌<◌, ◌≤◌, ◌++◌, ◌∷◌, List, [], Option, Some, None, length, map, slice_index_or, slice_set}
+use Rattle.std.specs.Prelude.{◌≡◌, ◌≢◌, true, ℕ, ◌+◌, ◌-◌, ◌^◌, ◌<◌, ◌≤◌, ◌++◌, ◌∷◌, List, [], Option, Some, None, All, AllPairs, length, map, slice_index_or, slice_set}
 use Rattle.allocations.specs.declared.key.Key.{Key}
 use Rattle.allocations.specs.declared.entry.EntryKind.{EntryKind}
 use Rattle.allocations.specs.declared.entry.EntryKind.TheVariants.{Grant, Charge, Refund}
 use Rattle.allocations.specs.declared.sums.Amount.{Amount}
 use Rattle.allocations.specs.declared.posting.Posting.{Posting}
 use Rattle.allocations.specs.declared.posting.GroupState.{GroupState}
-use Rattle.allocations.specs.Books.{Books}
+use Rattle.allocations.specs.declared.entry.Hold.{Hold}
+use Rattle.allocations.specs.Books.{Books, has_grant}
 use Rattle.std.specs.Option.{option_to_list}
 use Rattle.plan_base.specs.declared.number.GroupNo.{GroupNo}
 use Rattle.allocations.specs.Amounts.{amount_at}
-use Rattle.allocations.specs.Raw.{key_at, books_of, posted, held_at}
+use Rattle.allocations.specs.Raw.{key_at, hold_of, books_of, posted, held_at, IsPlaced, IsGrouped}
 
 -- the accounts by place and in order, the postings, the groups in order, and the room for postings and groups
 pub record StoreSeen : Type 0 where
@@ -92,3 +93,19 @@ abbrev pub CanPost : StoreSeen → ℕ → EntryKind → ℕ → Type 0
 CanPost s i Grant seconds = given_at i s.postings + seconds < 2 ^ 64
 CanPost s i Charge seconds = held_at i s.groups + posted Charge i s.postings + seconds ≤ given_at i s.postings
 CanPost s i Refund seconds = given_at i s.postings + seconds < 2 ^ 64
+
+-- keys are apart, postings and groups name accounts, and groups and their holds are in order
+pub record IsSound (s : StoreSeen) : Type 0 where
+  pub apart : AllPairs (λ a b. a ≢ b) s.keys
+  pub located : All (λ p. p.account < length s.keys) s.postings
+  pub placed : All (IsPlaced (length s.keys)) s.groups
+  pub grouped : IsGrouped s.keys s.groups
+
+-- each account has a grant
+abbrev pub IsGranted : StoreSeen → Type 0
+IsGranted s = All (λ k. has_grant (store_books s).entries k ≡ true) s.keys
+
+-- the amount is of a known account, and stands for the hold
+pub record StandsFor (s : StoreSeen) (m : Amount) (h : Hold) : Type 0 where
+  pub account : m.account < length s.keys
+  pub hold : hold_of s.keys m ≡ h

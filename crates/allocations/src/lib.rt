@@ -4,6 +4,7 @@
 mod entry;
 mod fault;
 mod key;
+mod placing;
 mod posting;
 mod register;
 mod store;
@@ -12,3 +13,4 @@ mod sums;
 pub use entry::{Entry, EntryKind, Hold};
 pub use fault::{FullOf, LedgerFault};
 pub use key::{Account, Key};
+pub use placing::MOST_SECONDS;

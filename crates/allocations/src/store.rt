@@ -1,6 +1,6 @@
 // The books as they are kept: accounts, entries and holds by place, with sums beside them.
 
-ghost use Rattle.std.specs.Prelude.{◌≡◌, ◌+◌, ◌-◌, ◌^◌, ◌<◌, ◌≤◌, ◌++◌, ◌∷◌, [], Some, All, Contains, IfSome, IfOk, IfErr, OnOk, OnErr, length, slice_get};
+ghost use Rattle.std.specs.Prelude.{◌≡◌, ◌+◌, ◌-◌, ◌^◌, ◌<◌, ◌≤◌, ◌++◌, ◌∷◌, [], ◌↔◌, Some, IsTrue, All, Any, Contains, IfSome, IfOk, IfErr, OnOk, OnErr, length, slice_get};
 ghost use Rattle.std.specs.List.{insert};
 ghost use Rattle.std.specs.Ordering.{nat_cmp};
 ghost use Rattle.std.specs.BTreeSet.{insert_key};
@@ -8,14 +8,14 @@ ghost use Rattle.allocations.specs.declared.entry.EntryKind.TheVariants.{Charge}
 ghost use Rattle.allocations.specs.Key.{key_cmp};
 ghost use Rattle.allocations.specs.Rising.{Rises, IsGap, IsFoundAt};
 ghost use Rattle.allocations.specs.Raw.{posted, held_at};
-ghost use Rattle.allocations.specs.Store.{group_at, given_at, with_posting, with_group, numbers_of, empty_group, amount_keys, CanHold, CanPost, refunds_of, freed_postings, freed_groups, left_at};
+ghost use Rattle.allocations.specs.Store.{group_at, given_at, with_posting, with_group, numbers_of, empty_group, amount_keys, CanHold, CanPost, refunds_of, freed_postings, freed_groups, left_at, IsSound};
 
 use crate::entry::EntryKind;
 use crate::key::Key;
 use crate::posting::{GroupState, Posting};
 use crate::register::Register;
 use crate::sums::{Amount, Sums, lower, raise, seconds_at, seconds_in};
-use plan_base::{GroupNo, ListOf, RequestNo};
+use plan_base::{GroupNo, ListOf, Name, RequestNo};
 use std::alloc::{AllocError, Global};
 use std::marker::Model;
 use std::mem;
@@ -71,8 +71,16 @@ impl Store {
         ensures found { IfOk result (λ place. slice_get self.now.keys place ≡ Some key.now) }
         ensures gap { IfErr result (IsGap key_cmp self.now.listed key.now) }
         ensures absent { OnErr result (¬ (Contains self.now.keys key.now)) }
+        ensures sound { IsSound self.now }
     {
         self.register.find(key)
+    }
+
+    /// Whether a proposal has an account.
+    pub fn knows(&self, proposal: &Name) -> bool
+        ensures { IsTrue result ↔ Any (λ key. key.proposal ≡ proposal.now) self.now.keys }
+    {
+        self.register.knows(proposal)
     }
 
     /// What an account has, and what groups hold of it.
