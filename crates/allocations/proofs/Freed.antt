@@ -1,11 +1,11 @@
 -- What is left of an account once a group is freed.
 use Rattle.std.proofs.Common.{◌≡◌, ◌≢◌, ℕ, ◌+◌, ◌-◌, ◌<◌, ◌≤◌, List, [], ◌∷◌, ◌++◌, length, get_or, set, refl, sym, ap, ◌∙◌, subst, inl, inr, ⊎_elim, arith, map, Bool, true, false, Some, None, Option}
-use Rattle.std.specs.Prelude.{All, AllPairs, Contains, IfSome, sum_by, slice_get, if◌then◌else◌, ◌==◌, ◌&&◌, ◌||◌, nat_le}
+use Rattle.std.specs.Prelude.{All, Any, AllPairs, Contains, IfSome, sum_by, slice_get, if◌then◌else◌, ◌==◌, ◌&&◌, ◌||◌, nat_le}
 use Rattle.std.specs.List.{list_any}
 use Rattle.std.specs.Option.{option_to_list}
 use Rattle.std.proofs.lemmas.List.{map-append, length-set, get_or_default}
 use Rattle.std.proofs.lemmas.Option.{slice_get_within, get_or_from_slice_get}
-use Rattle.std.proofs.lemmas.List.Folds.{list_any-append, list_any_none}
+use Rattle.std.proofs.lemmas.List.Folds.{list_any-append, list_any_none, Any-from_list_any, list_any-from_Any}
 use Rattle.std.proofs.lemmas.List.Elements.{All-head, All-tail, All-weaker, All-append, All-cons, All-nil, All-set, All-get_or, All-map}
 use Rattle.std.proofs.lemmas.List.Sums.{sum_by-cons}
 use Rattle.allocations.specs.declared.key.Key.{Key}
@@ -15,13 +15,14 @@ use Rattle.allocations.specs.declared.entry.EntryKind.TheVariants.{Grant, Charge
 use Rattle.allocations.specs.declared.sums.Amount.{Amount}
 use Rattle.allocations.specs.declared.posting.Posting.{Posting}
 use Rattle.allocations.specs.declared.posting.GroupState.{GroupState}
-use Rattle.allocations.specs.Key.{is_key}
+use Rattle.allocations.specs.Key.{is_key, is_text}
 use Rattle.allocations.specs.Books.{Books, is_kind, has_grant, available_of, total_seconds}
-use Rattle.allocations.specs.Refusals.{refusal_at}
+use Rattle.allocations.specs.Refusals.{refusal_at, knows_proposal}
 use Rattle.allocations.specs.declared.fault.LedgerFault.{LedgerFault}
 use Rattle.allocations.specs.declared.fault.LedgerFault.TheVariants.{NoSuchAllocation, NotEnoughTime}
 use Rattle.allocations.specs.Raw.{no_key, key_at, entry_of, group_of, books_of, posted, held_at, IsPlaced}
 use Rattle.allocations.specs.Store.{StoreSeen, no_group, group_at, given_at, left_at, refund_posting, refunds_of, empty_group, freed_postings, freed_groups, freed_books, store_books, IsSound, IsGranted}
+use Rattle.allocations.proofs.Keys.{is_key-true, is_text-refl, is_text-true}
 use Rattle.allocations.proofs.Seen.{is_key-false, seconds_of-posted, held_of-held}
 
 refunds_located : (n : ℕ) (g : GroupState) → IsPlaced n g → All (λ p. p.account < n) (refunds_of g)
@@ -96,3 +97,37 @@ refusal_known s old k n i g l granted at =
     let left : available_of (freed_books s old) k ≡ left_at i (freed_postings old s.postings s.groups) (freed_groups old s.groups) = available_left s.keys (freed_postings old s.postings s.groups) (freed_groups old s.groups) i k g.apart (freed_located s old g l) (freed_placed s old g) at in
     ap (λ (b : Bool). if b then (if nat_le n (available_of (freed_books s old) k) then None else Some (NotEnoughTime n (available_of (freed_books s old) k))) else Some (NoSuchAllocation k.account)) some
     ∙ ap (λ (x : ℕ). if nat_le n x then None else Some (NotEnoughTime n x)) left
+
+and_parts : (a b : Bool) → (a && b) ≡ true → (a ≡ true) × (b ≡ true)
+and_parts true b h = (refl, h)
+and_parts false b h = cc
+
+-- a proposal with an account is known
+pub knows_true : (s : StoreSeen) (old : Option ℕ) (p : List ℕ) → IsGranted s → Any (λ k. k.proposal ≡ p) s.keys → knows_proposal (freed_books s old).entries p ≡ true
+knows_true s old p granted any =
+    let k : Key = any.1 in
+    let grant : has_grant (store_books s).entries k ≡ true = subst (λ (x : Key). has_grant (store_books s).entries x ≡ true) any.3 (granted any.0 k any.2) in
+    let entry = Any-from_list_any (λ (e : Entry). is_kind Grant e.kind && is_key e.key k) (store_books s).entries grant in
+    let e : Entry = entry.1 in
+    let both = and_parts (is_kind Grant e.kind) (is_key e.key k) entry.4 in
+    let same : e.key.proposal ≡ p = ap (λ (x : Key). x.proposal) (is_key-true e.key k both.1) ∙ any.4 in
+    let pass : (is_kind Grant e.kind && is_text e.key.proposal p) ≡ true = rw (both.0, same, is_text-refl p) refl in
+    let here : knows_proposal (store_books s).entries p ≡ true = list_any-from_Any (λ (x : Entry). is_kind Grant x.kind && is_text x.key.proposal p) (store_books s).entries (entry.0, e, entry.2, entry.3, pass) in
+    later old here
+  where
+    later : (o : Option ℕ) → knows_proposal (store_books s).entries p ≡ true → knows_proposal (freed_books s o).entries p ≡ true
+    later None h = h
+    later (Some j) h =
+        rw (map-append (entry_of s.keys) s.postings (refunds_of (group_at s.groups j)), list_any-append (λ (e : Entry). is_kind Grant e.kind && is_text e.key.proposal p) (map (entry_of s.keys) s.postings) (map (entry_of s.keys) (refunds_of (group_at s.groups j))), h) refl
+
+pub knows_false : (s : StoreSeen) (old : Option ℕ) (p : List ℕ) → IsSound s → IfSome old (λ j. j < length s.groups) → (Any (λ k. k.proposal ≡ p) s.keys → ⊥) → knows_proposal (freed_books s old).entries p ≡ false
+knows_false s old p g l absent =
+    list_any_none (λ (e : Entry). is_kind Grant e.kind && is_text e.key.proposal p) (freed_books s old).entries
+    (All-map (λ (e : Entry). (is_kind Grant e.kind && is_text e.key.proposal p) ≡ false) (entry_of s.keys) (freed_postings old s.postings s.groups)
+    (All-weaker (λ (q : Posting). q.account < length s.keys) (λ (q : Posting). (is_kind Grant q.kind && is_text (key_at s.keys q.account).proposal p) ≡ false)
+    (λ q lq. fails (is_kind Grant q.kind) (is_text (key_at s.keys q.account).proposal p) (λ e. absent (q.account, key_at s.keys q.account, lq, get_or_default s.keys q.account (key_at s.keys q.account) no_key lq, is_text-true (key_at s.keys q.account).proposal p e))) (freed_postings old s.postings s.groups) (freed_located s old g l)))
+  where
+    fails : (a b : Bool) → (b ≡ true → ⊥) → (a && b) ≡ false
+    fails true true h = absurd (h refl)
+    fails true false h = refl
+    fails false b h = refl

@@ -9,7 +9,7 @@ use Rattle.std.proofs.lemmas.Cmp.{nat_list_cmp_total, nat_cmp_total, on_total, t
 use Rattle.allocations.specs.declared.key.Account.{Account}
 use Rattle.allocations.specs.declared.key.Account.TheVariants.{Standard, TimeCritical, RapidResponse, Ipp}
 use Rattle.allocations.specs.declared.key.Key.{Key}
-use Rattle.allocations.specs.Key.{account_rank, key_cmp, is_key}
+use Rattle.allocations.specs.Key.{account_rank, key_cmp, is_key, is_text}
 
 pub key_cmp_total : IsTotalOrder key_cmp
 key_cmp_total = then_total (on_total (λ (k : Key). k.proposal) nat_list_cmp_total) (then_total (on_total (λ (k : Key). account_rank k.account) nat_cmp_total) (on_total (λ (k : Key). k.instrument) nat_list_cmp_total))
@@ -63,10 +63,16 @@ key_same a b h =
 pub is_key-refl : (a : Key) → is_key a a ≡ true
 is_key-refl a = rw (tied_itself key_cmp_total a) refl
 
+equal_is : (r : Ordering) → is_eq r ≡ true → r ≡ Equal
+equal_is Less h = cc
+equal_is Equal h = refl
+equal_is Greater h = cc
+
 pub is_key-true : (a b : Key) → is_key a b ≡ true → a ≡ b
 is_key-true a b h = key_same a b (equal_is (key_cmp a b) h)
-  where
-    equal_is : (r : Ordering) → is_eq r ≡ true → r ≡ Equal
-    equal_is Less h = cc
-    equal_is Equal h = refl
-    equal_is Greater h = cc
+
+pub is_text-refl : (a : List ℕ) → is_text a a ≡ true
+is_text-refl a = rw (tied_itself nat_list_cmp_total a) refl
+
+pub is_text-true : (a b : List ℕ) → is_text a b ≡ true → a ≡ b
+is_text-true a b h = texts_same a b (equal_is (slice_cmp nat_cmp a b) h)

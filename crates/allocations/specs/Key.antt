@@ -1,5 +1,5 @@
 -- The order of accounts.
-use Rattle.std.specs.Prelude.{◌≡◌, ℕ, Bool}
+use Rattle.std.specs.Prelude.{ℕ, Bool, List}
 use Rattle.std.specs.Ordering.{nat_cmp, ordering_then, is_eq}
 use Rattle.std.specs.Cmp.Lexicographic.{slice_cmp}
 use Rattle.std.specs.declared.cmp.Ordering.{Ordering}
@@ -21,3 +21,7 @@ key_cmp a b = ordering_then (slice_cmp nat_cmp a.proposal b.proposal) (ordering_
 -- whether two keys are the same
 abbrev pub is_key : Key → Key → Bool
 is_key a b = is_eq (key_cmp a b)
+
+-- whether two texts are the same
+abbrev pub is_text : List ℕ → List ℕ → Bool
+is_text a b = is_eq (slice_cmp nat_cmp a b)

@@ -1,6 +1,6 @@
 -- When holds are refused.
-use Rattle.std.specs.Prelude.{ℕ, ◌++◌, ◌∷◌, ◌&&◌, Bool, if◌then◌else◌, nat_lt, nat_le, nat_eq, List, [], Option, Some, None, filter_map, slice_get}
-use Rattle.std.specs.Cmp.Lexicographic.{pointwise}
+use Rattle.std.specs.Prelude.{ℕ, ◌++◌, ◌∷◌, ◌&&◌, Bool, if◌then◌else◌, nat_lt, nat_le, List, [], Option, Some, None, filter_map, slice_get}
+use Rattle.std.specs.Option.{option_to_list}
 use Rattle.std.specs.List.{list_any}
 use Rattle.allocations.specs.declared.key.Key.{Key}
 use Rattle.allocations.specs.declared.key.Account.TheVariants.{Ipp}
@@ -9,6 +9,7 @@ use Rattle.allocations.specs.declared.entry.Hold.{Hold}
 use Rattle.allocations.specs.declared.entry.EntryKind.TheVariants.{Grant}
 use Rattle.allocations.specs.declared.fault.LedgerFault.{LedgerFault}
 use Rattle.allocations.specs.declared.fault.LedgerFault.TheVariants.{NoSuchProposal, NoSuchAllocation, NotEnoughTime}
+use Rattle.allocations.specs.Key.{is_text}
 use Rattle.allocations.specs.Books.{Books, is_kind, has_grant, available_of}
 
 -- the proposal of the first hold
@@ -20,13 +21,13 @@ proposal_of (h ∷ hs) = h.key.proposal
 abbrev pub ipp_key : List ℕ → Key
 ipp_key proposal = record { proposal = proposal; account = Ipp; instrument = [] }
 
--- an ipp charge of the proposal of the holds, where it is above 0
-abbrev pub ipp_need : List Hold → ℕ → List Hold
-ipp_need holds ipp = if nat_lt 0 ipp then record { key = ipp_key (proposal_of holds); seconds = ipp } ∷ [] else []
+-- the seconds that are asked of the ipp account of the proposal of the holds, where they are above 0
+abbrev pub ipp_need : List Hold → ℕ → Option Hold
+ipp_need holds ipp = if nat_lt 0 ipp then Some record { key = ipp_key (proposal_of holds); seconds = ipp } else None
 
 -- whether an account of the proposal has a grant
 abbrev pub knows_proposal : List Entry → List ℕ → Bool
-knows_proposal entries proposal = list_any (λ e. is_kind Grant e.kind && pointwise nat_eq e.key.proposal proposal) entries
+knows_proposal entries proposal = list_any (λ e. is_kind Grant e.kind && is_text e.key.proposal proposal) entries
 
 -- why an account can't give these seconds, if it can't
 abbrev pub refusal_at : Books → Hold → Option LedgerFault
@@ -38,4 +39,4 @@ first_refusal books needs = slice_get (filter_map (refusal_at books) needs) 0
 
 -- why holds and an ipp charge are refused, if they are
 abbrev pub refusal_of : Books → List Hold → ℕ → Option LedgerFault
-refusal_of books holds ipp = if knows_proposal books.entries (proposal_of holds) then first_refusal books (holds ++ ipp_need holds ipp) else Some NoSuchProposal
+refusal_of books holds ipp = if knows_proposal books.entries (proposal_of holds) then first_refusal books (holds ++ option_to_list (ipp_need holds ipp)) else Some NoSuchProposal

@@ -2,6 +2,8 @@
 
 ghost use Rattle.std.specs.Prelude.{◌≡◌, IfOk};
 
+ghost use Rattle.allocations.specs.Refusals.{ipp_key};
+
 use plan_base::Name;
 use std::alloc::{AllocError, Global};
 
@@ -38,6 +40,20 @@ impl Key {
             proposal: self.proposal.copy(alloc)?,
             account: self.account,
             instrument: self.instrument.copy(alloc)?,
+        })
+    }
+
+    /// The key of a proposal's ipp account. Fails only for want of memory.
+    pub fn ipp(alloc: Global, proposal: &Name) -> Result<Key, AllocError>
+        ensures { IfOk result (λ key. key ≡ ipp_key proposal.now) }
+    {
+        let Some(instrument) = Name::new(alloc, "")? else {
+            unreachable!();
+        };
+        Ok(Key {
+            proposal: proposal.copy(alloc)?,
+            account: Account::Ipp,
+            instrument,
         })
     }
 }

@@ -1,11 +1,11 @@
 // Where holds are to be booked, or why they are refused.
 
-ghost use Rattle.std.specs.Prelude.{◌≡◌, ◌≢◌, ◌++◌, ◌∷◌, [], ◌<◌, ◌≤◌, Some, None, All, IfSome, IfOk, IfErr, OnOk, length, map};
+ghost use Rattle.std.specs.Prelude.{◌≡◌, ◌≢◌, ◌++◌, ◌∷◌, [], ◌<◌, ◌≤◌, Some, None, All, IfSome, IsSomeAnd, Ok, IfOk, IfErr, OnOk, length, map};
 ghost use Rattle.std.specs.Option.{option_to_list};
 ghost use Rattle.allocations.specs.declared.fault.LedgerFault.TheVariants.{NoMemory};
 ghost use Rattle.allocations.specs.Books.{total_seconds};
 ghost use Rattle.allocations.specs.Raw.{hold_of};
-ghost use Rattle.allocations.specs.Refusals.{refusal_at, first_refusal};
+ghost use Rattle.allocations.specs.Refusals.{refusal_at, first_refusal, refusal_of, ipp_key, ipp_need};
 ghost use Rattle.allocations.specs.Store.{freed_postings, freed_groups, freed_books, left_at, IsGranted, StandsFor};
 
 use crate::entry::Hold;
@@ -13,7 +13,7 @@ use crate::fault::LedgerFault;
 use crate::key::Key;
 use crate::store::Store;
 use crate::sums::Amount;
-use plan_base::ListOf;
+use plan_base::{ListOf, Name};
 use std::alloc::Global;
 
 /// The most seconds of all entries and holds.
@@ -64,4 +64,23 @@ pub fn place_holds(alloc: Global, store: &Store, old: Option<usize>, holds: &[Ho
         amounts.push(amount)?;
     }
     Ok(ListOf::from_vec(amounts))
+}
+
+/// The amount of a proposal's ipp account, where one is asked for.
+fn place_ipp(alloc: Global, store: &Store, old: Option<usize>, proposal: &Name, ipp: u64) -> Result<Option<Amount>, LedgerFault>
+    requires old { IfSome old (λ j. j < length store.now.groups) }
+    requires granted { IsGranted store.now }
+    requires bound { total_seconds (freed_books store.now old) ≤ MOST_SECONDS }
+    ensures none { OnOk result (0 ≡ ipp → result ≡ Ok None) }
+    ensures stands { IfOk result (λ o. 0 < ipp → IsSomeAnd o (λ m. StandsFor store.now m record { key = ipp_key proposal.now; seconds = ipp })) }
+    ensures fits { IfOk result (λ o. IfSome o (λ m. m.seconds ≤ left_at m.account (freed_postings old store.now.postings store.now.groups) (freed_groups old store.now.groups))) }
+    ensures given { OnOk result (0 < ipp → refusal_at (freed_books store.now old) record { key = ipp_key proposal.now; seconds = ipp } ≡ None) }
+    ensures refused { IfErr result (λ fault. fault ≢ NoMemory → (0 < ipp) × (refusal_at (freed_books store.now old) record { key = ipp_key proposal.now; seconds = ipp } ≡ Some fault)) }
+{
+    if ipp == 0 {
+        return Ok(None);
+    }
+    let key = Key::ipp(alloc, proposal)?;
+    let amount = place_need(store, old, &key, ipp)?;
+    Ok(Some(amount))
 }
