@@ -5,3 +5,4 @@ pub mod Tied
 pub mod Groups
 pub mod Seen
 pub mod Freed
+pub mod Refused

@@ -7,3 +7,4 @@ pub mod Raw
 pub mod Store
 pub mod StoreInside
 pub mod Refusals
+pub mod Placed

@@ -5,7 +5,8 @@ ghost use Rattle.std.specs.Option.{option_to_list};
 ghost use Rattle.allocations.specs.declared.fault.LedgerFault.TheVariants.{NoMemory};
 ghost use Rattle.allocations.specs.Books.{total_seconds};
 ghost use Rattle.allocations.specs.Raw.{hold_of};
-ghost use Rattle.allocations.specs.Refusals.{refusal_at, first_refusal, refusal_of, ipp_key, ipp_need};
+ghost use Rattle.allocations.specs.Placed.{IsPlacedFor};
+ghost use Rattle.allocations.specs.Refusals.{refusal_at, first_refusal, refusal_of, ipp_key};
 ghost use Rattle.allocations.specs.Store.{freed_postings, freed_groups, freed_books, left_at, IsGranted, StandsFor};
 
 use crate::entry::Hold;
@@ -66,6 +67,13 @@ pub fn place_holds(alloc: Global, store: &Store, old: Option<usize>, holds: &[Ho
     Ok(ListOf::from_vec(amounts))
 }
 
+/// What a group is to hold, and its ipp charge where there is one.
+#[derive(Debug, Drop)]
+pub struct Placed {
+    pub holds: ListOf<Amount>,
+    pub ipp: Option<Amount>,
+}
+
 /// The amount of a proposal's ipp account, where one is asked for.
 fn place_ipp(alloc: Global, store: &Store, old: Option<usize>, proposal: &Name, ipp: u64) -> Result<Option<Amount>, LedgerFault>
     requires old { IfSome old (λ j. j < length store.now.groups) }
@@ -83,4 +91,24 @@ fn place_ipp(alloc: Global, store: &Store, old: Option<usize>, proposal: &Name, 
     let key = Key::ipp(alloc, proposal)?;
     let amount = place_need(store, old, &key, ipp)?;
     Ok(Some(amount))
+}
+
+/// The amounts for holds of one proposal and its ipp charge, tested against what is left once the group at `old` is
+/// freed.
+pub fn place(alloc: Global, store: &Store, old: Option<usize>, holds: &[Hold], ipp: u64) -> Result<Placed, LedgerFault>
+    requires some { 0 < length holds.now }
+    requires old { IfSome old (λ j. j < length store.now.groups) }
+    requires granted { IsGranted store.now }
+    requires bound { total_seconds (freed_books store.now old) ≤ MOST_SECONDS }
+    ensures placed { IfOk result (IsPlacedFor store.now old holds.now ipp) }
+    ensures given { OnOk result (refusal_of (freed_books store.now old) holds.now ipp ≡ None) }
+    ensures refused { IfErr result (λ fault. fault ≢ NoMemory → refusal_of (freed_books store.now old) holds.now ipp ≡ Some fault) }
+{
+    let proposal = &holds[0].key.proposal;
+    if !store.knows(proposal) {
+        return Err(LedgerFault::NoSuchProposal);
+    }
+    let holds = place_holds(alloc, store, old, holds)?;
+    let ipp = place_ipp(alloc, store, old, proposal, ipp)?;
+    Ok(Placed { holds, ipp })
 }

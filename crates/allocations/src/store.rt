@@ -78,7 +78,8 @@ impl Store {
 
     /// Whether a proposal has an account.
     pub fn knows(&self, proposal: &Name) -> bool
-        ensures { IsTrue result ↔ Any (λ key. key.proposal ≡ proposal.now) self.now.keys }
+        ensures known { IsTrue result ↔ Any (λ key. key.proposal ≡ proposal.now) self.now.keys }
+        ensures sound { IsSound self.now }
     {
         self.register.knows(proposal)
     }
