@@ -6,3 +6,5 @@ pub mod Groups
 pub mod Seen
 pub mod Freed
 pub mod Refused
+pub mod Numbered
+pub mod Booked

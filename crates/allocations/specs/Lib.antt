@@ -8,3 +8,5 @@ pub mod Store
 pub mod StoreInside
 pub mod Refusals
 pub mod Placed
+pub mod Changes
+pub mod Booking

@@ -1,6 +1,7 @@
 // Time accounts: the ledger on which proposals are granted, held and charged seconds.
 #![tactic(auto)]
 
+mod booking;
 mod entry;
 mod fault;
 mod key;

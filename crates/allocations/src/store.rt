@@ -136,7 +136,8 @@ impl Store {
 
     /// Where a group stands, or where it would.
     pub fn group_index(&self, group: GroupNo) -> Result<usize, usize>
-        ensures { IsFoundAt nat_cmp (numbers_of self.now.groups) group.0 result }
+        ensures found { IsFoundAt nat_cmp (numbers_of self.now.groups) group.0 result }
+        ensures sound { IsSound self.now }
     {
         let number = group.0;
         self.groups

@@ -1,0 +1,66 @@
+// How holds are booked.
+
+ghost use Rattle.std.specs.Prelude.{◌≡◌, ◌≢◌, ◌+◌, ◌++◌, ◌<◌, ◌≤◌, [], ℕ, Some, None, All, IfSome, IfErr, OnOk, OnErr, length, slice_get, slice_set};
+ghost use Rattle.std.specs.BTreeSet.{replace_key};
+ghost use Rattle.allocations.specs.declared.entry.EntryKind.TheVariants.{Charge};
+ghost use Rattle.allocations.specs.declared.posting.GroupState.{GroupState};
+ghost use Rattle.allocations.specs.Key.{key_cmp};
+ghost use Rattle.allocations.specs.Rising.{Rises};
+ghost use Rattle.allocations.specs.Raw.{posted, held_at};
+ghost use Rattle.allocations.specs.Store.{group_at, given_at, numbers_of, amount_keys, CanHold};
+ghost use Rattle.allocations.specs.Booking.{state_cmp, HoldsNothing, standing_of, charges_of, booked_groups};
+
+use crate::entry::EntryKind;
+use crate::placing::Placed;
+use crate::posting::Posting;
+use crate::store::Store;
+use plan_base::{GroupNo, RequestNo};
+use std::alloc::Global;
+
+/// Where a group stands, which is added where it isn't there.
+fn open_group(store: &mut Store, alloc: Global, group: GroupNo) -> usize
+    requires slot { 0 < store.old.slots }
+    requires nothing { HoldsNothing group store.old.groups }
+    ensures rest { store.new ≡ record store.old { groups = store.new.groups; slots = store.new.slots } }
+    ensures within { result < length store.new.groups }
+    ensures state { group_at store.new.groups result ≡ record { group = group; holds = []; ipp = standing_of group store.old.groups } }
+    ensures puts { (g : GroupState) → g.group ≡ group → slice_set store.new.groups result g ≡ replace_key state_cmp store.old.groups g }
+    ensures held { (i : ℕ) → held_at i store.new.groups ≡ held_at i store.old.groups }
+{
+    match store.group_index(group) {
+        Ok(index) => index,
+        Err(index) => {
+            store.open(alloc, index, group);
+            index
+        }
+    }
+}
+
+/// Charges a group that holds nothing, and gives it what it holds from now on.
+pub fn book(store: &mut Store, alloc: Global, group: GroupNo, placed: Placed)
+    requires slot { 0 < store.old.slots }
+    requires spare { 0 < store.old.spare }
+    requires nothing { HoldsNothing group store.old.groups }
+    requires places { All (λ m. m.account < length store.old.keys) placed.holds }
+    requires rising { Rises key_cmp (amount_keys store.old.keys placed.holds) }
+    requires ipp_place { IfSome placed.ipp (λ m. m.account < length store.old.keys) }
+    requires ipp_room { IfSome placed.ipp (λ m. held_at m.account store.old.groups + posted Charge m.account store.old.postings + m.seconds ≤ given_at m.account store.old.postings) }
+    requires room { CanHold record store.old { postings = store.old.postings ++ charges_of group placed.ipp } placed.holds }
+    ensures { store.new ≡ record store.old { postings = store.old.postings ++ charges_of group placed.ipp; groups = booked_groups group placed.holds placed.ipp store.old.groups; spare = store.new.spare; slots = store.new.slots } }
+{
+    let Placed { holds, ipp } = placed;
+    if let Some(amount) = ipp {
+        store.post(Posting {
+            account: amount.account,
+            kind: EntryKind::Charge,
+            seconds: amount.seconds,
+            group,
+            request: RequestNo(0),
+        });
+    }
+    let index = open_group(store, alloc, group);
+    store.lay(index, holds);
+    if ipp.is_some() {
+        store.set_ipp(index, ipp);
+    }
+}
