@@ -16,7 +16,12 @@ use Rattle.allocations.specs.declared.sums.Amount.{Amount}
 use Rattle.allocations.specs.declared.posting.GroupState.{GroupState}
 use Rattle.allocations.specs.Rising.{Rises, IsGap}
 use Rattle.allocations.specs.Store.{no_group, group_at, numbers_of, empty_group}
-use Rattle.allocations.specs.Booking.{state_cmp, HoldsNothing, standing_of}
+use Rattle.std.proofs.lemmas.List.{get_or-set_same}
+use Rattle.std.proofs.lemmas.List.Sums.{sum_by-set}
+use Rattle.allocations.specs.Amounts.{amount_at}
+use Rattle.allocations.specs.Raw.{held_at}
+use Rattle.allocations.specs.Booking.{state_cmp, HoldsNothing, standing_of, booked_groups}
+use Rattle.allocations.proofs.Groups.{set_set}
 use Rattle.allocations.proofs.Order.{Rises-before, replace_key-there, replace_key-at}
 use Rattle.allocations.proofs.Numbered.{find_at, find_gap}
 
@@ -71,3 +76,26 @@ puts_gap gs n i gap e g same =
     ∙ sym (replace_key-at state_cmp state_total gs g i within
     (λ k d l. rw (number, ← get_or-map (λ (x : GroupState). x.group.0) gs k d) (gap.below k d.group.0 l))
     (λ k d l m. rw (number, ← get_or-map (λ (x : GroupState). x.group.0) gs k d) (gap.above k d.group.0 l (rw length-map m))))
+
+-- holds laid on a group that held nothing, and a charge that stands for it
+pub laid : (gs opened : List GroupState) (n : GroupNo) (i : ℕ) (holds : List Amount) (ipp : Option Amount) → i < length opened → group_at opened i ≡ record { group = n; holds = []; ipp = standing_of n gs } → ((g : GroupState) → g.group ≡ n → set opened i g ≡ replace_key state_cmp gs g)
+    → set opened i (record (group_at opened i) { holds = holds }) ≡ booked_groups n holds None gs
+laid gs opened n i holds ipp l state puts =
+    ap (λ (g : GroupState). set opened i (record g { holds = holds })) state ∙ puts record { group = n; holds = holds; ipp = standing_of n gs } refl
+
+pub laid_charged : (gs opened : List GroupState) (n : GroupNo) (i : ℕ) (holds : List Amount) (m : Amount) → i < length opened → group_at opened i ≡ record { group = n; holds = []; ipp = standing_of n gs } → ((g : GroupState) → g.group ≡ n → set opened i g ≡ replace_key state_cmp gs g)
+    → set (set opened i (record (group_at opened i) { holds = holds })) i (record (group_at (set opened i (record (group_at opened i) { holds = holds })) i) { ipp = Some m }) ≡ booked_groups n holds (Some m) gs
+laid_charged gs opened n i holds m l state puts =
+    let a : GroupState = record (group_at opened i) { holds = holds } in
+    let at : group_at (set opened i a) i ≡ a = get_or-set_same opened i a no_group l in
+    ap (λ (g : GroupState). set (set opened i a) i (record g { ipp = Some m })) at
+    ∙ set_set opened i a (record a { ipp = Some m })
+    ∙ ap (λ (g : GroupState). set opened i (record g { holds = holds; ipp = Some m })) state
+    ∙ puts record { group = n; holds = holds; ipp = Some m } refl
+
+-- what is held once holds are laid
+pub held_laid : (opened : List GroupState) (j : ℕ) (holds : List Amount) (i : ℕ) → j < length opened → (group_at opened j).holds ≡ [] → held_at i (set opened j (record (group_at opened j) { holds = holds })) ≡ held_at i opened + amount_at i holds
+held_laid opened j holds i l empty =
+    let s = sum_by-set (λ (x : GroupState). amount_at i x.holds) opened j (record (group_at opened j) { holds = holds }) no_group l in
+    let none : amount_at i (group_at opened j).holds ≡ 0 = ap (λ (x : List Amount). amount_at i x) empty in
+    omega (arith, s, none)

@@ -6,6 +6,7 @@ ghost use Rattle.allocations.specs.declared.entry.EntryKind.TheVariants.{Charge}
 ghost use Rattle.allocations.specs.declared.posting.GroupState.{GroupState};
 ghost use Rattle.allocations.specs.Key.{key_cmp};
 ghost use Rattle.allocations.specs.Rising.{Rises};
+ghost use Rattle.allocations.specs.Amounts.{amount_at};
 ghost use Rattle.allocations.specs.Raw.{posted, held_at};
 ghost use Rattle.allocations.specs.Store.{group_at, given_at, numbers_of, amount_keys, CanHold};
 ghost use Rattle.allocations.specs.Booking.{state_cmp, HoldsNothing, standing_of, charges_of, booked_groups};
@@ -44,12 +45,15 @@ pub fn book(store: &mut Store, alloc: Global, group: GroupNo, placed: Placed)
     requires places { All (λ m. m.account < length store.old.keys) placed.holds }
     requires rising { Rises key_cmp (amount_keys store.old.keys placed.holds) }
     requires ipp_place { IfSome placed.ipp (λ m. m.account < length store.old.keys) }
-    requires ipp_room { IfSome placed.ipp (λ m. held_at m.account store.old.groups + posted Charge m.account store.old.postings + m.seconds ≤ given_at m.account store.old.postings) }
-    requires room { CanHold record store.old { postings = store.old.postings ++ charges_of group placed.ipp } placed.holds }
+    requires room { CanHold store.old placed.holds }
+    requires ipp_room { IfSome placed.ipp (λ m. held_at m.account store.old.groups + amount_at m.account placed.holds + posted Charge m.account store.old.postings + m.seconds ≤ given_at m.account store.old.postings) }
     ensures { store.new ≡ record store.old { postings = store.old.postings ++ charges_of group placed.ipp; groups = booked_groups group placed.holds placed.ipp store.old.groups; spare = store.new.spare; slots = store.new.slots } }
 {
     let Placed { holds, ipp } = placed;
+    let index = open_group(store, alloc, group);
+    store.lay(index, holds);
     if let Some(amount) = ipp {
+        store.set_ipp(index, ipp);
         store.post(Posting {
             account: amount.account,
             kind: EntryKind::Charge,
@@ -57,10 +61,5 @@ pub fn book(store: &mut Store, alloc: Global, group: GroupNo, placed: Placed)
             group,
             request: RequestNo(0),
         });
-    }
-    let index = open_group(store, alloc, group);
-    store.lay(index, holds);
-    if ipp.is_some() {
-        store.set_ipp(index, ipp);
     }
 }
