@@ -20,7 +20,7 @@ use Rattle.allocations.specs.Key.{key_cmp}
 use Rattle.allocations.specs.Rising.{Rises, IsGap}
 use Rattle.allocations.specs.Amounts.{amount_at, no_sums}
 use Rattle.allocations.specs.Raw.{key_at, posted, held_at, IsPlaced, IsGrouped, Tied}
-use Rattle.allocations.specs.Store.{no_group, group_at, numbers_of, empty_group, amount_keys}
+use Rattle.allocations.specs.Store.{StoreSeen, no_group, group_at, numbers_of, empty_group, amount_keys, IsSound}
 use Rattle.allocations.proofs.Order.{Rises-insert}
 use Rattle.allocations.proofs.Registers.{map-insert}
 
@@ -86,3 +86,13 @@ emptied gs j l =
     let lifted : GroupState = record (group_at gs j) { holds = [] } in
     let at : group_at (set gs j lifted) j ≡ lifted = get_or-set_same gs j lifted no_group l in
     ap (λ (g : GroupState). set (set gs j lifted) j (record g { ipp = None })) at ∙ set_set gs j lifted (empty_group (group_at gs j).group)
+
+-- a store whose sums are tied is sound
+pub sound_of : (s : StoreSeen) (sums : List Sums) → Tied s.keys sums s.postings s.groups → IsGrouped s.keys s.groups → IsSound s
+sound_of s sums t g = record {
+  apart = t.apart;
+  located = t.located;
+  placed = t.placed;
+  grouped = g;
+  covered = λ i l. let h = t.held i l in let b = t.balance i l in let c = t.covered i l in omega (arith, h, b, c)
+}

@@ -8,3 +8,4 @@ pub mod Freed
 pub mod Refused
 pub mod Numbered
 pub mod Booked
+pub mod Settled

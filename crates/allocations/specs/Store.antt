@@ -94,12 +94,14 @@ CanPost s i Grant seconds = given_at i s.postings + seconds < 2 ^ 64
 CanPost s i Charge seconds = held_at i s.groups + posted Charge i s.postings + seconds ≤ given_at i s.postings
 CanPost s i Refund seconds = given_at i s.postings + seconds < 2 ^ 64
 
--- keys are apart, postings and groups name accounts, and groups and their holds are in order
+-- keys are apart, postings and groups name accounts, groups and their holds are in order, and no account lacks what is
+-- held of it
 pub record IsSound (s : StoreSeen) : Type 0 where
   pub apart : AllPairs (λ a b. a ≢ b) s.keys
   pub located : All (λ p. p.account < length s.keys) s.postings
   pub placed : All (IsPlaced (length s.keys)) s.groups
   pub grouped : IsGrouped s.keys s.groups
+  pub covered : (i : ℕ) → i < length s.keys → held_at i s.groups + posted Charge i s.postings ≤ given_at i s.postings
 
 -- each account has a grant
 abbrev pub IsGranted : StoreSeen → Type 0

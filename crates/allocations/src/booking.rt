@@ -1,6 +1,6 @@
 // How holds are booked.
 
-ghost use Rattle.std.specs.Prelude.{◌≡◌, ◌≢◌, ◌+◌, ◌++◌, ◌<◌, ◌≤◌, [], ℕ, Some, None, All, IfSome, IfErr, OnOk, OnErr, length, slice_get, slice_set};
+ghost use Rattle.std.specs.Prelude.{◌≡◌, ◌≢◌, ◌+◌, ◌++◌, ◌<◌, ◌≤◌, [], ℕ, Some, None, All, IfSome, IfErr, OnOk, OnErr, length, map, slice_set};
 ghost use Rattle.std.specs.BTreeSet.{replace_key};
 ghost use Rattle.allocations.specs.declared.entry.EntryKind.TheVariants.{Charge};
 ghost use Rattle.allocations.specs.declared.posting.GroupState.{GroupState};
@@ -8,11 +8,17 @@ ghost use Rattle.allocations.specs.Key.{key_cmp};
 ghost use Rattle.allocations.specs.Rising.{Rises};
 ghost use Rattle.allocations.specs.Amounts.{amount_at};
 ghost use Rattle.allocations.specs.Raw.{posted, held_at};
-ghost use Rattle.allocations.specs.Store.{group_at, given_at, numbers_of, amount_keys, CanHold};
+ghost use Rattle.allocations.specs.declared.key.Account.TheVariants.{Ipp};
+ghost use Rattle.allocations.specs.declared.fault.LedgerFault.TheVariants.{NoMemory};
+ghost use Rattle.allocations.specs.Books.{total_seconds};
+ghost use Rattle.allocations.specs.Changes.{booked};
+ghost use Rattle.allocations.specs.Refusals.{refusal_of};
+ghost use Rattle.allocations.specs.Store.{group_at, given_at, amount_keys, CanHold, IsSound, IsGranted, freed_postings, freed_groups, freed_books, store_books};
 ghost use Rattle.allocations.specs.Booking.{state_cmp, HoldsNothing, standing_of, charges_of, booked_groups};
 
-use crate::entry::EntryKind;
-use crate::placing::Placed;
+use crate::entry::{EntryKind, Hold};
+use crate::fault::LedgerFault;
+use crate::placing::{MOST_SECONDS, Placed, place};
 use crate::posting::Posting;
 use crate::store::Store;
 use plan_base::{GroupNo, RequestNo};
@@ -62,4 +68,43 @@ pub fn book(store: &mut Store, alloc: Global, group: GroupNo, placed: Placed)
             request: RequestNo(0),
         });
     }
+}
+
+/// Frees the group at `old`, if one is named.
+fn free_old(store: &mut Store, alloc: Global, old: Option<usize>)
+    requires sound { IsSound store.old }
+    requires old { IfSome old (λ j. j < length store.old.groups) }
+    requires spare { 0 < store.old.spare }
+    requires bound { total_seconds (freed_books store.old old) ≤ MOST_SECONDS }
+    ensures freed { store.new ≡ record store.old { postings = freed_postings old store.old.postings store.old.groups; groups = freed_groups old store.old.groups; spare = store.new.spare } }
+    ensures spare { store.old.spare ≤ store.new.spare + 1 }
+    ensures sound { IsSound store.new }
+{
+    if let Some(index) = old {
+        store.free(alloc, index);
+    }
+}
+
+/// Books holds and an ipp charge for a group that holds nothing, once the group at `old` is freed. An error changes
+/// nothing of the books.
+pub fn settle(store: &mut Store, alloc: Global, old: Option<usize>, group: GroupNo, holds: &[Hold], ipp: u64) -> Result<(), LedgerFault>
+    requires some { 0 < length holds.now }
+    requires rising { Rises key_cmp (map (λ h. h.key) holds.now) }
+    requires not_ipp { All (λ h. h.key.account ≢ Ipp) holds.now }
+    requires old { IfSome old (λ j. j < length store.old.groups) }
+    requires nothing { HoldsNothing group store.old.groups }
+    requires granted { IsGranted store.old }
+    requires bound { total_seconds (freed_books store.old old) ≤ MOST_SECONDS }
+    ensures booked { OnOk result (store_books store.new ≡ booked group holds.now ipp (freed_books store.old old)) }
+    ensures accounts { OnOk result ((store.new.keys ≡ store.old.keys) × (store.new.listed ≡ store.old.listed)) }
+    ensures given { OnOk result (refusal_of (freed_books store.old old) holds.now ipp ≡ None) }
+    ensures refused { IfErr result (λ fault. fault ≢ NoMemory → refusal_of (freed_books store.old old) holds.now ipp ≡ Some fault) }
+    ensures unchanged { OnErr result (store.new ≡ record store.old { spare = store.new.spare; slots = store.new.slots }) }
+{
+    let placed = place(alloc, store, old, holds, ipp)?;
+    store.reserve(2)?;
+    store.make_slot()?;
+    free_old(store, alloc, old);
+    book(store, alloc, group, placed);
+    Ok(())
 }

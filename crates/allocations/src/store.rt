@@ -126,7 +126,8 @@ impl Store {
         requires spare { 0 < self.old.spare }
         requires place { posting.account < length self.old.keys }
         requires room { CanPost self.old posting.account posting.kind posting.seconds }
-        ensures { self.new ≡ with_posting self.old posting }
+        ensures posted { self.new ≡ with_posting self.old posting }
+        ensures sound { IsSound self.new }
     {
         let sums = self.sums[posting.account];
         self.sums[posting.account] = sums.after(posting.kind, posting.seconds);
@@ -148,6 +149,7 @@ impl Store {
     pub fn make_slot(&mut self) -> Result<(), AllocError>
         ensures slot { OnOk result (0 < self.new.slots) }
         ensures rest { self.new ≡ record self.old { slots = self.new.slots } }
+        ensures sound { IsSound self.new }
     {
         self.groups.reserve(1)
     }
@@ -195,7 +197,8 @@ impl Store {
     pub fn set_ipp(&mut self, index: usize, ipp: Option<Amount>)
         requires index { index < length self.old.groups }
         requires place { IfSome ipp (λ m. m.account < length self.old.keys) }
-        ensures { self.new ≡ with_group self.old index (record (group_at self.old.groups index) { ipp = ipp }) }
+        ensures changed { self.new ≡ with_group self.old index (record (group_at self.old.groups index) { ipp = ipp }) }
+        ensures sound { IsSound self.new }
     {
         self.groups[index].ipp = ipp;
     }
@@ -226,6 +229,7 @@ impl Store {
         requires fits { All (λ p. given_at p.account self.old.postings + p.seconds < 2 ^ 64) (refunds_of (group_at self.old.groups index)) }
         ensures freed { self.new ≡ record self.old { postings = freed_postings (Some index) self.old.postings self.old.groups; groups = freed_groups (Some index) self.old.groups; spare = self.new.spare } }
         ensures spare { self.old.spare ≤ self.new.spare + 1 }
+        ensures sound { IsSound self.new }
     {
         let group = self.groups[index].group;
         let ipp = self.groups[index].ipp;

@@ -12,4 +12,4 @@ returns-in-Some c =
     let listed : c.open_group-index.new.store.listed ≡ c.args.store.now.listed = ap (λ (s : StoreSeen). s.listed) opened.rest in
     let postings : c.open_group-index.new.store.postings ≡ c.args.store.now.postings = ap (λ (s : StoreSeen). s.postings) opened.rest in
     let groups = laid_charged c.args.store.now.groups c.open_group-index.new.store.groups c.args.group c.open_group-index.result c.args.placed.holds c.in-Some.amount opened.within opened.state opened.puts in
-    rw (c.post.ensures, c.set_ipp.ensures, c.lay.ensures, c.in-Some.is, groups, keys, listed, postings) refl
+    rw (c.post.ensures.posted, c.set_ipp.ensures.changed, c.lay.ensures, c.in-Some.is, groups, keys, listed, postings) refl

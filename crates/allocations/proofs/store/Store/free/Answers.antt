@@ -16,7 +16,7 @@ post-requires-clause-room c =
     let state : c.index-2.result.now ≡ group_at inside.groups.items j = c.index-2.ensures ∙ get_or_default inside.groups.items j c.index-2.result.now no_group within in
     let ipp : (group_at inside.groups.items j).ipp ≡ Some c.in-Some.amount = ap (λ (g : GroupState). g.ipp) (sym state) ∙ c.in-Some.is in
     let fits = rw ipp at (rw (← c.self.view_is) at c.requires.fits) in
-    rw (c.set_ipp.ensures, c.lift.ensures.rest, ← c.self.view_is) (All-head (λ (p : Posting). given_at p.account inside.postings.items + p.seconds < 2 ^ 64) (refund_posting (group_at inside.groups.items j).group c.in-Some.amount) [] fits)
+    rw (c.set_ipp.ensures.changed, c.lift.ensures.rest, ← c.self.view_is) (All-head (λ (p : Posting). given_at p.account inside.postings.items + p.seconds < 2 ^ 64) (refund_posting (group_at inside.groups.items j).group c.in-Some.amount) [] fits)
 
 pub returns-in-Some-clause-freed : goal.returns-in-Some-clause-freed
 returns-in-Some-clause-freed c =
@@ -27,6 +27,12 @@ returns-in-Some-clause-freed c =
     let first : c.index.result.now ≡ group_at inside.groups.items j = c.index.ensures ∙ get_or_default inside.groups.items j c.index.result.now no_group within in
     let ipp : (group_at inside.groups.items j).ipp ≡ Some c.in-Some.amount = ap (λ (g : GroupState). g.ipp) (sym state) ∙ c.in-Some.is in
     let number : c.index.result.now.group ≡ (group_at inside.groups.items j).group = ap (λ (g : GroupState). g.group) first in
-    let posted = c.post.ensures in
+    let posted = c.post.ensures.posted in
     let groups = emptied inside.groups.items j within in
-    rw (posted, c.set_ipp.ensures, c.lift.ensures.rest, ← c.self.view_is, groups, number, ipp) refl
+    rw (posted, c.set_ipp.ensures.changed, c.lift.ensures.rest, ← c.self.view_is, groups, number, ipp) refl
+
+pub returns-in-Some-clause-sound : goal.returns-in-Some-clause-sound
+returns-in-Some-clause-sound c = c.post.ensures.sound
+
+pub returns-in_default-clause-sound : goal.returns-in_default-clause-sound
+returns-in_default-clause-sound c = c.set_ipp.ensures.sound
