@@ -9,3 +9,4 @@ pub mod Refused
 pub mod Numbered
 pub mod Booked
 pub mod Settled
+pub mod Granted

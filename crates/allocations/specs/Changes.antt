@@ -1,13 +1,15 @@
 -- What calls change of the books.
-use Rattle.std.specs.Prelude.{ℕ, ◌++◌, ◌==◌, if◌then◌else◌, List, [], Option, Some, None, map, find, option_and_then}
+use Rattle.std.specs.Prelude.{ℕ, ◌++◌, ◌∷◌, ◌==◌, if◌then◌else◌, List, [], Option, Some, None, map, find, option_and_then}
 use Rattle.std.specs.Option.{option_to_list}
 use Rattle.std.specs.Ordering.{nat_cmp}
 use Rattle.std.specs.BTreeSet.{replace_key}
 use Rattle.std.specs.declared.cmp.Ordering.{Ordering}
 use Rattle.plan_base.specs.declared.number.GroupNo.{GroupNo}
+use Rattle.plan_base.specs.declared.number.RequestNo.{RequestNo}
+use Rattle.allocations.specs.declared.key.Key.{Key}
 use Rattle.allocations.specs.declared.entry.Entry.{Entry}
 use Rattle.allocations.specs.declared.entry.Hold.{Hold}
-use Rattle.allocations.specs.declared.entry.EntryKind.TheVariants.{Charge, Refund}
+use Rattle.allocations.specs.declared.entry.EntryKind.TheVariants.{Grant, Charge, Refund}
 use Rattle.allocations.specs.Books.{Books, GroupHolds}
 use Rattle.allocations.specs.Refusals.{ipp_need}
 
@@ -18,6 +20,18 @@ group_cmp a b = nat_cmp a.group.0 b.group.0
 -- the ipp charge of a group, where it stands and wasn't refunded
 abbrev pub ipp_of : GroupNo → List GroupHolds → Option Hold
 ipp_of group groups = option_and_then (λ g. g.ipp) (find (λ g. g.group.0 == group.0) groups)
+
+-- the entry of a grant
+abbrev pub grant_entry : Key → ℕ → Entry
+grant_entry key seconds = record { key = key; kind = Grant; seconds = seconds; group = record { 0 = 0 }; request = record { 0 = 0 } }
+
+-- the entry that charges a request
+abbrev pub request_entry : Key → ℕ → GroupNo → RequestNo → Entry
+request_entry key seconds group request = record { key = key; kind = Charge; seconds = seconds; group = group; request = request }
+
+-- one more entry
+abbrev pub with_entry : Entry → Books → Books
+with_entry e books = record books { entries = books.entries ++ e ∷ [] }
 
 -- the entry that charges a group
 abbrev pub charge_entry : GroupNo → Hold → Entry

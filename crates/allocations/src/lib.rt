@@ -4,6 +4,7 @@
 mod booking;
 mod entry;
 mod fault;
+mod granting;
 mod key;
 mod placing;
 mod posting;

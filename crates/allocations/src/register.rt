@@ -68,6 +68,7 @@ impl Register {
     /// The place of an account, or where it would stand in the order of keys.
     pub fn find(&self, key: &Key) -> Result<usize, usize>
         ensures found { IfOk result (λ place. slice_get self.now.keys place ≡ Some key.now) }
+        ensures listed { OnOk result (insert_key key_cmp self.now.listed key.now ≡ self.now.listed) }
         ensures gap { IfErr result (IsGap key_cmp self.now.listed key.now) }
         ensures absent { OnErr result (¬ (Contains self.now.keys key.now)) }
     {

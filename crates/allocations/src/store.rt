@@ -1,6 +1,6 @@
 // The books as they are kept: accounts, entries and holds by place, with sums beside them.
 
-ghost use Rattle.std.specs.Prelude.{◌≡◌, ◌+◌, ◌-◌, ◌^◌, ◌<◌, ◌≤◌, ◌++◌, ◌∷◌, [], ◌↔◌, Some, IsTrue, All, Any, Contains, IfSome, IfOk, IfErr, OnOk, OnErr, length, slice_get};
+ghost use Rattle.std.specs.Prelude.{◌≡◌, ◌+◌, ◌-◌, ◌^◌, ◌<◌, ◌≤◌, ◌++◌, ◌∷◌, [], ◌↔◌, Some, IsTrue, All, Any, Contains, IfSome, IfOk, IfErr, OnOk, OnErr, length, slice_get, option_copied};
 ghost use Rattle.std.specs.List.{insert};
 ghost use Rattle.std.specs.Ordering.{nat_cmp};
 ghost use Rattle.std.specs.BTreeSet.{insert_key};
@@ -66,9 +66,17 @@ impl Store {
         self.register.len()
     }
 
+    /// The account at a place in the order of keys.
+    pub fn account(&self, index: usize) -> Option<&Key>
+        ensures { option_copied result ≡ slice_get self.now.listed index }
+    {
+        self.register.get(index)
+    }
+
     /// The place of an account, or where it would stand in the order of keys.
     pub fn find(&self, key: &Key) -> Result<usize, usize>
         ensures found { IfOk result (λ place. slice_get self.now.keys place ≡ Some key.now) }
+        ensures listed { OnOk result (insert_key key_cmp self.now.listed key.now ≡ self.now.listed) }
         ensures gap { IfErr result (IsGap key_cmp self.now.listed key.now) }
         ensures absent { OnErr result (¬ (Contains self.now.keys key.now)) }
         ensures sound { IsSound self.now }
@@ -90,24 +98,29 @@ impl Store {
         ensures balance { result.balance + posted Charge place self.now.postings ≡ given_at place self.now.postings }
         ensures held { result.held ≡ held_at place self.now.groups }
         ensures covered { result.held ≤ result.balance }
+        ensures sound { IsSound self.now }
     {
         self.sums[place]
     }
 
-    /// Adds an account where it stands in the order of keys. Fails only for want of memory, and then changes nothing.
-    pub fn add_account(&mut self, alloc: Global, index: usize, key: &Key) -> Result<(), AllocError>
+    /// Adds an account where it stands in the order of keys, and gives its place. Fails only for want of memory, and then
+    /// changes nothing.
+    pub fn add_account(&mut self, alloc: Global, index: usize, key: &Key) -> Result<usize, AllocError>
         requires gap { IsGap key_cmp self.old.listed key.now index }
         requires absent { ¬ (Contains self.old.keys key.now) }
         ensures ok { OnOk result (self.new ≡ record self.old { keys = self.old.keys ++ key.now ∷ []; listed = insert_key key_cmp self.old.listed key.now }) }
+        ensures place { IfOk result (λ place. place ≡ length self.old.keys) }
         ensures err { OnErr result (self.new ≡ self.old) }
     {
+        let place = self.sums.len();
         self.sums.reserve(1)?;
         self.register.add(alloc, index, key)?;
         let sums = Sums {
             balance: 0,
             held: 0,
         };
-        self.sums.push(sums).map_err(AllocError::from)
+        self.sums.push(sums)?;
+        Ok(place)
     }
 
     /// Makes room for entries. Fails only for want of memory.
@@ -115,6 +128,7 @@ impl Store {
         ensures spare { OnOk result (entries ≤ self.new.spare) }
         ensures least { self.old.spare ≤ self.new.spare }
         ensures rest { self.new ≡ record self.old { spare = self.new.spare } }
+        ensures sound { IsSound self.old }
     {
         self.postings.reserve(entries)?;
         self.spare = self.spare.max(entries);
