@@ -17,9 +17,14 @@ use Rattle.allocations.specs.declared.sums.Amount.{Amount}
 use Rattle.allocations.specs.declared.posting.Posting.{Posting}
 use Rattle.allocations.specs.declared.posting.GroupState.{GroupState}
 use Rattle.allocations.specs.Key.{key_cmp, is_key}
-use Rattle.allocations.specs.Books.{Books, GroupHolds, is_kind, has_grant, accounts_of}
-use Rattle.allocations.specs.Raw.{key_at, entry_of, hold_of, group_of, books_of, IsPlaced}
-use Rattle.allocations.specs.Store.{StoreSeen, store_books, IsSound}
+use Rattle.std.specs.Prelude.{slice_get}
+use Rattle.std.proofs.lemmas.Option.{slice_get_within, get_or_from_slice_get}
+use Rattle.allocations.specs.Books.{Books, GroupHolds, is_kind, seconds_of, balance_of, held_of, has_grant, accounts_of}
+use Rattle.allocations.specs.Changes.{grant_entry, with_entry}
+use Rattle.allocations.specs.Raw.{no_key, posted, held_at, key_at, entry_of, hold_of, group_of, books_of, IsPlaced}
+use Rattle.allocations.specs.Store.{StoreSeen, given_at, with_posting, store_books, IsSound, IsGranted}
+use Rattle.allocations.proofs.Keys.{is_key-refl}
+use Rattle.allocations.proofs.Seen.{seconds_of-posted, held_of-held}
 use Rattle.allocations.proofs.Tied.{map_agree, key_at-kept}
 
 module _ (keys : List Key) (k : Key) where
@@ -53,3 +58,43 @@ accounts_of-append es more =
 -- a grant stays when entries are added
 pub has_grant-append : (es more : List Entry) (k : Key) → has_grant es k ≡ true → has_grant (es ++ more) k ≡ true
 has_grant-append es more k h = rw (list_any-append (λ (e : Entry). is_kind Grant e.kind && is_key e.key k) es more, h) refl
+
+-- what an account's postings leave is what its entries leave
+pub balance_at : (s : StoreSeen) (i : ℕ) (k : Key) → IsSound s → slice_get s.keys i ≡ Some k → balance_of (store_books s).entries k ≡ given_at i s.postings - posted Charge i s.postings
+balance_at s i k g at =
+    let li : i < length s.keys = slice_get_within s.keys i k at in
+    subst (λ (x : Key). balance_of (store_books s).entries x ≡ given_at i s.postings - posted Charge i s.postings) (get_or_from_slice_get s.keys i k no_key at)
+    (rw (seconds_of-posted s.keys g.apart i li Grant s.postings g.located, seconds_of-posted s.keys g.apart i li Charge s.postings g.located, seconds_of-posted s.keys g.apart i li Refund s.postings g.located) refl)
+
+pub charged_at : (s : StoreSeen) (kind : EntryKind) (i : ℕ) (k : Key) → IsSound s → slice_get s.keys i ≡ Some k → seconds_of kind k (store_books s).entries ≡ posted kind i s.postings
+charged_at s kind i k g at =
+    let li : i < length s.keys = slice_get_within s.keys i k at in
+    subst (λ (x : Key). seconds_of kind x (store_books s).entries ≡ posted kind i s.postings) (get_or_from_slice_get s.keys i k no_key at) (seconds_of-posted s.keys g.apart i li kind s.postings g.located)
+
+pub held_of_at : (s : StoreSeen) (i : ℕ) (k : Key) → IsSound s → slice_get s.keys i ≡ Some k → held_of (store_books s).holds k ≡ held_at i s.groups
+held_of_at s i k g at =
+    let li : i < length s.keys = slice_get_within s.keys i k at in
+    subst (λ (x : Key). held_of (store_books s).holds x ≡ held_at i s.groups) (get_or_from_slice_get s.keys i k no_key at) (held_of-held s.keys g.apart i li s.groups g.placed)
+
+-- one more posting is one more entry
+pub posted_seen : (s : StoreSeen) (p : Posting) → store_books (with_posting s p) ≡ with_entry (entry_of s.keys p) (store_books s)
+posted_seen s p = ap (λ (x : List Entry). record { entries = x; holds = map (group_of s.keys) s.groups }) (map-append (entry_of s.keys) s.postings (p ∷ []))
+
+-- a grant is there once it is the last entry
+pub has_grant-last : (es : List Entry) (k : Key) (n : ℕ) → has_grant (es ++ grant_entry k n ∷ []) k ≡ true
+has_grant-last es k n = list_any-append (λ (e : Entry). is_kind Grant e.kind && is_key e.key k) es (grant_entry k n ∷ []) ∙ ap (λ (b : Bool). has_grant es k || (b || false)) (is_key-refl k) ∙ or_true (has_grant es k)
+  where
+    or_true : (b : Bool) → (b || (true || false)) ≡ true
+    or_true true = refl
+    or_true false = refl
+
+-- each account has a grant once the new one has
+pub granted_more : (s : StoreSeen) (es : List Entry) (key : Key) (n : ℕ) → (store_books s).entries ≡ es ++ grant_entry key n ∷ [] → All (λ k. (has_grant es k ≡ true) ⊎ (k ≡ key)) s.keys → IsGranted s
+granted_more s es key n e all i d l =
+    let k : Key = get_or s.keys i d in
+    let goes : has_grant (es ++ grant_entry key n ∷ []) k ≡ true =
+      ⊎_elim
+      (λ (h : has_grant es k ≡ true). has_grant-append es (grant_entry key n ∷ []) k h)
+      (λ (same : k ≡ key). subst (λ (x : Key). has_grant (es ++ grant_entry key n ∷ []) x ≡ true) (sym same) (has_grant-last es key n))
+      (all i d l) in
+    subst (λ (x : List Entry). has_grant x k ≡ true) (sym e) goes

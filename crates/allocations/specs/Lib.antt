@@ -10,3 +10,5 @@ pub mod Refusals
 pub mod Placed
 pub mod Changes
 pub mod Booking
+pub mod Ledger
+pub mod LedgerInside

@@ -6,6 +6,7 @@ mod entry;
 mod fault;
 mod granting;
 mod key;
+mod ledger;
 mod placing;
 mod posting;
 mod register;
@@ -14,5 +15,7 @@ mod sums;
 
 pub use entry::{Entry, EntryKind, Hold};
 pub use fault::{FullOf, LedgerFault};
+pub use granting::MOST_ACCOUNTS;
 pub use key::{Account, Key};
+pub use ledger::Ledger;
 pub use placing::MOST_SECONDS;
