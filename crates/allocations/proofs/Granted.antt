@@ -5,8 +5,8 @@ use Rattle.std.specs.List.{list_any}
 use Rattle.std.specs.Option.{option_map, option_to_list}
 use Rattle.std.specs.BTreeSet.{insert_key}
 use Rattle.std.proofs.lemmas.List.{map-append}
-use Rattle.std.proofs.lemmas.List.Elements.{All-weaker, filter-append}
-use Rattle.std.proofs.lemmas.List.Folds.{list_any-append}
+use Rattle.std.proofs.lemmas.List.Elements.{All-weaker, All-contains, filter-append}
+use Rattle.std.proofs.lemmas.List.Folds.{list_any-append, Any-from_list_any}
 use Rattle.std.proofs.lemmas.List.Sums.{fold-append}
 use Rattle.allocations.specs.declared.key.Key.{Key}
 use Rattle.allocations.specs.declared.entry.Entry.{Entry}
@@ -18,12 +18,14 @@ use Rattle.allocations.specs.declared.posting.Posting.{Posting}
 use Rattle.allocations.specs.declared.posting.GroupState.{GroupState}
 use Rattle.allocations.specs.Key.{key_cmp, is_key}
 use Rattle.std.specs.Prelude.{slice_get}
-use Rattle.std.proofs.lemmas.Option.{slice_get_within, get_or_from_slice_get}
+use Rattle.std.specs.Prelude.{◌↔◌}
+use Rattle.std.proofs.lemmas.Option.{slice_get_within, get_or_from_slice_get, slice_get_cases}
+use Rattle.std.proofs.lemmas.List.{length-map, get_or_default, get_or-map as get_or_map}
 use Rattle.allocations.specs.Books.{Books, GroupHolds, is_kind, seconds_of, balance_of, held_of, has_grant, accounts_of}
 use Rattle.allocations.specs.Changes.{grant_entry, with_entry}
 use Rattle.allocations.specs.Raw.{no_key, posted, held_at, key_at, entry_of, hold_of, group_of, books_of, IsPlaced}
 use Rattle.allocations.specs.Store.{StoreSeen, given_at, with_posting, store_books, IsSound, IsGranted}
-use Rattle.allocations.proofs.Keys.{is_key-refl}
+use Rattle.allocations.proofs.Keys.{is_key-refl, is_key-true}
 use Rattle.allocations.proofs.Seen.{seconds_of-posted, held_of-held}
 use Rattle.allocations.proofs.Tied.{map_agree, key_at-kept}
 
@@ -98,3 +100,34 @@ granted_more s es key n e all i d l =
       (λ (same : k ≡ key). subst (λ (x : Key). has_grant (es ++ grant_entry key n ∷ []) x ≡ true) (sym same) (has_grant-last es key n))
       (all i d l) in
     subst (λ (x : List Entry). has_grant x k ≡ true) (sym e) goes
+
+-- an account that is known has a grant
+pub granted_at : (s : StoreSeen) (i : ℕ) (k : Key) → IsGranted s → slice_get s.keys i ≡ Some k → has_grant (store_books s).entries k ≡ true
+granted_at s i k g at = subst (λ (x : Key). has_grant (store_books s).entries x ≡ true) (get_or_from_slice_get s.keys i k k at) (g i k (slice_get_within s.keys i k at))
+
+-- an account with a grant is known
+pub known_key : (keys : List Key) (ps : List Posting) (k : Key) → All (λ p. p.account < length keys) ps → has_grant (map (entry_of keys) ps) k ≡ true → Contains keys k
+known_key keys ps k located h =
+    let any = Any-from_list_any (λ (e : Entry). is_kind Grant e.kind && is_key e.key k) (map (entry_of keys) ps) h in
+    let within : any.0 < length ps = rw length-map at any.2 in
+    elim (slice_get_cases ps any.0).1 [
+      inl w ↦
+        (let p : Posting = w.0 in
+        let e : any.1 ≡ entry_of keys p = sym any.3 ∙ get_or_map (entry_of keys) ps any.0 p any.1 within ∙ ap (entry_of keys) w.3 in
+        let pass : (is_kind Grant p.kind && is_key (key_at keys p.account) k) ≡ true = subst (λ (x : Entry). (is_kind Grant x.kind && is_key x.key k) ≡ true) e any.4 in
+        let same : key_at keys p.account ≡ k = is_key-true (key_at keys p.account) k (second (is_kind Grant p.kind) (is_key (key_at keys p.account) k) pass) in
+        let l : p.account < length keys = subst (λ (x : Posting). x.account < length keys) w.3 (located any.0 p within) in
+        (p.account, l, get_or_default keys p.account k no_key l ∙ same))
+    | inr w ↦ absurd (omega (arith, within, w.0))
+    ]
+  where
+    second : (a b : Bool) → (a && b) ≡ true → b ≡ true
+    second true b h = h
+    second false b h = cc
+
+-- the listed accounts are those with a grant
+pub listed_granted : (s : StoreSeen) → IsSound s → IsGranted s → All (Contains s.keys) s.listed → All (Contains s.listed) s.keys → (k : Key) → Contains s.listed k ↔ (has_grant (store_books s).entries k ≡ true)
+listed_granted s g granted listed all k = (
+    (λ (c : Contains s.listed k). let here = All-contains (Contains s.keys) s.listed k listed c in subst (λ (x : Key). has_grant (store_books s).entries x ≡ true) here.2 (granted here.0 k here.1)),
+    (λ (h : has_grant (store_books s).entries k ≡ true). All-contains (Contains s.listed) s.keys k all (known_key s.keys s.postings k g.located h))
+  )

@@ -12,7 +12,7 @@ use Rattle.std.specs.BTreeSet.{insert_key}
 use Rattle.std.proofs.lemmas.Cmp.{nat_list_cmp_total, tied_itself}
 use Rattle.std.proofs.lemmas.Bool.{cases_lt}
 use Rattle.std.proofs.lemmas.List.{get_or-map as get_or_map, length-map, take-append-drop, map-append, take-map, drop-map}
-use Rattle.std.proofs.lemmas.List.Elements.{All-nil, All-cons, All-append, All-take, All-drop, All-contains, All-weaker, All-push, Contains-append_left, Contains-append_right, Contains-append_cases}
+use Rattle.std.proofs.lemmas.List.Elements.{All-map, All-nil, All-cons, All-append, All-take, All-drop, All-contains, All-weaker, All-push, Contains-append_left, Contains-append_right, Contains-append_cases}
 use Rattle.std.proofs.lemmas.List.Sorted.{searchable_from_sorted}
 use Rattle.std.proofs.lemmas.Option.{slice_get_within, slice_get_cases, slice_get_read, get_or_from_slice_get}
 use Rattle.std.proofs.Math.ListN.{get_or-map}
@@ -119,3 +119,7 @@ known_answer (Err i) b e h = ((λ t. absurd (false≢true (sym e ∙ t))), (λ a
 pub on_ok : {T E : Type 0} (r : Result T E) {P : Type 0} → P → OnOk r P
 on_ok (Ok x) p = p
 on_ok (Err e) p = tt
+
+-- each key that is listed is known
+pub listed_known : (keys : List Key) (order : List Listed) → IsRegister keys order → All (Contains keys) (keys_of order)
+listed_known keys order r = All-map (Contains keys) (λ (l : Listed). l.key) order (All-weaker (λ (l : Listed). slice_get keys l.place ≡ Some l.key) (λ (l : Listed). Contains keys l.key) (λ l at. (l.place, slice_get_within keys l.place l.key at, get_or_from_slice_get keys l.place l.key l.key at)) order r.places)

@@ -67,4 +67,101 @@ impl Ledger {
     {
         grant(&mut self.store, self.alloc, key, seconds)
     }
+
+    /// An account's grants less its charges plus its refunds, none where it has no grant.
+    pub fn balance(&self, key: &Key) -> Option<u64>
+        ensures balance { result ≡ (if has_grant self.now.books.entries key.now then Some (balance_of self.now.books.entries key.now) else None) }
+        ensures sums { IfSome result (λ balance. balance + seconds_of Charge key.now self.now.books.entries ≡ seconds_of Grant key.now self.now.books.entries + seconds_of Refund key.now self.now.books.entries) }
+    {
+        match self.store.find(key) {
+            Ok(place) => Some(self.store.sums(place).balance),
+            Err(_) => None,
+        }
+    }
+
+    /// An account's balance less all holds, none where it has no grant.
+    pub fn available(&self, key: &Key) -> Option<u64>
+        ensures available { result ≡ (if has_grant self.now.books.entries key.now then Some (available_of self.now.books key.now) else None) }
+        ensures covered { IfSome result (λ available. available + held_of self.now.books.holds key.now ≡ balance_of self.now.books.entries key.now) }
+    {
+        match self.store.find(key) {
+            Ok(place) => {
+                let sums = self.store.sums(place);
+                Some(sums.balance - sums.held)
+            }
+            Err(_) => None,
+        }
+    }
+
+    /// The accounts with a grant, in the order of keys: proposal, account, instrument type. None where the index isn't
+    /// below their number.
+    pub fn account(&self, index: usize) -> Option<&Key>
+        ensures account { option_copied result ≡ slice_get (accounts_of self.now.books.entries) index }
+        ensures rising { Rises key_cmp (accounts_of self.now.books.entries) }
+        ensures complete { (key : Key) → Contains (accounts_of self.now.books.entries) key ↔ IsTrue (has_grant self.now.books.entries key) }
+    {
+        self.store.account(index)
+    }
+
+    /// Holds seconds for a group, and charges it `ipp` seconds of its proposal's ipp account where they are above 0. The
+    /// refusal is `NoSuchProposal` where no account of the proposal has a grant; otherwise the first one of the holds, in
+    /// their order, and then of the ipp account: `NoSuchAllocation` where the account has no grant, `NotEnoughTime` where
+    /// more is needed than is available.
+    pub fn hold(&mut self, group: GroupNo, holds: &[Hold], ipp: u64) -> Result<(), LedgerFault>
+        requires holds { IsHoldList holds.now }
+        requires free { IsFree group self.old.books.holds }
+        requires bound { total_seconds self.old.books + seconds_of_holds holds.now + ipp ≤ MOST_SECONDS }
+        ensures booked { OnOk result (self.new.books ≡ booked group holds.now ipp self.old.books) }
+        ensures given { OnOk result (refusal_of self.old.books holds.now ipp ≡ None) }
+        ensures refused { IfErr result (λ fault. fault ≢ NoMemory → refusal_of self.old.books holds.now ipp ≡ Some fault) }
+        ensures unchanged { OnErr result (self.new.books ≡ self.old.books) }
+    {
+        settle(&mut self.store, self.alloc, None, group, holds, ipp)
+    }
+
+    /// Ends what the group `old` holds, refunds its ipp charge where that stands, and then does what `hold` does for
+    /// `group`, or nothing. The refusals are those of `hold` over the seconds so freed.
+    pub fn replace(&mut self, old: GroupNo, group: GroupNo, holds: &[Hold], ipp: u64) -> Result<(), LedgerFault>
+        requires holds { IsHoldList holds.now }
+        requires free { IsFree group self.old.books.holds }
+        requires bound { total_seconds (freed old self.old.books) + seconds_of_holds holds.now + ipp ≤ MOST_SECONDS }
+        ensures booked { OnOk result (self.new.books ≡ booked group holds.now ipp (freed old self.old.books)) }
+        ensures given { OnOk result (refusal_of (freed old self.old.books) holds.now ipp ≡ None) }
+        ensures refused { IfErr result (λ fault. fault ≢ NoMemory → refusal_of (freed old self.old.books) holds.now ipp ≡ Some fault) }
+        ensures unchanged { OnErr result (self.new.books ≡ self.old.books) }
+    {
+        let old = self.store.group_index(old).ok();
+        settle(&mut self.store, self.alloc, old, group, holds, ipp)
+    }
+
+    /// Makes room for entries, which `charge` and `refund` need. Fails only for want of memory.
+    pub fn reserve(&mut self, entries: u32) -> Result<(), AllocError>
+        ensures spare { OnOk result (entries ≤ self.new.spare) }
+        ensures least { self.old.spare ≤ self.new.spare }
+        ensures books { self.new.books ≡ self.old.books }
+    {
+        self.store.reserve(entries as usize)
+    }
+
+    /// Charges an account seconds that a request has used. It takes no memory.
+    pub fn charge(&mut self, key: &Key, seconds: u64, group: GroupNo, request: RequestNo)
+        requires granted { IsTrue (has_grant self.old.books.entries key.now) }
+        requires available { seconds ≤ available_of self.old.books key.now }
+        requires spare { 0 < self.old.spare }
+        requires bound { total_seconds self.old.books + seconds ≤ MOST_SECONDS }
+        ensures books { self.new.books ≡ with_entry (request_entry key.now seconds group request) self.old.books }
+        ensures spare { self.new.spare + 1 ≡ self.old.spare }
+    {
+        let account = match self.store.find(key) {
+            Ok(place) => place,
+            Err(_) => unreachable!(),
+        };
+        self.store.post(Posting {
+            account,
+            kind: EntryKind::Charge,
+            seconds,
+            group,
+            request,
+        });
+    }
 }

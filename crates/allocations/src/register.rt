@@ -1,6 +1,6 @@
 // Which accounts there are.
 
-ghost use Rattle.std.specs.Prelude.{◌≡◌, ◌++◌, ◌∷◌, [], ◌↔◌, length, slice_get, Contains, Any, IsTrue, IfOk, IfErr, OnOk, OnErr, option_copied};
+ghost use Rattle.std.specs.Prelude.{◌≡◌, ◌++◌, ◌∷◌, [], ◌↔◌, length, slice_get, All, Contains, Any, IsTrue, IfOk, IfErr, OnOk, OnErr, option_copied};
 ghost use Rattle.std.specs.List.Sorted.{IsSearchInRange};
 ghost use Rattle.std.specs.BTreeSet.{insert_key};
 ghost use Rattle.allocations.specs.Key.{key_cmp};
@@ -89,10 +89,15 @@ impl Register {
 
     /// The account at a place in the order of keys.
     pub fn get(&self, index: usize) -> Option<&Key>
-        ensures { option_copied result ≡ slice_get self.now.listed index }
+        ensures key { option_copied result ≡ slice_get self.now.listed index }
+        ensures rising { Rises key_cmp self.now.listed }
+        ensures listed { All (Contains self.now.keys) self.now.listed }
+        ensures all { All (Contains self.now.listed) self.now.keys }
     {
-        let listed = self.order.get(index)?;
-        Some(&listed.key)
+        match self.order.get(index) {
+            Some(listed) => Some(&listed.key),
+            None => None,
+        }
     }
 
     /// Adds an account where it stands in the order of keys. Fails only for want of memory, and then changes nothing.

@@ -68,7 +68,11 @@ impl Store {
 
     /// The account at a place in the order of keys.
     pub fn account(&self, index: usize) -> Option<&Key>
-        ensures { option_copied result ≡ slice_get self.now.listed index }
+        ensures key { option_copied result ≡ slice_get self.now.listed index }
+        ensures rising { Rises key_cmp self.now.listed }
+        ensures listed { All (Contains self.now.keys) self.now.listed }
+        ensures all { All (Contains self.now.listed) self.now.keys }
+        ensures sound { IsSound self.now }
     {
         self.register.get(index)
     }
