@@ -10,3 +10,4 @@ pub mod Numbered
 pub mod Booked
 pub mod Settled
 pub mod Granted
+pub mod Changed

@@ -59,8 +59,11 @@ module _ {X : Type 0} (number : X → ℕ) where
   find_at (x ∷ xs) n zero d r at = ap (λ (b : Bool). if b then Some x else find (λ y. number y == n) xs) (eq-eqb (number x) n (same_Some (number x) n at))
   find_at (x ∷ xs) n (suc j) d r at = ap (λ (b : Bool). if b then Some x else find (λ y. number y == n) xs) (before_test x xs n j r at) ∙ find_at xs n j d (tail_rises x xs r) at
 
-  pub map_gap : (xs : List X) (n i : ℕ) (f : X → X) → IsGap nat_cmp (map number xs) n i → map (λ x. if number x == n then f x else x) xs ≡ xs
-  map_gap xs n i f g = map_none xs n f (absent_tests xs n (gap-absent nat_cmp nat_cmp_total (map number xs) n i g))
+  pub map_absent : (xs : List X) (n : ℕ) (f : X → X) → (Contains (map number xs) n → ⊥) → map (λ x. if number x == n then f x else x) xs ≡ xs
+  map_absent xs n f absent = map_none xs n f (absent_tests xs n absent)
+
+  pub find_absent : (xs : List X) (n : ℕ) → (Contains (map number xs) n → ⊥) → find (λ x. number x == n) xs ≡ None
+  find_absent xs n absent = find_none xs n (absent_tests xs n absent)
 
   pub find_gap : (xs : List X) (n i : ℕ) → IsGap nat_cmp (map number xs) n i → find (λ x. number x == n) xs ≡ None
-  find_gap xs n i g = find_none xs n (absent_tests xs n (gap-absent nat_cmp nat_cmp_total (map number xs) n i g))
+  find_gap xs n i g = find_absent xs n (gap-absent nat_cmp nat_cmp_total (map number xs) n i g)

@@ -37,7 +37,7 @@ use Rattle.allocations.proofs.Keys.{key_cmp_total}
 use Rattle.allocations.proofs.Tied.{posted-push}
 use Rattle.allocations.proofs.Freed.{given-bounded}
 
-map_mapped : {X Y Z : Type 0} (f : X → Y) (g : Y → Z) (xs : List X) → map g (map f xs) ≡ map (λ x. g (f x)) xs
+pub map_mapped : {X Y Z : Type 0} (f : X → Y) (g : Y → Z) (xs : List X) → map g (map f xs) ≡ map (λ x. g (f x)) xs
 map_mapped f g [] = refl
 map_mapped {X} {Y} {Z} f g (x ∷ xs) = ap (λ (l : List Z). g (f x) ∷ l) (map_mapped f g xs)
 

@@ -12,3 +12,4 @@ pub mod Changes
 pub mod Booking
 pub mod Ledger
 pub mod LedgerInside
+pub mod Lowered

@@ -130,8 +130,8 @@ impl Ledger {
         ensures refused { IfErr result (λ fault. fault ≢ NoMemory → refusal_of (freed old self.old.books) holds.now ipp ≡ Some fault) }
         ensures unchanged { OnErr result (self.new.books ≡ self.old.books) }
     {
-        let old = self.store.group_index(old).ok();
-        settle(&mut self.store, self.alloc, old, group, holds, ipp)
+        let index = self.store.find_group(old);
+        settle(&mut self.store, self.alloc, index, group, holds, ipp)
     }
 
     /// Makes room for entries, which `charge` and `refund` need. Fails only for want of memory.

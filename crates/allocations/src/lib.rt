@@ -7,6 +7,7 @@ mod fault;
 mod granting;
 mod key;
 mod ledger;
+mod lowering;
 mod placing;
 mod posting;
 mod register;

@@ -1,9 +1,10 @@
 // Which accounts there are.
 
-ghost use Rattle.std.specs.Prelude.{◌≡◌, ◌++◌, ◌∷◌, [], ◌↔◌, length, slice_get, All, Contains, Any, IsTrue, IfOk, IfErr, OnOk, OnErr, option_copied};
+ghost use Rattle.std.specs.Prelude.{◌≡◌, ◌++◌, ◌∷◌, [], ◌<◌, ◌↔◌, length, slice_get, All, Contains, Any, IsTrue, IfOk, IfErr, OnOk, OnErr, option_copied};
 ghost use Rattle.std.specs.List.Sorted.{IsSearchInRange};
 ghost use Rattle.std.specs.BTreeSet.{insert_key};
 ghost use Rattle.allocations.specs.Key.{key_cmp};
+ghost use Rattle.allocations.specs.Raw.{key_at};
 ghost use Rattle.allocations.specs.Register.{keys_of};
 ghost use Rattle.allocations.specs.Rising.{Rises, IsGap, IsFoundAt};
 
@@ -85,6 +86,14 @@ impl Register {
         self.order
             .binary_search_by(|listed| listed.key.proposal.cmp(proposal))
             .is_ok()
+    }
+
+    /// The key of the account at a place.
+    pub fn key(&self, place: usize) -> &Key
+        requires { place < length self.now.keys }
+        ensures { result.now ≡ key_at self.now.keys place }
+    {
+        &self.keys[place]
     }
 
     /// The account at a place in the order of keys.

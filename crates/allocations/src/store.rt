@@ -1,13 +1,13 @@
 // The books as they are kept: accounts, entries and holds by place, with sums beside them.
 
-ghost use Rattle.std.specs.Prelude.{◌≡◌, ◌+◌, ◌-◌, ◌^◌, ◌<◌, ◌≤◌, ◌++◌, ◌∷◌, [], ◌↔◌, Some, IsTrue, All, Any, Contains, IfSome, IfOk, IfErr, OnOk, OnErr, length, slice_get, option_copied};
+ghost use Rattle.std.specs.Prelude.{◌≡◌, ◌+◌, ◌-◌, ◌^◌, ◌<◌, ◌≤◌, ◌++◌, ◌∷◌, [], ◌↔◌, Some, IsTrue, All, Any, Contains, IfSome, MatchOption, IfOk, IfErr, OnOk, OnErr, length, slice_get, option_copied};
 ghost use Rattle.std.specs.List.{insert};
 ghost use Rattle.std.specs.Ordering.{nat_cmp};
 ghost use Rattle.std.specs.BTreeSet.{insert_key};
 ghost use Rattle.allocations.specs.declared.entry.EntryKind.TheVariants.{Charge};
 ghost use Rattle.allocations.specs.Key.{key_cmp};
 ghost use Rattle.allocations.specs.Rising.{Rises, IsGap, IsFoundAt};
-ghost use Rattle.allocations.specs.Raw.{posted, held_at};
+ghost use Rattle.allocations.specs.Raw.{key_at, posted, held_at};
 ghost use Rattle.allocations.specs.Store.{group_at, given_at, with_posting, with_group, numbers_of, empty_group, amount_keys, CanHold, CanPost, refunds_of, freed_postings, freed_groups, left_at, IsSound};
 
 use crate::entry::EntryKind;
@@ -64,6 +64,14 @@ impl Store {
         ensures { result ≡ length self.now.listed }
     {
         self.register.len()
+    }
+
+    /// The key of the account at a place.
+    pub fn key(&self, place: usize) -> &Key
+        requires { place < length self.now.keys }
+        ensures { result.now ≡ key_at self.now.keys place }
+    {
+        self.register.key(place)
     }
 
     /// The account at a place in the order of keys.
@@ -163,6 +171,26 @@ impl Store {
             .binary_search_by(|state| state.group.0.cmp(&number))
     }
 
+    /// Where a group stands, if it is there.
+    pub fn find_group(&self, group: GroupNo) -> Option<usize>
+        ensures found { MatchOption result (¬ (Contains (numbers_of self.now.groups) group.0)) (λ index. slice_get (numbers_of self.now.groups) index ≡ Some group.0) }
+        ensures within { IfSome result (λ index. index < length self.now.groups) }
+        ensures sound { IsSound self.now }
+    {
+        match self.group_index(group) {
+            Ok(index) => Some(index),
+            Err(_) => None,
+        }
+    }
+
+    /// The ipp charge of a group that stands.
+    pub fn ipp(&self, index: usize) -> Option<Amount>
+        requires { index < length self.now.groups }
+        ensures { result ≡ (group_at self.now.groups index).ipp }
+    {
+        self.groups[index].ipp
+    }
+
     /// Makes room for a group. Fails only for want of memory.
     pub fn make_slot(&mut self) -> Result<(), AllocError>
         ensures slot { OnOk result (0 < self.new.slots) }
@@ -190,6 +218,7 @@ impl Store {
     pub fn lift(&mut self, alloc: Global, index: usize) -> ListOf<Amount>
         requires { index < length self.old.groups }
         ensures holds { result ≡ (group_at self.old.groups index).holds }
+        ensures was { IsSound self.old }
         ensures rest { self.new ≡ with_group self.old index (record (group_at self.old.groups index) { holds = [] }) }
     {
         let state = &mut self.groups[index];
