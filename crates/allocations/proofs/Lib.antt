@@ -11,3 +11,4 @@ pub mod Booked
 pub mod Settled
 pub mod Granted
 pub mod Changed
+pub mod Lower

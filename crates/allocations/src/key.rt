@@ -2,6 +2,7 @@
 
 ghost use Rattle.std.specs.Prelude.{◌≡◌, IfOk};
 
+ghost use Rattle.allocations.specs.Key.{is_key};
 ghost use Rattle.allocations.specs.Refusals.{ipp_key};
 
 use plan_base::Name;
@@ -55,5 +56,12 @@ impl Key {
             account: Account::Ipp,
             instrument,
         })
+    }
+
+    /// Whether both are the key of one account.
+    pub fn is(&self, other: &Key) -> bool
+        ensures { result ≡ is_key self.now other.now }
+    {
+        self.cmp(other).is_eq()
     }
 }

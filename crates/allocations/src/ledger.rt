@@ -1,6 +1,6 @@
 // The ledger on which proposals are charged.
 
-ghost use Rattle.std.specs.Prelude.{◌≡◌, ◌≢◌, ◌+◌, ◌-◌, ◌<◌, ◌≤◌, ◌∷◌, ◌↔◌, [], if◌then◌else◌, true, Some, None, Contains, IsTrue, IfSome, IfOk, IfErr, OnOk, OnErr, slice_get, option_copied};
+ghost use Rattle.std.specs.Prelude.{◌≡◌, ◌≢◌, ◌+◌, ◌-◌, ◌<◌, ◌≤◌, ◌∷◌, ◌++◌, ◌↔◌, [], if◌then◌else◌, true, Some, None, Contains, IsTrue, IfSome, IfOk, IfErr, OnOk, OnErr, map, slice_get, option_copied};
 ghost use Rattle.allocations.specs.declared.entry.EntryKind.TheVariants.{Grant, Charge, Refund};
 ghost use Rattle.allocations.specs.declared.fault.LedgerFault.TheVariants.{Full, NoMemory};
 ghost use Rattle.allocations.specs.declared.fault.FullOf.TheVariants.{Accounts};
@@ -16,6 +16,7 @@ use crate::entry::{EntryKind, Hold};
 use crate::fault::LedgerFault;
 use crate::granting::{MOST_ACCOUNTS, grant};
 use crate::key::Key;
+use crate::lowering::lowered;
 use crate::placing::MOST_SECONDS;
 use crate::posting::Posting;
 use crate::store::Store;
@@ -163,5 +164,34 @@ impl Ledger {
             group,
             request,
         });
+    }
+
+    /// What the group holds from now on, at most what it held of each account. It takes no memory.
+    pub fn release(&mut self, group: GroupNo, holds: &[Hold])
+        requires rising { Rises key_cmp (map (λ h. h.key) holds.now) }
+        requires at_most { IsAtMost group self.old.books.holds holds.now }
+        ensures books { self.new.books ≡ released group holds.now self.old.books }
+        ensures spare { self.new.spare ≡ self.old.spare }
+    {
+        if let Some(index) = self.store.find_group(group) {
+            let held = self.store.lift(self.alloc, index);
+            let kept = lowered(&self.store, held, holds);
+            self.store.lay(index, kept);
+        }
+    }
+
+    /// Gives back the ipp charge of a group, which stands and wasn't refunded. It takes no memory.
+    pub fn refund(&mut self, key: &Key, seconds: u64, group: GroupNo)
+        requires stands { ipp_of group self.old.books.holds ≡ Some record { key = key.now; seconds = seconds } }
+        requires spare { 0 < self.old.spare }
+        requires bound { total_seconds self.old.books + seconds ≤ MOST_SECONDS }
+        ensures books { self.new.books ≡ refunded group self.old.books }
+        ensures entry { self.new.books.entries ≡ self.old.books.entries ++ refund_entry group record { key = key.now; seconds = seconds } ∷ [] }
+        ensures once { ipp_of group self.new.books.holds ≡ None }
+        ensures spare { self.new.spare + 1 ≡ self.old.spare }
+    {
+        if let Some(index) = self.store.find_group(group) {
+            self.store.refund(index);
+        }
     }
 }

@@ -1,6 +1,6 @@
 // The books as they are kept: accounts, entries and holds by place, with sums beside them.
 
-ghost use Rattle.std.specs.Prelude.{◌≡◌, ◌+◌, ◌-◌, ◌^◌, ◌<◌, ◌≤◌, ◌++◌, ◌∷◌, [], ◌↔◌, Some, IsTrue, All, Any, Contains, IfSome, MatchOption, IfOk, IfErr, OnOk, OnErr, length, slice_get, option_copied};
+ghost use Rattle.std.specs.Prelude.{◌≡◌, ◌+◌, ◌-◌, ◌^◌, ◌<◌, ◌≤◌, ◌++◌, ◌∷◌, [], ◌↔◌, Some, IsTrue, All, Any, Contains, IfSome, MatchOption, IfOk, IfErr, OnOk, OnErr, length, slice_get, slice_set, option_copied};
 ghost use Rattle.std.specs.List.{insert};
 ghost use Rattle.std.specs.Ordering.{nat_cmp};
 ghost use Rattle.std.specs.BTreeSet.{insert_key};
@@ -269,18 +269,16 @@ impl Store {
         }
     }
 
-    /// Ends what a group holds, and refunds its ipp charge where that stands.
-    pub fn free(&mut self, alloc: Global, index: usize)
+    /// Refunds the ipp charge of a group, where it stands.
+    pub fn refund(&mut self, index: usize)
         requires index { index < length self.old.groups }
         requires spare { 0 < self.old.spare }
         requires fits { All (λ p. given_at p.account self.old.postings + p.seconds < 2 ^ 64) (refunds_of (group_at self.old.groups index)) }
-        ensures freed { self.new ≡ record self.old { postings = freed_postings (Some index) self.old.postings self.old.groups; groups = freed_groups (Some index) self.old.groups; spare = self.new.spare } }
-        ensures spare { self.old.spare ≤ self.new.spare + 1 }
+        ensures refunded { self.new ≡ record self.old { postings = self.old.postings ++ refunds_of (group_at self.old.groups index); groups = slice_set self.old.groups index (record (group_at self.old.groups index) { ipp = None }); spare = self.old.spare - length (refunds_of (group_at self.old.groups index)) } }
         ensures sound { IsSound self.new }
     {
         let group = self.groups[index].group;
         let ipp = self.groups[index].ipp;
-        let _ = self.lift(alloc, index);
         self.set_ipp(index, None);
         if let Some(amount) = ipp {
             self.post(Posting {
@@ -291,5 +289,18 @@ impl Store {
                 request: RequestNo(0),
             });
         }
+    }
+
+    /// Ends what a group holds, and refunds its ipp charge where that stands.
+    pub fn free(&mut self, alloc: Global, index: usize)
+        requires index { index < length self.old.groups }
+        requires spare { 0 < self.old.spare }
+        requires fits { All (λ p. given_at p.account self.old.postings + p.seconds < 2 ^ 64) (refunds_of (group_at self.old.groups index)) }
+        ensures freed { self.new ≡ record self.old { postings = freed_postings (Some index) self.old.postings self.old.groups; groups = freed_groups (Some index) self.old.groups; spare = self.new.spare } }
+        ensures spare { self.old.spare ≤ self.new.spare + 1 }
+        ensures sound { IsSound self.new }
+    {
+        let _ = self.lift(alloc, index);
+        self.refund(index);
     }
 }
