@@ -12,3 +12,4 @@ pub mod Settled
 pub mod Granted
 pub mod Changed
 pub mod Lower
+pub mod Released

@@ -190,8 +190,10 @@ impl Ledger {
         ensures once { ipp_of group self.new.books.holds ≡ None }
         ensures spare { self.new.spare + 1 ≡ self.old.spare }
     {
-        if let Some(index) = self.store.find_group(group) {
-            self.store.refund(index);
-        }
+        let index = match self.store.find_group(group) {
+            Some(index) => index,
+            None => unreachable!(),
+        };
+        self.store.refund(index);
     }
 }
