@@ -2,6 +2,7 @@
 use Rattle.std.specs.Prelude.{◌≡◌, ℕ, ◌≤◌, ◌<◌, nat_le, nat_lt, Bool, false, not, ◌&&◌, ◌||◌, IsTrue, List, All, AllPairs}
 use Rattle.std.specs.List.{list_any}
 use Rattle.plan_base.specs.declared.span.Span.{Span}
+pub use Rattle.plan_base.specs.Snapshot.{IsSortedApart}
 
 -- whether second x is one of the span
 abbrev pub span_has : Span → ℕ → Bool
@@ -10,11 +11,6 @@ span_has span x = nat_le span.from.0 x && nat_lt x span.to.0
 -- whether second x is one of a span of the list
 abbrev pub has : List Span → ℕ → Bool
 has spans x = list_any (λ span. span_has span x) spans
-
--- sorted with gaps: each span has a second, and ends before any later one begins
-pub record IsSortedApart (spans : List Span) : Type 0 where
-  pub nonempty : All (λ s. s.from.0 < s.to.0) spans
-  pub apart : AllPairs (λ s t. s.to.0 < t.from.0) spans
 
 -- the list, sorted with gaps, of exactly the seconds at which the test is true
 pub record IsSetOf (test : ℕ → Bool) (spans : List Span) : Type 0 where

@@ -14,6 +14,7 @@ pub mod OneSpan
 pub mod OneVerdict
 pub mod Orderly
 pub mod Orders
+pub mod RangeLemmas
 pub mod Rebates
 pub mod Removing
 pub mod RowLemmas

@@ -2,6 +2,7 @@ pub mod Sums
 pub mod Requests
 pub mod Snapshot
 pub mod Faults
+pub mod Ranges
 pub mod Rows
 pub mod Starts
 pub mod Feasible

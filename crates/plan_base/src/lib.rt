@@ -11,11 +11,14 @@ mod list;
 mod name;
 mod number;
 mod parts;
+mod ranges;
 mod rows;
 mod snapshot;
 mod solved;
 mod span;
 mod taken;
+#[cfg(test)]
+mod tests;
 mod unique;
 mod verdict;
 

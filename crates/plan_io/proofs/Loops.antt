@@ -2,12 +2,12 @@
 use Rattle.std.proofs.Common.{◌≡◌, ℕ, ◌+◌, ◌≤◌, ◌<◌, List, [], ◌∷◌, ◌++◌, length, take, refl, sym, ◌∙◌, ap, subst, arith, append-nil, append_assoc, length-append, Bool, true, false, cond, nat_eq, inl, inr}
 use Rattle.std.proofs.KnownBytes.{Consumes-trans, Consumes-whole}
 use Rattle.std.specs.declared.option.Option.{Option}
-use Rattle.std.specs.Io.KnownBytes.{Consumes, IsAtEnd}
+use Rattle.std.specs.Io.KnownBytes.{Consumes}
 use Rattle.std.proofs.Math.Seq.{take-append_seam}
 use Rattle.plan_io.specs.declared.lines.ScriptLine.{ScriptLine}
 use Rattle.plan_io.specs.declared.lines.LineAnswer.{LineAnswer}
 use Rattle.plan_io.specs.declared.lines.LineAnswer.TheVariants.{Line, End, ReadFault, InputOver}
-use Rattle.plan_io.specs.LinesSeen.{LinesSeen, IsFresh, IsWithin}
+use Rattle.plan_io.specs.LinesSeen.{LinesSeen, IsFresh}
 use Rattle.plan_io.specs.LinesOf.{line_of, lines_from, lines_of, whole_lines_of, lines_left}
 use Rattle.plan_io.specs.Next.{Cuts, ReadsOn, ReadsOver, BeginsTooMany, NextIs}
 use Rattle.plan_io.specs.Reading.{HasEnded, SoFar, AllRead}

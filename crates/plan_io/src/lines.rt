@@ -1,5 +1,5 @@
 //! Reading a source line by line.
-ghost use Rattle.std.specs.Prelude.{◌≡◌, ◌<◌, ◌≤◌, ◌↔◌, ◌^◌, [], length, max, true, false, IfOk, OnErr, IsTrue};
+ghost use Rattle.std.specs.Prelude.{◌≡◌, ◌<◌, ◌≤◌, ◌↔◌, ◌^◌, [], length, max, true, false, IfOk, IsOkAnd, OnErr, IsTrue};
 ghost use Rattle.std.specs.Io.KnownBytes.{IsAtEnd};
 ghost use Rattle.plan_io.specs.Newline.{NoNewline};
 ghost use Rattle.plan_io.specs.LinesSeen.{IsFresh, IsWithin};
@@ -49,8 +49,8 @@ enum Turn {
 /// A reader of lines, with limits on the bytes that it takes and on the lines that it answers.
 ///
 /// It reads by blocks, and asks for a byte beyond the limit only where no whole line is left. After `End`,
-/// `ReadFault` or `InputOver` it answers the same in every later call, and reads no more. Where memory is wanting no byte is lost, and the call may
-/// be made again.
+/// `ReadFault` or `InputOver` it answers the same in every later call, and reads no more. Where memory is
+/// wanting no byte is lost, and the call may be made again.
 #[derive(Drop)]
 pub struct Lines {
     alloc: Global,
@@ -191,6 +191,7 @@ impl Lines {
         requires within { IsWithin self.old }
         requires clear { NoNewline self.old.held }
         ensures last { IfOk result (λ answer. LastIs self.old self.new answer) }
+        ensures fresh { IsFresh self.old → IsOkAnd result (λ answer. (answer ≡ LineAnswer.End) × (self.new ≡ self.old)) }
         ensures err { OnErr result (self.new ≡ self.old) }
     {
         if self.is_fresh() {
@@ -207,9 +208,9 @@ impl Lines {
     pub fn next<S: Source>(&mut self, source: &mut S) -> Result<LineAnswer, AllocError>
         ensures next { IfOk result (λ answer. NextIs self.old (S.left source.old) self.new (S.left source.new) answer) }
         ensures cause { IfOk result (λ answer. NextCause self.old (S.faults source.old) (S.faults source.new) answer) }
-        ensures stays_failed { self.old.failed ≡ true → IfOk result (λ answer. (answer ≡ LineAnswer.ReadFault) × (self.new ≡ self.old)) }
-        ensures stays_ended { self.old.ended ≡ true → IsFresh self.old → IfOk result (λ answer. (answer ≡ LineAnswer.End) × (self.new ≡ self.old)) }
-        ensures stays_over { ¬ IsWithin self.old → IfOk result (λ answer. (answer ≡ LineAnswer.InputOver) × (self.new ≡ self.old)) }
+        ensures stays_failed { self.old.failed ≡ true → IsOkAnd result (λ answer. (answer ≡ LineAnswer.ReadFault) × (self.new ≡ self.old)) }
+        ensures stays_ended { self.old.ended ≡ true → IsFresh self.old → IsOkAnd result (λ answer. (answer ≡ LineAnswer.End) × (self.new ≡ self.old)) }
+        ensures stays_over { ¬ IsWithin self.old → IsOkAnd result (λ answer. (answer ≡ LineAnswer.InputOver) × (self.new ≡ self.old)) }
 
         // Where memory is wanting, bytes may have been taken, and all of them are kept.
         ensures err { OnErr result (ReadsOn self.old (S.left source.old) [] self.new (S.left source.new)) }

@@ -1,3 +1,4 @@
 pub mod Calendar
 pub mod Order
 pub mod Values
+pub mod Written

@@ -15,4 +15,5 @@ pub use doc::{Doc, parse_object};
 pub use fault::JsonFault;
 pub use list::DocList;
 pub use member::Member;
+pub use moment::moments_are_read;
 pub use writer::Writer;

@@ -3,6 +3,7 @@
 ghost use Rattle.std.specs.Prelude.{◌≡◌, ◌≤◌, ◌<◌, ◌+◌, ◌≤ℤ◌, pos, length, IsTrue, IfSome};
 ghost use Rattle.jiff_core.specs.Date.{epoch_day};
 ghost use Rattle.plan_json.specs.Moment.{is_utc, zeros_of, is_fraction, is_ending, has_digits, has_marks, has_form, two_digits, day_number, second_of_day, second_of};
+ghost use Rattle.plan_json.specs.MomentText.{MomentsAreRead};
 
 use jiff::civil::Date;
 
@@ -136,3 +137,8 @@ pub(crate) fn second_of(text: &[u8]) -> Option<u64>
     )?;
     Some(86_400 * day + second)
 }
+
+/// A law: a day of the calendar from 1970 on and a time of it, written in any of the forms, are read as their second.
+pub fn moments_are_read()
+    ensures { MomentsAreRead }
+{}

@@ -1,7 +1,6 @@
 use Rattle.std.proofs.Common.{rules, ◌≡◌, ◌++◌, ◌∷◌, [], List, ℕ, sym, ◌∙◌, subst, true}
-use Rattle.plan_io.specs.LinesSeen.{LinesSeen, IsFresh}
+use Rattle.plan_io.specs.LinesSeen.{IsFresh}
 use Rattle.plan_io.specs.declared.lines.ScriptLine.{ScriptLine}
-use Rattle.plan_io.specs.declared.lines.LineAnswer.{LineAnswer}
 use Rattle.plan_io.specs.declared.lines.LineAnswer.TheVariants.{Line, End}
 use Rattle.plan_io.specs.Next.{NextIs}
 use Rattle.plan_io.specs.Reading.{SoFar, AllRead}

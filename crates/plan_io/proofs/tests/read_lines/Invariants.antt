@@ -1,5 +1,4 @@
-use Rattle.std.proofs.Common.{◌≡◌, ◌-◌, ◌≤◌}
-use Rattle.plan_io.specs.LinesSeen.{IsFresh}
+use Rattle.std.proofs.Common.{◌-◌, ◌≤◌}
 use Rattle.plan_io.specs.Reading.{SoFar}
 use Rattle.plan_io.proofs.tests.read_lines.Given as goal
 

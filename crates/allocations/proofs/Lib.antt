@@ -1,0 +1,15 @@
+pub mod Keys
+pub mod Order
+pub mod Registers
+pub mod Tied
+pub mod Groups
+pub mod Seen
+pub mod Freed
+pub mod Refused
+pub mod Numbered
+pub mod Booked
+pub mod Settled
+pub mod Granted
+pub mod Changed
+pub mod Lower
+pub mod Released

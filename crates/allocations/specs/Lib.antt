@@ -1,0 +1,15 @@
+pub mod Key
+pub mod Register
+pub mod Rising
+pub mod Amounts
+pub mod Books
+pub mod Raw
+pub mod Store
+pub mod StoreInside
+pub mod Refusals
+pub mod Placed
+pub mod Changes
+pub mod Booking
+pub mod Ledger
+pub mod LedgerInside
+pub mod Lowered

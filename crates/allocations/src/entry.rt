@@ -1,0 +1,34 @@
+// What stands in the ledger.
+
+use crate::key::Key;
+use plan_base::{GroupNo, RequestNo};
+
+/// What an entry does to the balance of its account.
+#[derive(Clone, Copy, Debug, PartialEq, Eq)]
+pub enum EntryKind {
+    /// Adds seconds that the proposal may use.
+    Grant,
+    /// Takes seconds that a request has used, or by which a group was raised.
+    Charge,
+    /// Gives the seconds of an earlier charge back.
+    Refund,
+}
+
+/// An entry of the ledger. A number that doesn't apply is 0.
+#[derive(Debug, Drop, PartialEq, Eq)]
+pub struct Entry {
+    pub key: Key,
+    pub kind: EntryKind,
+    pub seconds: u64,
+    /// The group that is charged or refunded.
+    pub group: GroupNo,
+    /// The request that is charged, 0 where the group is.
+    pub request: RequestNo,
+}
+
+/// Seconds of an account that a group holds for its pending requests.
+#[derive(Debug, Drop, PartialEq, Eq)]
+pub struct Hold {
+    pub key: Key,
+    pub seconds: u64,
+}

@@ -1,0 +1,22 @@
+// Time accounts: the ledger on which proposals are granted, held and charged seconds.
+#![tactic(auto)]
+
+mod booking;
+mod entry;
+mod fault;
+mod granting;
+mod key;
+mod ledger;
+mod lowering;
+mod placing;
+mod posting;
+mod register;
+mod store;
+mod sums;
+
+pub use entry::{Entry, EntryKind, Hold};
+pub use fault::{FullOf, LedgerFault};
+pub use granting::MOST_ACCOUNTS;
+pub use key::{Account, Key};
+pub use ledger::Ledger;
+pub use placing::MOST_SECONDS;

@@ -1,0 +1,114 @@
+// Where holds are to be booked, or why they are refused.
+
+ghost use Rattle.std.specs.Prelude.{◌≡◌, ◌≢◌, ◌++◌, ◌∷◌, [], ◌<◌, ◌≤◌, Some, None, All, IfSome, IsSomeAnd, Ok, IfOk, IfErr, OnOk, length, map};
+ghost use Rattle.std.specs.Option.{option_to_list};
+ghost use Rattle.allocations.specs.declared.fault.LedgerFault.TheVariants.{NoMemory};
+ghost use Rattle.allocations.specs.Books.{total_seconds};
+ghost use Rattle.allocations.specs.Raw.{hold_of};
+ghost use Rattle.allocations.specs.Placed.{IsPlacedFor};
+ghost use Rattle.allocations.specs.Refusals.{refusal_at, first_refusal, refusal_of, ipp_key};
+ghost use Rattle.allocations.specs.Store.{freed_postings, freed_groups, freed_books, left_at, IsGranted, StandsFor};
+
+use crate::entry::Hold;
+use crate::fault::LedgerFault;
+use crate::key::Key;
+use crate::store::Store;
+use crate::sums::Amount;
+use plan_base::{ListOf, Name};
+use std::alloc::Global;
+
+/// The most seconds of all entries and holds.
+pub const MOST_SECONDS: u64 = 1_000_000_000_000_000_000;
+
+/// The amount of an account for a need, tested against what is left once the group at `old` is freed.
+pub fn place_need(store: &Store, old: Option<usize>, key: &Key, needed: u64) -> Result<Amount, LedgerFault>
+    requires old { IfSome old (λ j. j < length store.now.groups) }
+    requires granted { IsGranted store.now }
+    requires bound { total_seconds (freed_books store.now old) ≤ MOST_SECONDS }
+    ensures stands { IfOk result (λ m. StandsFor store.now m record { key = key.now; seconds = needed }) }
+    ensures fits { IfOk result (λ m. m.seconds ≤ left_at m.account (freed_postings old store.now.postings store.now.groups) (freed_groups old store.now.groups)) }
+    ensures given { OnOk result (refusal_at (freed_books store.now old) record { key = key.now; seconds = needed } ≡ None) }
+    ensures refused { IfErr result (λ fault. refusal_at (freed_books store.now old) record { key = key.now; seconds = needed } ≡ Some fault) }
+{
+    let account = match store.find(key) {
+        Ok(place) => place,
+        Err(_) => {
+            return Err(LedgerFault::NoSuchAllocation {
+                account: key.account,
+            });
+        }
+    };
+    let available = store.available(account, old);
+    if needed > available {
+        return Err(LedgerFault::NotEnoughTime { needed, available });
+    }
+    Ok(Amount {
+        account,
+        seconds: needed,
+    })
+}
+
+/// The amounts for holds, each tested in order.
+pub fn place_holds(alloc: Global, store: &Store, old: Option<usize>, holds: &[Hold]) -> Result<ListOf<Amount>, LedgerFault>
+    requires old { IfSome old (λ j. j < length store.now.groups) }
+    requires granted { IsGranted store.now }
+    requires bound { total_seconds (freed_books store.now old) ≤ MOST_SECONDS }
+    ensures places { IfOk result (All (λ m. m.account < length store.now.keys)) }
+    ensures stand { IfOk result (λ ms. map (hold_of store.now.keys) ms ≡ holds.now) }
+    ensures fit { IfOk result (All (λ m. m.seconds ≤ left_at m.account (freed_postings old store.now.postings store.now.groups) (freed_groups old store.now.groups))) }
+    ensures given { OnOk result (first_refusal (freed_books store.now old) holds.now ≡ None) }
+    ensures refused { IfErr result (λ fault. fault ≢ NoMemory → first_refusal (freed_books store.now old) holds.now ≡ Some fault) }
+{
+    let mut amounts = Vec::with_capacity(alloc, holds.len())?;
+    for hold in holds {
+        let amount = place_need(store, old, &hold.key, hold.seconds)?;
+        amounts.push(amount)?;
+    }
+    Ok(ListOf::from_vec(amounts))
+}
+
+/// What a group is to hold, and its ipp charge where there is one.
+#[derive(Debug, Drop)]
+pub struct Placed {
+    pub holds: ListOf<Amount>,
+    pub ipp: Option<Amount>,
+}
+
+/// The amount of a proposal's ipp account, where one is asked for.
+fn place_ipp(alloc: Global, store: &Store, old: Option<usize>, proposal: &Name, ipp: u64) -> Result<Option<Amount>, LedgerFault>
+    requires old { IfSome old (λ j. j < length store.now.groups) }
+    requires granted { IsGranted store.now }
+    requires bound { total_seconds (freed_books store.now old) ≤ MOST_SECONDS }
+    ensures none { OnOk result (0 ≡ ipp → result ≡ Ok None) }
+    ensures stands { IfOk result (λ o. 0 < ipp → IsSomeAnd o (λ m. StandsFor store.now m record { key = ipp_key proposal.now; seconds = ipp })) }
+    ensures fits { IfOk result (λ o. IfSome o (λ m. m.seconds ≤ left_at m.account (freed_postings old store.now.postings store.now.groups) (freed_groups old store.now.groups))) }
+    ensures given { OnOk result (0 < ipp → refusal_at (freed_books store.now old) record { key = ipp_key proposal.now; seconds = ipp } ≡ None) }
+    ensures refused { IfErr result (λ fault. fault ≢ NoMemory → (0 < ipp) × (refusal_at (freed_books store.now old) record { key = ipp_key proposal.now; seconds = ipp } ≡ Some fault)) }
+{
+    if ipp == 0 {
+        return Ok(None);
+    }
+    let key = Key::ipp(alloc, proposal)?;
+    let amount = place_need(store, old, &key, ipp)?;
+    Ok(Some(amount))
+}
+
+/// The amounts for holds of one proposal and its ipp charge, tested against what is left once the group at `old` is
+/// freed.
+pub fn place(alloc: Global, store: &Store, old: Option<usize>, holds: &[Hold], ipp: u64) -> Result<Placed, LedgerFault>
+    requires some { 0 < length holds.now }
+    requires old { IfSome old (λ j. j < length store.now.groups) }
+    requires granted { IsGranted store.now }
+    requires bound { total_seconds (freed_books store.now old) ≤ MOST_SECONDS }
+    ensures placed { IfOk result (IsPlacedFor store.now old holds.now ipp) }
+    ensures given { OnOk result (refusal_of (freed_books store.now old) holds.now ipp ≡ None) }
+    ensures refused { IfErr result (λ fault. fault ≢ NoMemory → refusal_of (freed_books store.now old) holds.now ipp ≡ Some fault) }
+{
+    let proposal = &holds[0].key.proposal;
+    if !store.knows(proposal) {
+        return Err(LedgerFault::NoSuchProposal);
+    }
+    let holds = place_holds(alloc, store, old, holds)?;
+    let ipp = place_ipp(alloc, store, old, proposal, ipp)?;
+    Ok(Placed { holds, ipp })
+}

@@ -1,0 +1,30 @@
+-- The ranges of a snapshot's numbers, as tests.
+use Rattle.std.specs.Prelude.{◌^◌, nat_le, Bool, ◌&&◌}
+use Rattle.std.specs.List.{list_all}
+use Rattle.plan_base.specs.declared.parts.Parts.{Parts}
+use Rattle.plan_base.specs.declared.parts.RequestPart.{RequestPart}
+use Rattle.plan_base.specs.declared.span.Span.{Span}
+use Rattle.plan_base.specs.Faults.{all_requests}
+
+-- both ends are moments
+abbrev pub has_moments : Span → Bool
+has_moments w = nat_le w.from.0 (10 ^ 12) && nat_le w.to.0 (10 ^ 12)
+
+-- the seconds and the value of the request are in their ranges
+abbrev pub has_ranges : RequestPart → Bool
+has_ranges q = nat_le 1 q.seconds && nat_le q.seconds 86400 && (nat_le 1 q.value && nat_le q.value 288000000)
+
+-- the numbers of the horizon are in their ranges
+abbrev pub has_horizon : Parts → Bool
+has_horizon s = nat_le s.version 524288 && (nat_le 60 s.len && nat_le s.len 3600) && nat_le s.first.0 4223371680 && (nat_le 1 s.slices && nat_le s.slices 1440)
+
+-- all spans have moments at their ends
+abbrev pub has_all_moments : Parts → Bool
+has_all_moments s =
+    list_all (λ t. list_all has_moments t.usable) s.telescopes
+    && list_all (λ y. list_all has_moments y.spans) s.skies
+    && list_all (λ q. list_all has_moments q.windows) (all_requests s.groups)
+
+-- all numbers are in their ranges
+abbrev pub is_in_ranges : Parts → Bool
+is_in_ranges s = has_horizon s && list_all has_ranges (all_requests s.groups) && has_all_moments s

@@ -1,0 +1,92 @@
+// Whether the numbers of a snapshot's parts are in their ranges.
+
+ghost use Rattle.std.specs.Prelude.{◌≡◌, ◌↔◌, IsTrue};
+ghost use Rattle.std.specs.List.{list_all};
+ghost use Rattle.plan_base.specs.Snapshot.{IsInRanges};
+ghost use Rattle.plan_base.specs.Faults.{all_requests};
+ghost use Rattle.plan_base.specs.Ranges.{has_moments, has_ranges, has_horizon, has_all_moments, is_in_ranges};
+
+use crate::parts::{GroupPart, Parts, RequestPart, Sky, TelescopePart};
+use crate::span::Span;
+
+/// The last second that a span may name, since a horizon may end after the last moment of a document.
+const LAST_MOMENT: u64 = 1_000_000_000_000;
+
+impl Parts {
+    /// Whether all numbers are in the ranges that a document allows them, as [`crate::Snapshot::build`] wants them:
+    /// those that the fields name, and the moments of all spans 0 to 10^12.
+    pub fn is_in_ranges(&self) -> bool
+        ensures { IsTrue result ↔ IsInRanges self.now }
+    {
+        is_in_ranges(self)
+    }
+}
+
+fn is_in_ranges(parts: &Parts) -> bool
+    ensures { result ≡ is_in_ranges parts.now }
+{
+    has_horizon(parts) && has_request_ranges(parts.groups.as_slice()) && has_all_moments(parts)
+}
+
+fn has_horizon(parts: &Parts) -> bool
+    ensures { result ≡ has_horizon parts.now }
+{
+    parts.version <= 524_288
+        && (60 <= parts.len && parts.len <= 3_600)
+        && parts.first.0 <= 4_223_371_680
+        && (1 <= parts.slices && parts.slices <= 1_440)
+}
+
+fn has_request_ranges(groups: &[GroupPart]) -> bool
+    ensures { result ≡ list_all has_ranges (all_requests groups.now) }
+{
+    groups
+        .iter()
+        .flat_map(|x| x.requests.as_slice())
+        .all(|q| has_ranges(q))
+}
+
+fn has_ranges(request: &RequestPart) -> bool
+    ensures { result ≡ has_ranges request.now }
+{
+    1 <= request.seconds
+        && request.seconds <= 86_400
+        && (1 <= request.value && request.value <= 288_000_000)
+}
+
+fn has_all_moments(parts: &Parts) -> bool
+    ensures { result ≡ has_all_moments parts.now }
+{
+    has_usable_moments(parts.telescopes.as_slice())
+        && has_sky_moments(parts.skies.as_slice())
+        && has_window_moments(parts.groups.as_slice())
+}
+
+fn has_usable_moments(telescopes: &[TelescopePart]) -> bool
+    ensures { result ≡ list_all (λ t. list_all has_moments t.usable) telescopes.now }
+{
+    telescopes.iter().all(|t| has_moments(t.usable.as_slice()))
+}
+
+fn has_sky_moments(skies: &[Sky]) -> bool
+    ensures { result ≡ list_all (λ y. list_all has_moments y.spans) skies.now }
+{
+    skies.iter().all(|y| has_moments(y.spans.as_slice()))
+}
+
+fn has_window_moments(groups: &[GroupPart]) -> bool
+    ensures { result ≡ list_all (λ q. list_all has_moments q.windows) (all_requests groups.now) }
+{
+    groups
+        .iter()
+        .flat_map(|x| x.requests.as_slice())
+        .all(|q| has_moments(q.windows.as_slice()))
+}
+
+fn has_moments(spans: &[Span]) -> bool
+    ensures { result ≡ list_all has_moments spans.now }
+{
+    spans
+        .iter()
+        .all(|w| w.from.0 <= LAST_MOMENT && w.to.0 <= LAST_MOMENT)
+}

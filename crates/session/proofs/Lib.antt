@@ -1,0 +1,14 @@
+pub mod Readings
+pub mod Floats
+pub mod Histories
+pub mod Versions
+pub mod DeskParts
+pub mod Cutting
+pub mod Written
+pub mod Turns
+pub mod Played
+pub mod StartCounts
+pub mod DeskClaims
+pub mod LineTexts
+pub mod Doing
+pub mod Inputs

@@ -1,0 +1,185 @@
+-- The history of the lines that one caller has done, and one line more.
+use Rattle.std.proofs.Common.{◌≡◌, ℕ, zero, suc, ◌+◌, ◌-◌, ◌≤◌, ◌<◌, List, [], ◌∷◌, ◌++◌, length, slice_get, Bool, true, false, cond, nat_lt, refl, sym, ◌∙◌, ap, subst, arith, Option, Some, None, Result, Ok, Err, inl, inr, append_assoc, append-nil, fold}
+use Rattle.std.specs.List.{last_or}
+use Rattle.plan_base.specs.declared.claim.Claim.{Claim}
+use Rattle.plan_base.specs.declared.parts.Parts.{Parts}
+use Rattle.plan_io.specs.declared.lines.ScriptLine.{ScriptLine}
+use Rattle.session.specs.declared.command.Command.{Command}
+use Rattle.session.specs.declared.command.Command.TheVariants.{Open, Submit, Plan}
+use Rattle.session.specs.declared.command.Opening.{Opening}
+use Rattle.session.specs.declared.command.Submission.{Submission}
+use Rattle.session.specs.declared.entry.EventEntry.{EventEntry}
+use Rattle.session.specs.declared.entry.Refusal.{Refusal}
+use Rattle.session.specs.declared.entry.Reply.{Reply}
+use Rattle.session.specs.declared.entry.Reply.TheVariants.{Taken, Published}
+use Rattle.session.specs.declared.entry.What.{What}
+use Rattle.session.specs.declared.entry.What.TheVariants.{Line, Take, Publish}
+use Rattle.session.specs.Commands.{command_of}
+use Rattle.session.specs.StateSeen.{StateSeen}
+use Rattle.session.specs.Step.{start, step_open, step_submit, step_line, published, IsPlanning}
+use Rattle.session.specs.DeskSnapshot.{IsSnapshotOf}
+use Rattle.session.specs.History.{read_found, read_at, after_what, replay, Answers, AnswersPrefix, HasTaken, IsPublication, IsReply, IsEntry, EachAfter, IsLegal, IsWhole, Publishes}
+use Rattle.session.specs.Session.{IsBoundedClaim, IsBoundedHistory, IsSound, IsDeskClaim, step_entry, take_entry, publish_entry, DoesLine, BeginsLine}
+use Rattle.session.proofs.Histories.{replay_more, each_more, each_none}
+use Rattle.session.proofs.Turns.{AreMine, mine_more, entries_mine, turns, turns_more, answers_more, last_more, one_caller, one_whole}
+
+-- a claim that is published after these entries is bounded
+abbrev pub IsBoundedEntry : List (List ScriptLine) → List EventEntry → EventEntry → Type 0
+IsBoundedEntry scripts before e = (claim : Claim) → e.reply ≡ Published claim → (s : Parts) × Publishes scripts before e s claim × IsBoundedClaim s claim
+
+-- what is known of a history that leaves the state s, but for its order
+pub record Leaves (lines : List ScriptLine) (h : List EventEntry) (s : StateSeen) : Type 0 where
+  pub each : EachAfter (IsEntry (lines ∷ [])) h
+  pub mine : AreMine h
+  pub state : replay (lines ∷ []) h ≡ s
+  pub bounded : EachAfter (IsBoundedEntry (lines ∷ [])) h
+
+-- the first n lines are done
+pub record Played (lines : List ScriptLine) (n : ℕ) (h : List EventEntry) (s : StateSeen) : Type 0 where
+  pub leaves : Leaves lines h s
+  pub answered : Answers 1 (turns h) (n + 1)
+
+pub played_none : (lines : List ScriptLine) → Played lines 0 [] start
+played_none lines = record {
+  leaves = record { each = each_none (IsEntry (lines ∷ [])); mine = tt; state = refl; bounded = each_none (IsBoundedEntry (lines ∷ [])) };
+  answered = refl;
+}
+
+-- ---- one entry more
+
+pub read_here : (lines : List ScriptLine) (n : ℕ) (line : ScriptLine) → slice_get lines n ≡ Some line → read_found (slice_get lines (n + 1 - 1)) ≡ command_of line
+read_here lines n line h =
+    let back : n + 1 - 1 ≡ n = omega arith in
+    ap (λ (k : ℕ). read_found (slice_get lines k)) back ∙ ap read_found h
+
+-- an entry of the next line over the state that is left
+leaves_more : (lines : List ScriptLine) (h : List EventEntry) (s t : StateSeen) (e : EventEntry) → e.caller ≡ 0 → Leaves lines h s
+    → e.version ≡ s.version → IsReply (lines ∷ []) h e e.what → after_what s (read_at (lines ∷ []) e) e.what e.reply ≡ t → IsBoundedEntry (lines ∷ []) h e
+    → Leaves lines (h ++ e ∷ []) t
+leaves_more lines h s t e mine l v r a b =
+    let scripts : List (List ScriptLine) = lines ∷ [] in
+    record {
+      each = each_more (IsEntry scripts) h e l.each (record { version = v ∙ ap (λ (u : StateSeen). u.version) (sym l.state); reply = r });
+      mine = mine_more h (e ∷ []) l.mine (mine, tt);
+      state = replay_more scripts h e ∙ ap (λ (u : StateSeen). after_what u (read_at scripts e) e.what e.reply) l.state ∙ a;
+      bounded = each_more (IsBoundedEntry scripts) h e l.bounded b;
+    }
+
+-- no step publishes
+open_no_claim : (s : StateSeen) (o : Opening) (before : Option Opening) (claim : Claim) → (step_open s o before).reply ≡ Published claim → ⊥
+open_no_claim s o None claim e = cc
+open_no_claim s o (Some b) claim e = cc
+
+submit_no_claim : (s : StateSeen) (q : Submission) (before : Option Opening) (claim : Claim) → (step_submit s q before).reply ≡ Published claim → ⊥
+submit_no_claim s q None claim e = cc
+submit_no_claim s q (Some b) claim e = full_no_claim (nat_lt (length s.submissions) 512) refl e
+  where
+    full_no_claim : (t : Bool) → nat_lt (length s.submissions) 512 ≡ t → (step_submit s q (Some b)).reply ≡ Published claim → ⊥
+    full_no_claim true f g = let h = rw f at g in cc
+    full_no_claim false f g = let h = rw f at g in cc
+
+step_no_claim : (s : StateSeen) (read : Result Command Refusal) (claim : Claim) → (step_line s read).reply ≡ Published claim → ⊥
+step_no_claim s (Ok (Open o)) claim e = open_no_claim s o s.opening claim e
+step_no_claim s (Ok (Submit q)) claim e = submit_no_claim s q s.opening claim e
+step_no_claim s (Ok Plan) claim e = cc
+step_no_claim s (Err refusal) claim e = cc
+
+-- a step, over the replay and the line that is read
+abbrev IsStep : StateSeen → Reply → StateSeen → Result Command Refusal → Type 0
+IsStep s reply t read = ¬ (IsPlanning t read) × (reply ≡ (step_line t read).reply)
+
+leaves_step : (lines : List ScriptLine) (n : ℕ) (h : List EventEntry) (s : StateSeen) (line : ScriptLine) → Leaves lines h s → slice_get lines n ≡ Some line → ¬ (IsPlanning s (command_of line))
+    → Leaves lines (h ++ step_entry s (n + 1) (command_of line) ∷ []) (step_line s (command_of line)).state
+leaves_step lines n h s line l at differs =
+    let read = read_here lines n line at in
+    let reply : Reply = (step_line s (command_of line)).reply in
+    let here : IsStep s reply s (read_found (slice_get lines (n + 1 - 1))) = subst (λ (r : Result Command Refusal). IsStep s reply s r) (sym read) (differs, refl) in
+    leaves_more lines h s (step_line s (command_of line)).state (step_entry s (n + 1) (command_of line)) refl l refl
+    (subst (λ (t : StateSeen). IsStep s reply t (read_found (slice_get lines (n + 1 - 1)))) (sym l.state) here)
+    (ap (λ (r : Result Command Refusal). (step_line s r).state) read)
+    (λ claim e. absurd (step_no_claim s (command_of line) claim e))
+
+-- a Take
+abbrev IsTake : StateSeen → Result Command Refusal → Type 0
+IsTake t read = IsPlanning t read × (◌≡◌ {A = Reply} Taken Taken)
+
+leaves_take : (lines : List ScriptLine) (n : ℕ) (h : List EventEntry) (s : StateSeen) (line : ScriptLine) → Leaves lines h s → slice_get lines n ≡ Some line → IsPlanning s (command_of line)
+    → Leaves lines (h ++ take_entry s (n + 1) ∷ []) s
+leaves_take lines n h s line l at asks =
+    let read = read_here lines n line at in
+    let here : IsTake s (read_found (slice_get lines (n + 1 - 1))) = subst (λ (r : Result Command Refusal). IsTake s r) (sym read) (asks, refl) in
+    leaves_more lines h s s (take_entry s (n + 1)) refl l refl
+    (subst (λ (t : StateSeen). IsTake t (read_found (slice_get lines (n + 1 - 1)))) (sym l.state) here)
+    refl
+    (λ claim e. cc)
+
+-- its Publish
+taken_last : (h : List EventEntry) (s : StateSeen) (n : ℕ) → AreMine (h ++ take_entry s n ∷ []) → HasTaken (h ++ take_entry s n ∷ []) 0 s.version
+taken_last h s n mine =
+    (take_entry s n, ap (last_or None) (entries_mine (h ++ take_entry s n ∷ []) mine) ∙ last_more None h (take_entry s n), refl, refl)
+
+same_claim : (a b : Claim) → ◌≡◌ {A = Reply} (Published a) (Published b) → a ≡ b
+same_claim a b e = cc
+
+leaves_publish : (lines : List ScriptLine) (n : ℕ) (h : List EventEntry) (s : StateSeen) (claim : Claim) → Leaves lines (h ++ take_entry s n ∷ []) s → IsDeskClaim s claim
+    → Leaves lines ((h ++ take_entry s n ∷ []) ++ publish_entry s n claim ∷ []) (published s)
+leaves_publish lines n h s claim l d =
+    let before : List EventEntry = h ++ take_entry s n ∷ [] in
+    let here : IsPublication s s.version (Published claim) = (refl, (d.parts, d.snapshot, d.few, d.bounded.certified)) in
+    leaves_more lines before s (published s) (publish_entry s n claim) refl l refl
+    (s.version, taken_last h s n l.mine, subst (λ (t : StateSeen). IsPublication t s.version (Published claim)) (sym l.state) here)
+    refl
+    (λ other e. (d.parts, record { reply = e; snapshot = subst (λ (t : StateSeen). IsSnapshotOf t d.parts) (sym l.state) d.snapshot }, subst (λ (c : Claim). IsBoundedClaim d.parts c) (same_claim claim other e) d.bounded))
+
+-- ---- one line more
+
+pub played_step : (lines : List ScriptLine) (n : ℕ) (h : List EventEntry) (s : StateSeen) (line : ScriptLine) → Played lines n h s → slice_get lines n ≡ Some line → ¬ (IsPlanning s (command_of line))
+    → Played lines (n + 1) (h ++ step_entry s (n + 1) (command_of line) ∷ []) (step_line s (command_of line)).state
+played_step lines n h s line p at differs =
+    let e : EventEntry = step_entry s (n + 1) (command_of line) in
+    record {
+      leaves = leaves_step lines n h s line p.leaves at differs;
+      answered = subst (λ (ts : List (ℕ × What)). Answers 1 ts (n + 1 + 1)) (sym (turns_more h (e ∷ []))) (answers_more 1 (n + 1) (n + 1 + 1) (turns h) ((n + 1, Line) ∷ []) p.answered (refl, refl));
+    }
+
+pub played_plan : (lines : List ScriptLine) (n : ℕ) (h : List EventEntry) (s : StateSeen) (line : ScriptLine) (claim : Claim) → Played lines n h s → slice_get lines n ≡ Some line → IsPlanning s (command_of line) → IsDeskClaim s claim
+    → Played lines (n + 1) (h ++ take_entry s (n + 1) ∷ publish_entry s (n + 1) claim ∷ []) (published s)
+played_plan lines n h s line claim p at asks d =
+    let es : List EventEntry = take_entry s (n + 1) ∷ publish_entry s (n + 1) claim ∷ [] in
+    record {
+      leaves = subst (λ (xs : List EventEntry). Leaves lines xs (published s)) (append_assoc h (take_entry s (n + 1) ∷ []) (publish_entry s (n + 1) claim ∷ [])) (leaves_publish lines (n + 1) h s claim (leaves_take lines n h s line p.leaves at asks) d);
+      answered = subst (λ (ts : List (ℕ × What)). Answers 1 ts (n + 1 + 1)) (sym (turns_more h es)) (answers_more 1 (n + 1) (n + 1 + 1) (turns h) ((n + 1, Take) ∷ (n + 1, Publish) ∷ []) p.answered (refl, refl, refl));
+    }
+
+pub played_line : (lines : List ScriptLine) (n : ℕ) (h : List EventEntry) (s t : StateSeen) (line : ScriptLine) (es : List EventEntry) → Played lines n h s → slice_get lines n ≡ Some line → DoesLine s (n + 1) (command_of line) es t → Played lines (n + 1) (h ++ es) t
+played_line lines n h s t line es p at (inl d) =
+    subst (λ (u : StateSeen). Played lines (n + 1) (h ++ es) u) (sym d.2)
+    (subst (λ (xs : List EventEntry). Played lines (n + 1) (h ++ xs) (step_line s (command_of line)).state) (sym d.1) (played_step lines n h s line p at d.0))
+played_line lines n h s t line es p at (inr d) =
+    subst (λ (u : StateSeen). Played lines (n + 1) (h ++ es) u) (sym d.1.3)
+    (subst (λ (xs : List EventEntry). Played lines (n + 1) (h ++ xs) (published s)) (sym d.1.2) (played_plan lines n h s line d.1.0 p at d.0 d.1.1))
+
+-- ---- legal histories
+
+pub legal_played : (lines : List ScriptLine) (n : ℕ) (h : List EventEntry) (s : StateSeen) → Played lines n h s → n ≤ length lines → IsLegal (lines ∷ []) h
+legal_played lines n h s p few = record { order = one_caller lines h p.leaves.mine (n, inl (few, p.answered)); each = p.leaves.each }
+
+pub whole_played : (lines : List ScriptLine) (h : List EventEntry) (s : StateSeen) → Played lines (length lines) h s → IsWhole (lines ∷ []) h
+whole_played lines h s p = one_whole lines h p.leaves.mine p.answered
+
+pub legal_take : (lines : List ScriptLine) (n : ℕ) (h : List EventEntry) (s : StateSeen) → Played lines n h s → n < length lines → Leaves lines (h ++ take_entry s (n + 1) ∷ []) s → IsLegal (lines ∷ []) (h ++ take_entry s (n + 1) ∷ [])
+legal_take lines n h s p few l = record { order = one_caller lines (h ++ take_entry s (n + 1) ∷ []) l.mine (n, inr (turns h, few, turns_more h (take_entry s (n + 1) ∷ []), p.answered)); each = l.each }
+
+pub sound_played : (lines : List ScriptLine) (n : ℕ) (h : List EventEntry) (s : StateSeen) → Played lines n h s → n ≤ length lines → IsSound lines h
+sound_played lines n h s p few = record { legal = legal_played lines n h s p few; bounded = p.leaves.bounded }
+
+sound_take : (lines : List ScriptLine) (n : ℕ) (h : List EventEntry) (s : StateSeen) (line : ScriptLine) → Played lines n h s → n < length lines → slice_get lines n ≡ Some line → IsPlanning s (command_of line) → IsSound lines (h ++ take_entry s (n + 1) ∷ [])
+sound_take lines n h s line p few at asks =
+    let l = leaves_take lines n h s line p.leaves at asks in
+    record { legal = legal_take lines n h s p few l; bounded = l.bounded }
+
+-- with the entries of the next line, or the first of them
+pub sound_begun : (lines : List ScriptLine) (n : ℕ) (h : List EventEntry) (s : StateSeen) (line : ScriptLine) (es : List EventEntry) → Played lines n h s → n < length lines → slice_get lines n ≡ Some line → BeginsLine s (n + 1) (command_of line) es → IsSound lines (h ++ es)
+sound_begun lines n h s line es p few at (inl d) = subst (λ (xs : List EventEntry). IsSound lines xs) (sym (ap (λ (ys : List EventEntry). h ++ ys) d ∙ append-nil h)) (sound_played lines n h s p (omega arith))
+sound_begun lines n h s line es p few at (inr (inl d)) = subst (λ (xs : List EventEntry). IsSound lines (h ++ xs)) (sym d.1) (sound_take lines n h s line p few at d.0)
+sound_begun lines n h s line es p few at (inr (inr d)) = sound_played lines (n + 1) (h ++ es) d.0 (played_line lines n h s d.0 line es p at d.1) (omega arith)

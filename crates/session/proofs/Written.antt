@@ -1,0 +1,42 @@
+-- What was written, and more after it.
+use Rattle.std.proofs.Common.{◌≡◌, ℕ, zero, suc, ◌+◌, ◌≤◌, ◌<◌, List, [], ◌∷◌, ◌++◌, length, take, refl, sym, ◌∙◌, ap, subst, arith, append_assoc, append-nil, length-append}
+use Rattle.std.specs.declared.option.Option.{Option}
+use Rattle.std.specs.declared.option.Option.TheVariants.{Some, None}
+use Rattle.std.proofs.Math.Seq.{take-append-add}
+use Rattle.plan_io.specs.declared.sink.PutAnswer.{PutAnswer}
+use Rattle.plan_io.specs.declared.sink.PutAnswer.TheVariants as put
+use Rattle.plan_io.specs.Sink.{Adds, Puts}
+use Rattle.session.specs.Session.{WritesFront}
+
+pub adds_none : (a : Option (List ℕ)) → Adds a a []
+adds_none None = tt
+adds_none (Some xs) = sym (append-nil xs)
+
+pub adds_twice : (a b c : Option (List ℕ)) (xs ys : List ℕ) → Adds a b xs → Adds b c ys → Adds a c (xs ++ ys)
+adds_twice None None None xs ys h g = tt
+adds_twice None None (Some r) xs ys h g = absurd g
+adds_twice None (Some q) c xs ys h g = absurd h
+adds_twice (Some p) None None xs ys h g = tt
+adds_twice (Some p) None (Some r) xs ys h g = absurd g
+adds_twice (Some p) (Some q) None xs ys h g = tt
+adds_twice (Some p) (Some q) (Some r) xs ys h g = g ∙ ap (λ (zs : List ℕ). zs ++ ys) h ∙ append_assoc p xs ys
+
+take_whole : (xs : List ℕ) → take (length xs) xs ≡ xs
+take_whole [] = refl
+take_whole (x ∷ xs) = ap (λ (ys : List ℕ). x ∷ ys) (take_whole xs)
+
+-- all of a text is a front of it
+pub front_all : (a b : Option (List ℕ)) (text : List ℕ) → Adds a b text → WritesFront a b text
+front_all a b text h = (length text, omega arith, subst (λ (xs : List ℕ). Adds a b xs) (sym (take_whole text)) h)
+
+pub front_none : (a : Option (List ℕ)) (text : List ℕ) → WritesFront a a text
+front_none a text = (0, omega arith, adds_none a)
+
+-- a whole text, and then a front of another
+pub front_after : (a b c : Option (List ℕ)) (xs ys : List ℕ) → Adds a b xs → WritesFront b c ys → WritesFront a c (xs ++ ys)
+front_after a b c xs ys h w =
+    let within : w.0 ≤ length ys = w.1 in
+    (length xs + w.0, omega (arith, length-append xs ys, within), subst (λ (zs : List ℕ). Adds a c zs) (sym (take-append-add xs ys w.0)) (adds_twice a b c xs (take w.0 ys) h w.2))
+
+pub front_put : (a b : Option (List ℕ)) (text : List ℕ) → Puts a b put.WriteFault text → WritesFront a b text
+front_put a b text h = let within : h.0 < length text = h.1 in (h.0, omega arith, h.2)

@@ -1,0 +1,82 @@
+-- What a line says: which bytes have one of the forms, and which command that is.
+use Rattle.std.specs.Prelude.{◌≡◌, ℕ, ◌+◌, ◌≤◌, ◌<◌, ◌&&◌, nat_le, nat_lt, bytes_eq, List, codes, if◌then◌else◌, Option, Some, None, Result, Ok, Err, option_map, option_and_then, ok_or}
+use Rattle.std.specs.Str.{is_utf8}
+use Rattle.serde_json.specs.Data.{Data}
+use Rattle.serde_json.specs.Find.{get, as_str, as_number, as_u64}
+use Rattle.serde_json.specs.Read.{read}
+use Rattle.plan_io.specs.declared.lines.ScriptLine.{ScriptLine}
+use Rattle.plan_io.specs.declared.lines.ScriptLine.TheVariants.{Bytes, TooLong}
+use Rattle.session.specs.declared.command.Command.{Command}
+use Rattle.session.specs.declared.command.Command.TheVariants.{Open, Submit, Plan}
+use Rattle.session.specs.declared.command.Opening.{Opening}
+use Rattle.session.specs.declared.command.Submission.{Submission}
+use Rattle.session.specs.declared.entry.Refusal.{Refusal}
+use Rattle.session.specs.declared.entry.Refusal.TheVariants.{NotBuilt}
+
+-- the number, where it is one from least to most
+abbrev pub within : ℕ → ℕ → ℕ → Option ℕ
+within least most n = if nat_le least n && nat_le n most then Some n else None
+
+-- the whole number that a value is, where it is one from least to most
+abbrev pub whole_of : ℕ → ℕ → Data → Option ℕ
+whole_of least most d = option_and_then (within least most) (option_and_then as_u64 (as_number d))
+
+-- the whole number that the member holds, where it holds one from least to most
+abbrev pub whole_member : Data → List ℕ → ℕ → ℕ → Option ℕ
+whole_member d name least most = option_and_then (whole_of least most) (get name d)
+
+-- the form `open`: `now` 0 to 253402300799, `slice` 60 to 3600, `horizon` 1 to 1440
+abbrev pub open_of : Data → Option Command
+open_of d =
+    option_and_then (λ now. option_and_then (λ slice. option_map (λ horizon. Open (record { now = record { 0 = now }; slice = slice; horizon = horizon }))
+    (whole_member d (codes "horizon") 1 1440)) (whole_member d (codes "slice") 60 3600)) (whole_member d (codes "now") 0 253402300799)
+
+-- the form `submit`: `seconds` 1 to 86400, `value` 1 to 288000000, `from` 0 to 253402300799, `to` above `from` and at most 253402300799
+abbrev pub submit_of : Data → Option Command
+submit_of d =
+    option_and_then (λ seconds. option_and_then (λ value. option_and_then (λ from. option_map (λ to. Submit (record { seconds = seconds; value = value; window = record { from = record { 0 = from }; to = record { 0 = to } } }))
+    (whole_member d (codes "to") (from + 1) 253402300799)) (whole_member d (codes "from") 0 253402300799)) (whole_member d (codes "value") 1 288000000)) (whole_member d (codes "seconds") 1 86400)
+
+-- the form of that name, where the members have it
+abbrev pub form_of : List ℕ → Data → Option Command
+form_of name d = if bytes_eq name (codes "open") then open_of d else (if bytes_eq name (codes "submit") then submit_of d else (if bytes_eq name (codes "plan") then Some Plan else None))
+
+-- the command of a value: an object whose member `do` names a form that the other members have
+abbrev pub command_of_data : Data → Option Command
+command_of_data d = option_and_then (λ name. form_of name d) (option_and_then as_str (get (codes "do") d))
+
+-- the JSON value that bytes are, where they are UTF-8 and have a reading
+abbrev pub reading_of : List ℕ → Option Data
+reading_of bytes = if is_utf8 bytes then read bytes else None
+
+-- what the bytes of a line say: a command, or that the line isn't built
+unfoldable pub read_bytes : List ℕ → Result Command Refusal
+read_bytes bytes = ok_or (option_and_then command_of_data (reading_of bytes)) NotBuilt
+
+-- what a line says
+abbrev pub command_of : ScriptLine → Result Command Refusal
+command_of (Bytes bytes) = read_bytes bytes
+command_of TooLong = Err NotBuilt
+
+-- the numbers of an opening are in their ranges
+pub record IsOpening (o : Opening) : Type 0 where
+  pub now : o.now.0 ≤ 253402300799
+  pub slice_least : 60 ≤ o.slice
+  pub slice_most : o.slice ≤ 3600
+  pub horizon_least : 1 ≤ o.horizon
+  pub horizon_most : o.horizon ≤ 1440
+
+-- the numbers of a submission are in their ranges, and its window has a second
+pub record IsSubmission (q : Submission) : Type 0 where
+  pub seconds_least : 1 ≤ q.seconds
+  pub seconds_most : q.seconds ≤ 86400
+  pub value_least : 1 ≤ q.value
+  pub value_most : q.value ≤ 288000000
+  pub window : q.window.from.0 < q.window.to.0
+  pub latest : q.window.to.0 ≤ 253402300799
+
+-- the numbers of a command are in their ranges
+abbrev pub IsCommand : Command → Type 0
+IsCommand (Open o) = IsOpening o
+IsCommand (Submit q) = IsSubmission q
+IsCommand Plan = Unit {0}

@@ -1,0 +1,123 @@
+-- Histories: which are legal and which are whole for the callers' scripts, and the state that one leaves.
+use Rattle.std.specs.Prelude.{◌≡◌, ℕ, ◌+◌, ◌-◌, ◌≤◌, ◌<◌, ◌==◌, ◌⊎◌, List, [], ◌∷◌, ◌++◌, length, map, filter, fold, slice_get, slice_index_or, Option, Some, None, Result, Ok, Err}
+use Rattle.std.specs.List.{last_or}
+use Rattle.plan_base.specs.declared.parts.Parts.{Parts}
+use Rattle.plan_base.specs.declared.claim.Claim.{Claim}
+use Rattle.plan_base.specs.Starts.{IsStartCount}
+use Rattle.plan_base.specs.Verdict.{IsCertified}
+use Rattle.plan_io.specs.declared.lines.ScriptLine.{ScriptLine}
+use Rattle.session.specs.declared.command.Command.{Command}
+use Rattle.session.specs.declared.entry.EventEntry.{EventEntry}
+use Rattle.session.specs.declared.entry.Refusal.{Refusal}
+use Rattle.session.specs.declared.entry.Refusal.TheVariants.{Stale, TooManyStarts, NotBuilt}
+use Rattle.session.specs.declared.entry.Reply.{Reply}
+use Rattle.session.specs.declared.entry.Reply.TheVariants.{Taken, Published, Refused}
+use Rattle.session.specs.declared.entry.What.{What}
+use Rattle.session.specs.declared.entry.What.TheVariants.{Line, Take, Publish}
+use Rattle.session.specs.Commands.{command_of}
+use Rattle.session.specs.StateSeen.{StateSeen}
+use Rattle.session.specs.Step.{start, step_line, published, IsPlanning}
+use Rattle.session.specs.DeskSnapshot.{IsSnapshotOf}
+
+-- ---- the state that a history leaves
+
+-- the lines that a caller sends, one script a caller
+abbrev pub script_of : List (List ScriptLine) → ℕ → List ScriptLine
+script_of scripts caller = slice_index_or scripts caller []
+
+-- what a line says; one that isn't there says nothing that is built
+abbrev pub read_found : Option ScriptLine → Result Command Refusal
+read_found None = Err NotBuilt
+read_found (Some line) = command_of line
+
+-- what the line of an entry says; lines are counted from 1
+abbrev pub read_at : List (List ScriptLine) → EventEntry → Result Command Refusal
+read_at scripts e = read_found (slice_get (script_of scripts e.caller) (e.line - 1))
+
+-- a Publish changes the state where it publishes
+abbrev pub after_publish : StateSeen → Reply → StateSeen
+after_publish s (Published claim) = published s
+after_publish s _ = s
+
+-- the state after an entry of a line that says this: a Take leaves the state
+abbrev pub after_what : StateSeen → Result Command Refusal → What → Reply → StateSeen
+after_what s read Line reply = (step_line s read).state
+after_what s read Take reply = s
+after_what s read Publish reply = after_publish s reply
+
+-- the state after an entry
+abbrev pub after_entry : List (List ScriptLine) → StateSeen → EventEntry → StateSeen
+after_entry scripts s e = after_what s (read_at scripts e) e.what e.reply
+
+-- the state that a history leaves, from the empty one on
+abbrev pub replay : List (List ScriptLine) → List EventEntry → StateSeen
+replay scripts history = fold (after_entry scripts) start history
+
+-- ---- in which order the entries come
+
+-- the entries of one caller
+abbrev pub entries_of : ℕ → List EventEntry → List EventEntry
+entries_of caller history = filter (λ e. e.caller == caller) history
+
+-- the entries of one caller, each as its line and what it is of it
+abbrev pub turns_of : ℕ → List EventEntry → List (ℕ × What)
+turns_of caller history = map (λ e. (e.line, e.what)) (entries_of caller history)
+
+-- the turns are those of the lines from n up to the one before m, in order and each once: one Line, or a Take and right after it a Publish
+abbrev pub Answers : ℕ → List (ℕ × What) → ℕ → Type 0
+Answers n [] m = n ≡ m
+Answers n ((k, Line) ∷ turns) m = (k ≡ n) × Answers (n + 1) turns m
+Answers n ((k, Take) ∷ (l, Publish) ∷ turns) m = (k ≡ n) × (l ≡ n) × Answers (n + 1) turns m
+Answers n _ m = ⊥
+
+-- the turns are those of a prefix of the script; of its last line the Publish may be missing
+abbrev pub AnswersPrefix : List ScriptLine → List (ℕ × What) → Type 0
+AnswersPrefix script turns =
+    (done : ℕ) × (((done ≤ length script) × Answers 1 turns (done + 1))
+    ⊎ ((before : List (ℕ × What)) × (done < length script) × (turns ≡ before ++ (done + 1, Take) ∷ []) × Answers 1 before (done + 1)))
+
+-- each caller's entries are those of a prefix of its script
+abbrev pub IsInterleaving : List (List ScriptLine) → List EventEntry → Type 0
+IsInterleaving scripts history = (caller : ℕ) → AnswersPrefix (script_of scripts caller) (turns_of caller history)
+
+-- each script is used up, and each Take has its Publish
+abbrev pub IsWhole : List (List ScriptLine) → List EventEntry → Type 0
+IsWhole scripts history = (caller : ℕ) → Answers 1 (turns_of caller history) (length (script_of scripts caller) + 1)
+
+-- ---- what each entry replies
+
+-- the caller's last entry is a Take of version v
+abbrev pub HasTaken : List EventEntry → ℕ → ℕ → Type 0
+HasTaken before caller v = (t : EventEntry) × (last_or None (entries_of caller before) ≡ Some t) × (t.what ≡ Take) × (t.version ≡ v)
+
+-- what may be published over the state s where the Take has version v: Stale where a change was accepted since, else TooManyStarts where there are more than 1,048,576 possible starts, else a claim that is certified for the snapshot
+abbrev pub IsPublication : StateSeen → ℕ → Reply → Type 0
+IsPublication s v (Refused (Stale asked newer)) = (v < s.version) × (asked ≡ v) × (newer ≡ s.version)
+IsPublication s v (Refused (TooManyStarts count)) = (v ≡ s.version) × ((parts : Parts) × IsSnapshotOf s parts × IsStartCount parts count × (1048576 < count))
+IsPublication s v (Published claim) = (v ≡ s.version) × ((parts : Parts) × IsSnapshotOf s parts × ((n : ℕ) → IsStartCount parts n → n ≤ 1048576) × IsCertified parts claim)
+IsPublication s v _ = ⊥
+
+-- what an entry may reply that is this much of its line: a step, a Take of a plan, or the Publish of the caller's Take
+abbrev pub IsReply : List (List ScriptLine) → List EventEntry → EventEntry → What → Type 0
+IsReply scripts before e Line = ¬ (IsPlanning (replay scripts before) (read_at scripts e)) × (e.reply ≡ (step_line (replay scripts before) (read_at scripts e)).reply)
+IsReply scripts before e Take = IsPlanning (replay scripts before) (read_at scripts e) × (e.reply ≡ Taken)
+IsReply scripts before e Publish = (v : ℕ) × HasTaken before e.caller v × IsPublication (replay scripts before) v e.reply
+
+-- the entry is right over the state that the entries before it leave
+pub record IsEntry (scripts : List (List ScriptLine)) (before : List EventEntry) (e : EventEntry) : Type 0 where
+  pub version : e.version ≡ (replay scripts before).version
+  pub reply : IsReply scripts before e e.what
+
+-- R holds of each entry and the entries before it
+abbrev pub EachAfter : (List EventEntry → EventEntry → Type 0) → List EventEntry → Type 0
+EachAfter R history = (before after : List EventEntry) (e : EventEntry) → history ≡ before ++ e ∷ after → R before e
+
+-- the history is one that the desk may have had, with these scripts
+pub record IsLegal (scripts : List (List ScriptLine)) (history : List EventEntry) : Type 0 where
+  pub order : IsInterleaving scripts history
+  pub each : EachAfter (IsEntry scripts) history
+
+-- the entry e, after the entries before, publishes the claim for these parts
+pub record Publishes (scripts : List (List ScriptLine)) (before : List EventEntry) (e : EventEntry) (parts : Parts) (claim : Claim) : Type 0 where
+  pub reply : e.reply ≡ Published claim
+  pub snapshot : IsSnapshotOf (replay scripts before) parts

@@ -1,0 +1,10 @@
+pub mod Words
+pub mod Refusals
+pub mod Commands
+pub mod StateSeen
+pub mod Step
+pub mod Texts
+pub mod DeskSnapshot
+pub mod History
+pub mod Laws
+pub mod Session

@@ -1,0 +1,167 @@
+-- What a session reads and writes.
+use Rattle.std.specs.Prelude.{◌≡◌, ℕ, ◌+◌, ◌≤◌, ◌<◌, ◌⊎◌, pos, List, [], ◌∷◌, ◌++◌, length, take, Result, Ok, Err}
+use Rattle.std.specs.declared.option.Option.{Option}
+use Rattle.std.specs.declared.alloc.AllocError.{AllocError}
+use Rattle.std.specs.Io.KnownBytes.{Consumes, IsAtEnd}
+use Rattle.plan_base.specs.declared.parts.Parts.{Parts}
+use Rattle.plan_base.specs.declared.claim.Claim.{Claim}
+use Rattle.plan_base.specs.declared.claim.Placement.{Placement}
+use Rattle.plan_base.specs.Starts.{value_of_plan, IsStartCount}
+use Rattle.plan_base.specs.Feasible.{IsFeasible}
+use Rattle.plan_base.specs.Bound.{IsBound}
+use Rattle.plan_base.specs.Verdict.{IsCertified}
+use Rattle.plan_io.specs.declared.lines.ScriptLine.{ScriptLine}
+use Rattle.plan_io.specs.declared.sink.PutAnswer.{PutAnswer}
+use Rattle.plan_io.specs.declared.sink.PutAnswer.TheVariants as put
+use Rattle.plan_io.specs.LinesOf.{lines_of}
+use Rattle.plan_io.specs.Source.{Rose}
+use Rattle.plan_io.specs.Sink.{Adds, PutCause}
+use Rattle.session.specs.declared.command.Command.{Command}
+use Rattle.session.specs.declared.entry.EventEntry.{EventEntry}
+use Rattle.session.specs.declared.entry.Refusal.{Refusal}
+use Rattle.session.specs.declared.entry.Reply.TheVariants.{Taken, Published}
+use Rattle.session.specs.declared.entry.What.TheVariants.{Line, Take, Publish}
+use Rattle.session.specs.declared.status.Status.{Status}
+use Rattle.session.specs.declared.status.Status.TheVariants.{Done, Words, ReadFault, WriteFault, NoMemory, InputOver, NoDocument, No, NoCaller}
+use Rattle.session.specs.StateSeen.{StateSeen}
+use Rattle.session.specs.Step.{step_line, published, IsPlanning}
+use Rattle.session.specs.DeskSnapshot.{IsSnapshotOf}
+use Rattle.session.specs.History.{IsLegal, IsWhole, Publishes}
+use Rattle.session.specs.Texts.{text_of_entry, text_of_history}
+use Rattle.stopgap.specs.Stopgap.{IsStopgap}
+
+-- ---- what is claimed of a published claim
+
+-- the claim is certified for the snapshot, its prices give its bound, no feasible plan is worth more, and until planning is built it is the stopgap claim
+pub record IsBoundedClaim (s : Parts) (claim : Claim) : Type 0 where
+  pub certified : IsCertified s claim
+  pub given : IsBound s claim.prices.0 claim.quota_prices.0 (pos claim.bound)
+  pub greatest : (plan : List Placement) → IsFeasible s plan → value_of_plan s plan ≤ claim.bound
+  pub stopgap : IsStopgap s claim
+
+-- each claim that the history publishes is bounded, for the snapshot of its version
+abbrev pub IsBoundedHistory : List (List ScriptLine) → List EventEntry → Type 0
+IsBoundedHistory scripts history = (before after : List EventEntry) (e : EventEntry) → history ≡ before ++ e ∷ after → (claim : Claim) → e.reply ≡ Published claim → (s : Parts) × Publishes scripts before e s claim × IsBoundedClaim s claim
+
+-- ---- a session
+
+-- the one script of a session: the lines of what was read
+abbrev pub scripts_of : List ℕ → List (List ScriptLine)
+scripts_of input = lines_of input ∷ []
+
+-- a legal history of these lines, whose claims are bounded
+pub record IsSound (lines : List ScriptLine) (history : List EventEntry) : Type 0 where
+  pub legal : IsLegal (lines ∷ []) history
+  pub bounded : IsBoundedHistory (lines ∷ []) history
+
+-- all of the source was read, and it is within the limits
+pub record IsInput (left left' : Option (List ℕ)) (input : List ℕ) : Type 0 where
+  pub taken : Consumes left left' input
+  pub ended : IsAtEnd left'
+  pub within : length input ≤ 67108864
+  pub few : length (lines_of input) ≤ 65536
+
+-- the text of a sound history of all lines that were read was written
+pub record IsSession (left left' held held' : Option (List ℕ)) : Type 0 where
+  pub input : List ℕ
+  pub history : List EventEntry
+  pub read : IsInput left left' input
+  pub sound : IsSound (lines_of input) history
+  pub whole : IsWhole (scripts_of input) history
+  pub written : Adds held held' (text_of_history history)
+
+-- a front of the text was written
+abbrev pub WritesFront : Option (List ℕ) → Option (List ℕ) → List ℕ → Type 0
+WritesFront old new text = (n : ℕ) × (n ≤ length text) × Adds old new (take n text)
+
+-- a front of the text of a sound history of the lines that were read was written
+pub record IsCutOff (left left' held held' : Option (List ℕ)) : Type 0 where
+  pub input : List ℕ
+  pub history : List EventEntry
+  pub read : IsInput left left' input
+  pub sound : IsSound (lines_of input) history
+  pub front : WritesFront held held' (text_of_history history)
+
+-- more bytes were taken than a session takes, or the bytes have more lines
+abbrev pub IsOver : Option (List ℕ) → Option (List ℕ) → Type 0
+IsOver left left' = (taken : List ℕ) × Consumes left left' taken × ((67108864 < length taken) ⊎ (65536 < length (lines_of taken)))
+
+-- what was read and written at each status
+abbrev pub SessionIs : Option (List ℕ) → Option (List ℕ) → Option (List ℕ) → Option (List ℕ) → Status → Type 0
+SessionIs left left' held held' Done = IsSession left left' held held'
+SessionIs left left' held held' WriteFault = IsCutOff left left' held held'
+SessionIs left left' held held' NoMemory = Adds held held' [] ⊎ IsCutOff left left' held held'
+SessionIs left left' held held' InputOver = IsOver left left'
+SessionIs left left' held held' Words = Unit {0}
+SessionIs left left' held held' ReadFault = Unit {0}
+SessionIs left left' held held' NoDocument = ⊥
+SessionIs left left' held held' No = ⊥
+SessionIs left left' held held' NoCaller = ⊥
+
+-- a count of faults rose, where the status says so
+abbrev pub SessionCause : ℕ → ℕ → ℕ → ℕ → Status → Type 0
+SessionCause reads reads' writes writes' ReadFault = Rose reads reads'
+SessionCause reads reads' writes writes' WriteFault = Rose writes writes'
+SessionCause reads reads' writes writes' _ = Unit {0}
+
+-- ---- the lines of a session
+
+-- what is written of these lines at each status
+abbrev pub TextIs : List ScriptLine → Option (List ℕ) → Option (List ℕ) → Status → Type 0
+TextIs lines old new Done = (length lines ≤ 65536) × ((history : List EventEntry) × IsSound lines history × IsWhole (lines ∷ []) history × Adds old new (text_of_history history))
+TextIs lines old new WriteFault = (length lines ≤ 65536) × ((history : List EventEntry) × IsSound lines history × WritesFront old new (text_of_history history))
+TextIs lines old new NoMemory = (length lines ≤ 65536) × ((history : List EventEntry) × IsSound lines history × WritesFront old new (text_of_history history))
+TextIs lines old new InputOver = 65536 < length lines
+TextIs lines old new _ = ⊥
+
+-- the count of faults rose, where the status says so
+abbrev pub TextCause : ℕ → ℕ → Status → Type 0
+TextCause writes writes' WriteFault = Rose writes writes'
+TextCause writes writes' _ = Unit {0}
+
+-- ---- one line
+
+-- the claim that is published over this state
+pub record IsDeskClaim (s : StateSeen) (claim : Claim) : Type 0 where
+  pub parts : Parts
+  pub snapshot : IsSnapshotOf s parts
+  pub few : (n : ℕ) → IsStartCount parts n → n ≤ 1048576
+  pub bounded : IsBoundedClaim parts claim
+
+-- the one entry of a line that is a step
+abbrev pub step_entry : StateSeen → ℕ → Result Command Refusal → EventEntry
+step_entry s n read = record { caller = 0; line = n; what = Line; version = s.version; reply = (step_line s read).reply }
+
+-- the two entries of a plan
+abbrev pub take_entry : StateSeen → ℕ → EventEntry
+take_entry s n = record { caller = 0; line = n; what = Take; version = s.version; reply = Taken }
+
+abbrev pub publish_entry : StateSeen → ℕ → Claim → EventEntry
+publish_entry s n claim = record { caller = 0; line = n; what = Publish; version = s.version; reply = Published claim }
+
+-- the entries of line n, which says this, and the state that they leave
+abbrev pub DoesLine : StateSeen → ℕ → Result Command Refusal → List EventEntry → StateSeen → Type 0
+DoesLine s n read es t =
+    (¬ (IsPlanning s read) × (es ≡ step_entry s n read ∷ []) × (t ≡ (step_line s read).state))
+    ⊎ (IsPlanning s read × ((claim : Claim) × IsDeskClaim s claim × (es ≡ take_entry s n ∷ publish_entry s n claim ∷ []) × (t ≡ published s)))
+
+-- the first of them, or all
+abbrev pub BeginsLine : StateSeen → ℕ → Result Command Refusal → List EventEntry → Type 0
+BeginsLine s n read es = (es ≡ []) ⊎ ((IsPlanning s read × (es ≡ take_entry s n ∷ [])) ⊎ ((t : StateSeen) × DoesLine s n read es t))
+
+-- what is written of a line: all of its entries, or a front of them
+abbrev pub LineIs : StateSeen → StateSeen → ℕ → Result Command Refusal → Option (List ℕ) → Option (List ℕ) → Result PutAnswer AllocError → Type 0
+LineIs s t n read old new (Ok put.Done) = (es : List EventEntry) × DoesLine s n read es t × Adds old new (text_of_history es)
+LineIs s t n read old new (Ok put.WriteFault) = (es : List EventEntry) × BeginsLine s n read es × WritesFront old new (text_of_history es)
+LineIs s t n read old new (Err error) = (es : List EventEntry) × BeginsLine s n read es × WritesFront old new (text_of_history es)
+
+-- the count of faults never falls, and a write failed only where it rose
+abbrev pub LineCause : ℕ → ℕ → Result PutAnswer AllocError → Type 0
+LineCause before now (Ok answer) = PutCause before now answer
+LineCause before now (Err error) = before ≤ now
+
+-- what is written of a Publish over the state s, and the state that it leaves
+abbrev pub PublishIs : StateSeen → StateSeen → ℕ → Option (List ℕ) → Option (List ℕ) → Result PutAnswer AllocError → Type 0
+PublishIs s t n old new (Ok put.Done) = (claim : Claim) × IsDeskClaim s claim × (t ≡ published s) × Adds old new (text_of_entry (publish_entry s n claim))
+PublishIs s t n old new (Ok put.WriteFault) = (claim : Claim) × IsDeskClaim s claim × WritesFront old new (text_of_entry (publish_entry s n claim))
+PublishIs s t n old new (Err error) = Adds old new []

@@ -1,0 +1,25 @@
+//! A session of the desk: lines are read, done in order, and each answered by the text of its entries.
+#![tactic(auto)]
+
+mod command;
+mod cut;
+mod entry;
+mod laws;
+mod plan;
+mod run;
+mod snapshot;
+mod state;
+mod status;
+mod text;
+mod words;
+
+pub use command::{Command, Opening, Submission, read_command};
+pub use entry::{EventEntry, Refusal, Reply, What};
+pub use laws::versions_count;
+pub use run::run_session;
+pub use state::State;
+pub use status::Status;
+pub use text::write_entry;
+
+#[cfg(test)]
+mod tests;

@@ -1,0 +1,15 @@
+pub mod Counting
+pub mod FreeRuns
+pub mod Rooms
+pub mod Simple
+pub mod Possible
+pub mod Free
+pub mod Ranges
+pub mod Visits
+pub mod Tries
+pub mod Passes
+pub mod Orders
+pub mod Pairs
+pub mod Bounds
+pub mod Listings
+pub mod DeskRanges

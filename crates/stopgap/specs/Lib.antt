@@ -1,0 +1,4 @@
+pub mod Stopgap
+pub mod Timeline
+pub mod Order
+pub mod Desks
