@@ -1,0 +1,10 @@
+pub mod Chosen
+pub mod Footed
+pub mod Growing
+pub mod Keeping
+pub mod Opens
+pub mod Rebated
+pub mod Rooms
+pub mod Runs
+pub mod Shares
+pub mod Told

@@ -1,0 +1,37 @@
+-- From the prices of a group's requests to its rebate, and to what it takes.
+use Rattle.std.proofs.Common.{◌≡◌, ◌≢◌, ℕ, zero, suc, ◌<◌, ◌≤◌, ◌⊎◌, inl, inr, Bool, true, false, cond, ℤ, pos, ◌+ℤ◌, ◌≤ℤ◌, int_lt, List, [], ◌∷◌, length, map, slice_index_or, All, Contains, refl, sym, ◌∙◌, ap, subst, arith}
+use Rattle.std.proofs.lemmas.List.Elements.{All-nil, All-cons, All-head, All-tail}
+use Rattle.plan_base.specs.declared.parts.Parts.{Parts}
+use Rattle.plan_base.specs.declared.parts.Op.TheVariants.{Single, Many, OneOf, And}
+use Rattle.plan_base.specs.Sums.{total}
+use Rattle.plan_base.specs.Requests.{IsKind, members}
+use Rattle.plan_base.specs.Snapshot.{IsOrderly}
+use Rattle.plan_base.specs.Bound.{price, IsRebate}
+use Rattle.plan_base.proofs.Totals.{total_map}
+use Rattle.plan_base.proofs.Members.{are_members, contains_from_map}
+use Rattle.plan_base.proofs.Rebates.{IsGreatestOrZero, rebate_of_any, rebate_of_one, rebate_of_and}
+use Rattle.groups.specs.Prices.{group_prices, positive, positive_sum, price_sum, IsGreatestPrice}
+
+pub rebate_any : (s : Parts) (prices : List ℤ) (g : ℕ) → IsOrderly s → IsKind s Single g ⊎ IsKind s Many g → IsRebate s (price s prices) g (positive_sum (group_prices s prices g))
+rebate_any s prices g o kind =
+    subst (λ (b : ℤ). IsRebate s (price s prices) g b) (total_map positive (price s prices) (members s g)) (rebate_of_any s (price s prices) g (members s g) (are_members s g o) kind)
+
+pub rebate_and : (s : Parts) (prices : List ℤ) (g : ℕ) → IsOrderly s → IsKind s And g → IsRebate s (price s prices) g (positive (price_sum (group_prices s prices g)))
+rebate_and s prices g o kind =
+    subst (λ (b : ℤ). IsRebate s (price s prices) g (positive b)) (total_map (λ c. c) (price s prices) (members s g)) (rebate_of_and s (price s prices) g (members s g) (are_members s g o) kind)
+
+pub all_from_map : {X Y : Type 0} (P : Y → Type 0) (f : X → Y) (xs : List X) → All P (map f xs) → All (λ x. P (f x)) xs
+all_from_map P f [] a = All-nil (λ x. P (f x))
+all_from_map P f (x ∷ xs) a = All-cons (λ y. P (f y)) x xs (All-head P (f x) (map f xs) a) (all_from_map P f xs (All-tail P (f x) (map f xs) a))
+
+pub rebate_one : (s : Parts) (prices : List ℤ) (g : ℕ) (b : ℤ) → IsOrderly s → IsKind s OneOf g → IsGreatestPrice (group_prices s prices g) b → IsRebate s (price s prices) g b
+rebate_one s prices g b o kind greatest =
+    rebate_of_one s (price s prices) g (members s g) b (are_members s g o) kind
+    (record {
+      least = greatest.least;
+      above = all_from_map (λ c. c ≤ℤ b) (price s prices) (members s g) greatest.above;
+      reached = elim greatest.reached [
+        | inl none ↦ inl none
+        | inr has ↦ let found = contains_from_map (price s prices) (members s g) b has in inr (found.0, found.1, sym found.2)
+      ];
+    })

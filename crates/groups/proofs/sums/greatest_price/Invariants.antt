@@ -1,0 +1,5 @@
+use Rattle.groups.proofs.Growing.{IsGreatestSoFar}
+use Rattle.groups.proofs.sums.greatest_price.Given as goal
+
+abbrev pub invariant-loop-price : goal.invariant-loop-price
+invariant-loop-price l = IsGreatestSoFar l.prices l.price-index l.greatest.value

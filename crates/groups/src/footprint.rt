@@ -1,0 +1,78 @@
+// What a placement takes up of what the placements of a plan share.
+
+ghost use Rattle.std.specs.Prelude.{◌≡◌, ◌<◌, ◌≤◌};
+ghost use Rattle.plan_base.specs.Requests.{IsKnown, place_of};
+ghost use Rattle.plan_base.specs.Starts.{IsPossibleStart, slices_for};
+ghost use Rattle.groups.specs.Footprints.{IsFootprint, first_slot};
+
+use plan_base::{Op, Parts, Placement, RequestNo, Snapshot};
+
+/// What a placement takes up: its request, a place in its group, seconds of its group's quota, and slots. Slot
+/// `t * slices + i` is slice `i` of the horizon on telescope `t`.
+#[derive(Clone, Copy, Debug)]
+pub(crate) struct Footprint {
+    /// The place of the request among all.
+    pub place: usize,
+    /// The place of its group.
+    pub group: usize,
+    /// The kind of its group.
+    pub op: Op,
+    /// The quota that its group counts towards.
+    pub quota: Option<u16>,
+    pub seconds: u64,
+    pub from: usize,
+    /// The slot after the last.
+    pub to: usize,
+}
+
+pub(crate) fn footprint_of(snapshot: &Snapshot, placement: Placement) -> Footprint
+    requires { IsPossibleStart snapshot.now placement }
+    ensures { IsFootprint snapshot.now placement result }
+{
+    let parts = snapshot.parts();
+    let place = known_place(snapshot, placement.request);
+    let group = snapshot.group_at(place);
+    let part = &parts.groups.as_slice()[group];
+    let seconds = snapshot.request_at(place).seconds;
+    let from = first_slot(parts, placement);
+    Footprint {
+        place,
+        group,
+        op: part.op,
+        quota: part.quota,
+        seconds: u64::from(seconds),
+        from,
+        to: from + slices_for(parts.len, seconds) as usize,
+    }
+}
+
+/// The place of a request that the snapshot has.
+pub(crate) fn known_place(snapshot: &Snapshot, request: RequestNo) -> usize
+    requires { IsKnown snapshot.now request.0 }
+    ensures { result ≡ place_of snapshot.now request.0 }
+{
+    match snapshot.place_of(request) {
+        Some(place) => place,
+        None => unreachable!(),
+    }
+}
+
+fn first_slot(parts: &Parts, placement: Placement) -> usize
+    requires telescope { placement.telescope.0 < 32 }
+    requires slices { parts.now.slices ≤ 1440 }
+    requires begins { parts.now.first.0 ≤ placement.slice.0 }
+    ensures { result ≡ first_slot parts.now placement }
+{
+    let slice = placement.slice.0 - parts.first.0;
+    usize::from(placement.telescope.0) * parts.slices as usize + slice as usize
+}
+
+/// How many slices of this length so many seconds take, the last one perhaps in part.
+fn slices_for(len: u32, seconds: u32) -> u32
+    requires least { 60 ≤ len }
+    requires most { len ≤ 3600 }
+    requires seconds { seconds ≤ 86400 }
+    ensures { result ≡ slices_for len seconds }
+{
+    (seconds + len - 1) / len
+}

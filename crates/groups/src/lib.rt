@@ -1,0 +1,13 @@
+// Plans that are built placement by placement, and what a group gives and takes at prices.
+#![tactic(auto)]
+
+mod footprint;
+mod nets;
+mod plan;
+mod rebates;
+mod sums;
+mod tables;
+
+pub use nets::net;
+pub use plan::PlanBuild;
+pub use rebates::{choice, rebate};
