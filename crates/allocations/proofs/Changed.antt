@@ -67,8 +67,8 @@ pub refunded_seen : (keys : List Key) (ps : List Posting) (gs : List GroupState)
     → refunded n (books_of keys ps gs) ≡ books_of keys (ps ++ map (refund_posting n) (option_to_list (group_at gs j).ipp)) (set gs j (record (group_at gs j) { ipp = None }))
 refunded_seen keys ps gs n j r at =
     let entries : map (entry_of keys) ps ++ map (refund_entry n) (option_to_list (ipp_of n (map (group_of keys) gs))) ≡ map (entry_of keys) (ps ++ map (refund_posting n) (option_to_list (group_at gs j).ipp)) =
-      ap (λ (o : Option Hold). map (entry_of keys) ps ++ map (refund_entry n) (option_to_list o)) (ipp_at keys gs n j r at)
-      ∙ sym (map-append (entry_of keys) ps (map (refund_posting n) (option_to_list (group_at gs j).ipp)) ∙ ap (λ (l : List Entry). map (entry_of keys) ps ++ l) (refunds_seen keys n (group_at gs j).ipp)) in
+    ap (λ (o : Option Hold). map (entry_of keys) ps ++ map (refund_entry n) (option_to_list o)) (ipp_at keys gs n j r at)
+    ∙ sym (map-append (entry_of keys) ps (map (refund_posting n) (option_to_list (group_at gs j).ipp)) ∙ ap (λ (l : List Entry). map (entry_of keys) ps ++ l) (refunds_seen keys n (group_at gs j).ipp)) in
     let holds = change_seen keys gs n j without_ipp (record (group_at gs j) { ipp = None }) r at refl in
     ap (λ (l : List Entry). record { entries = l; holds = change_group n without_ipp (map (group_of keys) gs) }) entries
     ∙ ap (λ (l : List GroupHolds). record { entries = map (entry_of keys) (ps ++ map (refund_posting n) (option_to_list (group_at gs j).ipp)); holds = l }) holds

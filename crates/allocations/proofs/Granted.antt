@@ -95,10 +95,10 @@ pub granted_more : (s : StoreSeen) (es : List Entry) (key : Key) (n : ℕ) → (
 granted_more s es key n e all i d l =
     let k : Key = get_or s.keys i d in
     let goes : has_grant (es ++ grant_entry key n ∷ []) k ≡ true =
-      ⊎_elim
-      (λ (h : has_grant es k ≡ true). has_grant-append es (grant_entry key n ∷ []) k h)
-      (λ (same : k ≡ key). subst (λ (x : Key). has_grant (es ++ grant_entry key n ∷ []) x ≡ true) (sym same) (has_grant-last es key n))
-      (all i d l) in
+    ⊎_elim
+    (λ (h : has_grant es k ≡ true). has_grant-append es (grant_entry key n ∷ []) k h)
+    (λ (same : k ≡ key). subst (λ (x : Key). has_grant (es ++ grant_entry key n ∷ []) x ≡ true) (sym same) (has_grant-last es key n))
+    (all i d l) in
     subst (λ (x : List Entry). has_grant x k ≡ true) (sym e) goes
 
 -- an account that is known has a grant
@@ -111,14 +111,14 @@ known_key keys ps k located h =
     let any = Any-from_list_any (λ (e : Entry). is_kind Grant e.kind && is_key e.key k) (map (entry_of keys) ps) h in
     let within : any.0 < length ps = rw length-map at any.2 in
     elim (slice_get_cases ps any.0).1 [
-      inl w ↦
-        (let p : Posting = w.0 in
-        let e : any.1 ≡ entry_of keys p = sym any.3 ∙ get_or_map (entry_of keys) ps any.0 p any.1 within ∙ ap (entry_of keys) w.3 in
-        let pass : (is_kind Grant p.kind && is_key (key_at keys p.account) k) ≡ true = subst (λ (x : Entry). (is_kind Grant x.kind && is_key x.key k) ≡ true) e any.4 in
-        let same : key_at keys p.account ≡ k = is_key-true (key_at keys p.account) k (second (is_kind Grant p.kind) (is_key (key_at keys p.account) k) pass) in
-        let l : p.account < length keys = subst (λ (x : Posting). x.account < length keys) w.3 (located any.0 p within) in
-        (p.account, l, get_or_default keys p.account k no_key l ∙ same))
-    | inr w ↦ absurd (omega (arith, within, w.0))
+      | inl w ↦
+          (let p : Posting = w.0 in
+          let e : any.1 ≡ entry_of keys p = sym any.3 ∙ get_or_map (entry_of keys) ps any.0 p any.1 within ∙ ap (entry_of keys) w.3 in
+          let pass : (is_kind Grant p.kind && is_key (key_at keys p.account) k) ≡ true = subst (λ (x : Entry). (is_kind Grant x.kind && is_key x.key k) ≡ true) e any.4 in
+          let same : key_at keys p.account ≡ k = is_key-true (key_at keys p.account) k (second (is_kind Grant p.kind) (is_key (key_at keys p.account) k) pass) in
+          let l : p.account < length keys = subst (λ (x : Posting). x.account < length keys) w.3 (located any.0 p within) in
+          (p.account, l, get_or_default keys p.account k no_key l ∙ same))
+      | inr w ↦ absurd (omega (arith, within, w.0))
     ]
   where
     second : (a b : Bool) → (a && b) ≡ true → b ≡ true
@@ -128,6 +128,6 @@ known_key keys ps k located h =
 -- the listed accounts are those with a grant
 pub listed_granted : (s : StoreSeen) → IsSound s → IsGranted s → All (Contains s.keys) s.listed → All (Contains s.listed) s.keys → (k : Key) → Contains s.listed k ↔ (has_grant (store_books s).entries k ≡ true)
 listed_granted s g granted listed all k = (
-    (λ (c : Contains s.listed k). let here = All-contains (Contains s.keys) s.listed k listed c in subst (λ (x : Key). has_grant (store_books s).entries x ≡ true) here.2 (granted here.0 k here.1)),
-    (λ (h : has_grant (store_books s).entries k ≡ true). All-contains (Contains s.listed) s.keys k all (known_key s.keys s.postings k g.located h))
-  )
+  (λ (c : Contains s.listed k). let here = All-contains (Contains s.keys) s.listed k listed c in subst (λ (x : Key). has_grant (store_books s).entries x ≡ true) here.2 (granted here.0 k here.1)),
+  (λ (h : has_grant (store_books s).entries k ≡ true). All-contains (Contains s.listed) s.keys k all (known_key s.keys s.postings k g.located h)),
+)

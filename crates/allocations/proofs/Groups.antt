@@ -37,17 +37,17 @@ tied_set keys sums new ps gs j g t l placed lengths balance held covered = recor
   placed = All-set (IsPlaced (length keys)) gs j g placed t.placed;
   balance = λ i li. rw (balance i li) (t.balance i li);
   held = λ i li.
-    let a = held i li in
-    let b = t.held i li in
-    let s = sum_by-set (λ (x : GroupState). amount_at i x.holds) gs j g no_group l in
-    omega (arith, a, b, s);
-  covered = covered
+      let a = held i li in
+      let b = t.held i li in
+      let s = sum_by-set (λ (x : GroupState). amount_at i x.holds) gs j g no_group l in
+      omega (arith, a, b, s);
+  covered = covered;
 }
 
 pub grouped_set : (keys : List Key) (gs : List GroupState) (j : ℕ) (g : GroupState) → IsGrouped keys gs → g.group ≡ (group_at gs j).group → Rises key_cmp (amount_keys keys g.holds) → IsGrouped keys (set gs j g)
 grouped_set keys gs j g h same rises = record {
   rising = rw (map-set_same (λ (x : GroupState). x.group.0) gs j g no_group (ap (λ (n : GroupNo). n.0) same)) h.rising;
-  ordered = All-set (λ (x : GroupState). Rises key_cmp (map (λ m. key_at keys m.account) x.holds)) gs j g rises h.ordered
+  ordered = All-set (λ (x : GroupState). Rises key_cmp (map (λ m. key_at keys m.account) x.holds)) gs j g rises h.ordered;
 }
 
 All-insert : {X : Type 0} (P : X → Type 0) (xs : List X) (i : ℕ) (x : X) → P x → All P xs → All P (insert xs i x)
@@ -61,13 +61,13 @@ tied_open keys sums ps gs j n t = record {
   placed = All-insert (IsPlaced (length keys)) gs j (empty_group n) (λ i d l. absurd (omega arith), tt) t.placed;
   balance = t.balance;
   held = λ i li. let b = t.held i li in let s = sum_by-insert (λ (x : GroupState). amount_at i x.holds) gs j (empty_group n) in omega (arith, b, s);
-  covered = t.covered
+  covered = t.covered;
 }
 
 pub grouped_open : (keys : List Key) (gs : List GroupState) (j : ℕ) (n : GroupNo) → IsGrouped keys gs → IsGap nat_cmp (numbers_of gs) n.0 j → IsGrouped keys (insert gs j (empty_group n))
 grouped_open keys gs j n h g = record {
   rising = rw (map-insert (λ (x : GroupState). x.group.0) gs j (empty_group n)) (Rises-insert nat_cmp nat_cmp_total (numbers_of gs) n.0 j h.rising g);
-  ordered = All-insert (λ (x : GroupState). Rises key_cmp (map (λ m. key_at keys m.account) x.holds)) gs j (empty_group n) (λ a b d l m. absurd (omega arith)) h.ordered
+  ordered = All-insert (λ (x : GroupState). Rises key_cmp (map (λ m. key_at keys m.account) x.holds)) gs j (empty_group n) (λ a b d l m. absurd (omega arith)) h.ordered;
 }
 
 -- a write to all of a list
@@ -75,7 +75,7 @@ pub put_all : {X : Type 0} (n : ℕ) (new old : List X) → n ≡ length old →
 put_all n new old e f = ap (λ (m : ℕ). take m (new ++ drop (length new) old)) (e ∙ sym f) ∙ take-append_seam new (drop (length new) old)
 
 pub set_set : {X : Type 0} (xs : List X) (i : ℕ) (x y : X) → set (set xs i x) i y ≡ set xs i y
-set_set {X} []  i x y = refl
+set_set {X} [] i x y = refl
 set_set {X} (z ∷ zs) zero x y = refl
 set_set {X} (z ∷ zs) (suc i) x y = ap (λ (l : List X). z ∷ l) (set_set zs i x y)
 
@@ -94,5 +94,5 @@ sound_of s sums t g = record {
   located = t.located;
   placed = t.placed;
   grouped = g;
-  covered = λ i l. let h = t.held i l in let b = t.balance i l in let c = t.covered i l in omega (arith, h, b, c)
+  covered = λ i l. let h = t.held i l in let b = t.balance i l in let c = t.covered i l in omega (arith, h, b, c);
 }

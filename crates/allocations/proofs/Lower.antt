@@ -82,7 +82,7 @@ module _ (keys : List Key) (all : List Amount) (holds : List Hold) (now : List A
         within = s.within;
         same = s.same;
         rest = rest_more;
-        done = rw add-one (ap (λ (x : List Amount). take kept now ++ x) (sym skip ∙ ap (λ (x : List Amount). lowered_to keys x (drop kept holds)) (sym cons)) ∙ s.done)
+        done = rw add-one (ap (λ (x : List Amount). take kept now ++ x) (sym skip ∙ ap (λ (x : List Amount). lowered_to keys x (drop kept holds)) (sym cons)) ∙ s.done);
       }
 
   -- the amount is kept, with the seconds of the hold
@@ -99,10 +99,10 @@ module _ (keys : List Key) (all : List Amount) (holds : List Hold) (now : List A
         same = length-set now kept m ∙ s.same;
         rest = drop-set-lt (index + 1) now kept m (omega (arith, b)) ∙ rest_more;
         done =
-          rw (take_more_set now kept m room, drop-set-lt (index + 1) now kept m (omega (arith, b)), append_assoc, add-one, add-one)
-          (ap (λ (x : List Amount). take kept now ++ x)
-          (ap (λ (x : List Hold). m ∷ lowered_to keys (drop (suc index) now) x) (sym (drop_one holds kept)) ∙ sym take'.0 ∙ ap (λ (x : List Amount). lowered_to keys x (drop kept holds)) (sym cons))
-          ∙ s.done)
+            rw (take_more_set now kept m room, drop-set-lt (index + 1) now kept m (omega (arith, b)), append_assoc, add-one, add-one)
+            (ap (λ (x : List Amount). take kept now ++ x)
+            (ap (λ (x : List Hold). m ∷ lowered_to keys (drop (suc index) now) x) (sym (drop_one holds kept)) ∙ sym take'.0 ∙ ap (λ (x : List Amount). lowered_to keys x (drop kept holds)) (sym cons))
+            ∙ s.done);
       }
 
 pub lowered_places : (keys : List Key) (n : ℕ) (ms : List Amount) (hs : List Hold) → All (λ m. m.account < n) ms → All (λ m. m.account < n) (lowered_to keys ms hs)
@@ -143,12 +143,12 @@ none_first keys m ms h hs rm rh most ne =
     let at : get_or (amount_keys keys ms) here.0 (key_at keys x.account) ≡ key_at keys (get_or ms here.0 x).account = get_or-map (λ (y : Amount). key_at keys y.account) ms here.0 x in
     let below : key_cmp (key_at keys m.account) h.key ≡ Less = rw (at, here.3, here.4.0) at less in
     All-cons (λ (y : Hold). key_at keys m.account ≢ y.key) h hs ne (λ k d l same.
-      let up : key_cmp h.key (get_or (map (λ (y : Hold). y.key) hs) k d.key) ≡ Less = rh 0 (suc k) d.key (omega arith) (rw length-map (omega (arith, l))) in
-      let there : get_or (map (λ (y : Hold). y.key) hs) k d.key ≡ (get_or hs k d).key = get_or-map (λ (y : Hold). y.key) hs k d in
-      let up' : key_cmp h.key (key_at keys m.account) ≡ Less = rw (there, ← same) at up in
-      let around : key_cmp h.key h.key ≡ Less = key_cmp_total.trans h.key (key_at keys m.account) h.key up' below in
-      let tie : key_cmp h.key h.key ≡ Equal = tied_itself key_cmp_total h.key in
-      cc)
+    let up : key_cmp h.key (get_or (map (λ (y : Hold). y.key) hs) k d.key) ≡ Less = rh 0 (suc k) d.key (omega arith) (rw length-map (omega (arith, l))) in
+    let there : get_or (map (λ (y : Hold). y.key) hs) k d.key ≡ (get_or hs k d).key = get_or-map (λ (y : Hold). y.key) hs k d in
+    let up' : key_cmp h.key (key_at keys m.account) ≡ Less = rw (there, ← same) at up in
+    let around : key_cmp h.key h.key ≡ Less = key_cmp_total.trans h.key (key_at keys m.account) h.key up' below in
+    let tie : key_cmp h.key h.key ≡ Equal = tied_itself key_cmp_total h.key in
+    cc)
 
 tail_rises : (k : Key) (ks : List Key) → Rises key_cmp (k ∷ ks) → Rises key_cmp ks
 tail_rises k ks r i j d l m = r (suc i) (suc j) d (omega arith) (omega (arith, m))
@@ -179,7 +179,7 @@ lowered_is keys (m ∷ ms) [] rm rh most = record { stand = refl; less = λ i. o
 lowered_is keys (m ∷ ms) (h ∷ hs) rm rh most =
     by (is_key (key_at keys m.account) h.key) refl
     (λ same. lowered_is keys ms hs (tail_rises (key_at keys m.account) (amount_keys keys ms) rm) (tail_rises h.key (map (λ x. x.key) hs) rh)
-      (others keys m ms hs (later_apart (key_at keys m.account) h hs rh same) (All-tail (λ (x : Hold). Any (λ (y : Amount). (key_at keys y.account ≡ x.key) × (x.seconds ≤ y.seconds)) (m ∷ ms)) h hs most)))
+    (others keys m ms hs (later_apart (key_at keys m.account) h hs rh same) (All-tail (λ (x : Hold). Any (λ (y : Amount). (key_at keys y.account ≡ x.key) × (x.seconds ≤ y.seconds)) (m ∷ ms)) h hs most)))
     (λ ne. lowered_is keys ms (h ∷ hs) (tail_rises (key_at keys m.account) (amount_keys keys ms) rm) rh (others keys m ms (h ∷ hs) (none_first keys m ms h hs rm rh most ne) most))
   where
     by : (b : Bool) → is_key (key_at keys m.account) h.key ≡ b → (key_at keys m.account ≡ h.key → IsLowered keys ms hs (lowered_to keys ms hs)) → (key_at keys m.account ≢ h.key → IsLowered keys ms (h ∷ hs) (lowered_to keys ms (h ∷ hs)))
@@ -192,15 +192,15 @@ lowered_is keys (m ∷ ms) (h ∷ hs) rm rh most =
         record {
           stand = ap (λ (k : Key). record { key = k; seconds = h.seconds } ∷ map (hold_of keys) (lowered_to keys ms hs)) same ∙ ap (λ (l : List Hold). h ∷ l) rest.stand;
           less = λ i.
-            let a = sum_by-cons (λ (x : Amount). if x.account == i then x.seconds else 0) low (lowered_to keys ms hs) in
-            let b = sum_by-cons (λ (x : Amount). if x.account == i then x.seconds else 0) m ms in
-            let r = rest.less i in
-            let one : (if m.account == i then h.seconds else 0) ≤ (if m.account == i then m.seconds else 0) = either (m.account == i) h.seconds m.seconds most' in
-            omega (arith, a, b, r, one)
+              let a = sum_by-cons (λ (x : Amount). if x.account == i then x.seconds else 0) low (lowered_to keys ms hs) in
+              let b = sum_by-cons (λ (x : Amount). if x.account == i then x.seconds else 0) m ms in
+              let r = rest.less i in
+              let one : (if m.account == i then h.seconds else 0) ≤ (if m.account == i then m.seconds else 0) = either (m.account == i) h.seconds m.seconds most' in
+              omega (arith, a, b, r, one);
         }
     by false e kept dropped =
         let rest = dropped (λ same. absurd (false≢true (sym e ∙ ap (λ (k : Key). is_key k h.key) same ∙ is_key-refl h.key))) in
         record {
           stand = rest.stand;
-          less = λ i. let b = sum_by-cons (λ (x : Amount). if x.account == i then x.seconds else 0) m ms in let r = rest.less i in omega (arith, b, r)
+          less = λ i. let b = sum_by-cons (λ (x : Amount). if x.account == i then x.seconds else 0) m ms in let r = rest.less i in omega (arith, b, r);
         }

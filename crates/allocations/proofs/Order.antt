@@ -82,7 +82,7 @@ module _ {K : Type 0} (cmp : K → K → Ordering) (o : IsTotalOrder cmp) where
       (Rises-insert xs k p (λ i j d l m. r (suc i) (suc j) d (omega arith) (omega arith)) record {
         within = omega (arith, g.within);
         below = λ j d l. g.below (suc j) d (omega arith);
-        above = λ j d l m. g.above (suc j) d (omega arith) (omega arith)
+        above = λ j d l m. g.above (suc j) d (omega arith) (omega arith);
       })
 
   -- a key with a gap isn't there
@@ -113,21 +113,21 @@ module _ {K : Type 0} (cmp : K → K → Ordering) (o : IsTotalOrder cmp) where
     at_key : (P : K → Type 0) (xs : List X) (j : ℕ) (d : K) → j < length xs → ((x : X) → P (key (get_or xs j x))) → P (get_or (map key xs) j d)
     at_key P xs j d l h =
         elim (slice_get_cases xs j).1 [
-          inl w ↦ subst P (sym (get_or_map key xs j w.0 d l)) (h w.0)
-        | inr w ↦ absurd (omega (arith, l, w.0))
+          | inl w ↦ subst P (sym (get_or_map key xs j w.0 d l)) (h w.0)
+          | inr w ↦ absurd (omega (arith, l, w.0))
         ]
 
     -- what a binary search in a list that rises finds
     pub found_at : (xs : List X) (k : K) (r : Result ℕ ℕ) → IsSearchInRange r (length xs) → IsBinarySearchResult (λ x. cmp (key x) k) xs r → Rises cmp (map key xs) → IsFoundAt cmp (map key xs) k r
     found_at xs k (Ok i) b h r =
         elim (slice_get_cases xs i).1 [
-          inl w ↦ slice_get-map key xs i ∙ ap (option_map key) w.2 ∙ ap Some (exact (key w.0) k (rw w.3 at (h w.0)))
-        | inr w ↦ absurd (omega (arith, b, w.0))
+          | inl w ↦ slice_get-map key xs i ∙ ap (option_map key) w.2 ∙ ap Some (exact (key w.0) k (rw w.3 at (h w.0)))
+          | inr w ↦ absurd (omega (arith, b, w.0))
         ]
     found_at xs k (Err i) b h r =
         let parted = h (IsNonDecreasingBy-Rises xs k r) in
         record {
           within = rw length-map b;
           below = λ j d l. at_key (λ y. cmp y k ≡ Less) xs j d (omega (arith, b)) (λ x. parted.0 j x (omega arith) l);
-          above = λ j d l m. at_key (λ y. cmp y k ≡ Greater) xs j d (rw length-map at m) (λ x. parted.1 j x l (rw length-map at m))
+          above = λ j d l m. at_key (λ y. cmp y k ≡ Greater) xs j d (rw length-map at m) (λ x. parted.1 j x l (rw length-map at m));
         }

@@ -54,13 +54,13 @@ registered keys order k i r g =
     record {
       rising = rw mapped (Rises-insert key_cmp key_cmp_total (keys_of order) k i r.rising g);
       places =
-        let P : Listed → Type 0 = λ l. slice_get (keys ++ k ∷ []) l.place ≡ Some l.key in
-        let old : All P order = All-weaker (λ l. slice_get keys l.place ≡ Some l.key) P (λ l h. slice_get-kept keys k l.key l.place h) order r.places in
-        All-append P (take i order) (new ∷ drop i order) (All-take P i order old) (All-cons P new (drop i order) (slice_get-push keys k) (All-drop P i order old));
+          let P : Listed → Type 0 = λ l. slice_get (keys ++ k ∷ []) l.place ≡ Some l.key in
+          let old : All P order = All-weaker (λ l. slice_get keys l.place ≡ Some l.key) P (λ l h. slice_get-kept keys k l.key l.place h) order r.places in
+          All-append P (take i order) (new ∷ drop i order) (All-take P i order old) (All-cons P new (drop i order) (slice_get-push keys k) (All-drop P i order old));
       all =
-        rw mapped (All-push (Contains (insert (keys_of order) i k)) keys k
-        (All-weaker (Contains (keys_of order)) (Contains (insert (keys_of order) i k)) (λ y h. Contains-insert (keys_of order) i k y h) keys r.all)
-        (Contains-append_right (take i (keys_of order)) (k ∷ drop i (keys_of order)) k (Contains-head k (drop i (keys_of order)))))
+          rw mapped (All-push (Contains (insert (keys_of order) i k)) keys k
+          (All-weaker (Contains (keys_of order)) (Contains (insert (keys_of order) i k)) (λ y h. Contains-insert (keys_of order) i k y h) keys r.all)
+          (Contains-append_right (take i (keys_of order)) (k ∷ drop i (keys_of order)) k (Contains-head k (drop i (keys_of order)))));
     }
   where
     Contains-head : (x : Key) (xs : List Key) → Contains (x ∷ xs) x
@@ -78,19 +78,19 @@ proposal_order a b h = ordered (slice_cmp nat_cmp a.proposal b.proposal) refl h
 by_proposal : (keys : List Key) (order : List Listed) (p : List ℕ) → IsRegister keys order → IsNonDecreasingBy (λ l. ordering_index (slice_cmp nat_cmp l.key.proposal p)) order
 by_proposal keys order p g =
     searchable_from_sorted nat_list_cmp_total (λ (l : Listed). l.key.proposal) order p (λ i d _ l.
-      proposal_order (get_or order i d).key (get_or order (i + 1) d).key
-      (let less : key_cmp (get_or order i d).key (get_or order (i + 1) d).key ≡ Less = rw (get_or-map (λ (x : Listed). x.key) order i d, get_or-map (λ (x : Listed). x.key) order (i + 1) d) at (g.rising i (i + 1) d.key (omega arith) (rw length-map (omega arith))) in less))
+    proposal_order (get_or order i d).key (get_or order (i + 1) d).key
+    (let less : key_cmp (get_or order i d).key (get_or order (i + 1) d).key ≡ Less = rw (get_or-map (λ (x : Listed). x.key) order i d, get_or-map (λ (x : Listed). x.key) order (i + 1) d) at (g.rising i (i + 1) d.key (omega arith) (rw length-map (omega arith))) in less))
 
 -- what a binary search by a proposal finds
 pub known : (keys : List Key) (order : List Listed) (p : List ℕ) (r : Result ℕ ℕ) → IsRegister keys order → IsSearchInRange r (length order) → IsBinarySearchResult (λ l. slice_cmp nat_cmp l.key.proposal p) order r → MatchResult r (λ _. Any (λ k. k.proposal ≡ p) keys) (λ _. Any (λ k. k.proposal ≡ p) keys → ⊥)
 known keys order p (Ok i) g b h =
     elim (slice_get_cases order i).1 [
-      inl w ↦
-        (let l : Listed = w.0 in
-        let at : slice_get keys l.place ≡ Some l.key = rw w.3 at (g.places i l b) in
-        let same : l.key.proposal ≡ p = texts_same l.key.proposal p (rw w.3 at (h l)) in
-        (l.place, l.key, slice_get_within keys l.place l.key at, get_or_from_slice_get keys l.place l.key l.key at, same))
-    | inr w ↦ absurd (omega (arith, b, w.0))
+      | inl w ↦
+          (let l : Listed = w.0 in
+          let at : slice_get keys l.place ≡ Some l.key = rw w.3 at (g.places i l b) in
+          let same : l.key.proposal ≡ p = texts_same l.key.proposal p (rw w.3 at (h l)) in
+          (l.place, l.key, slice_get_within keys l.place l.key at, get_or_from_slice_get keys l.place l.key l.key at, same))
+      | inr w ↦ absurd (omega (arith, b, w.0))
     ]
 known keys order p (Err i) g b h =
     λ any.
@@ -100,15 +100,15 @@ known keys order p (Err i) g b h =
     let parted = h (by_proposal keys order p g) in
     let within : j < length order = rw length-map at listed.1 in
     elim (slice_get_cases order j).1 [
-      inl w ↦
-        (let l : Listed = w.0 in
-        let key : l.key ≡ k = ap (λ (x : Listed). x.key) (sym w.3) ∙ sym (get_or_map (λ (x : Listed). x.key) order j l k within) ∙ listed.2 in
-        let tie : slice_cmp nat_cmp l.key.proposal p ≡ Equal = rw (key, any.4) (tied_itself nat_list_cmp_total p) in
-        ⊎_elim
-        (λ (s : j < i). let less : slice_cmp nat_cmp l.key.proposal p ≡ Less = rw w.3 at (parted.0 j l (omega arith) s) in cc)
-        (λ (s : i ≤ j). let greater : slice_cmp nat_cmp l.key.proposal p ≡ Greater = rw w.3 at (parted.1 j l s within) in cc)
-        (cases_lt j i))
-    | inr w ↦ absurd (omega (arith, within, w.0))
+      | inl w ↦
+          (let l : Listed = w.0 in
+          let key : l.key ≡ k = ap (λ (x : Listed). x.key) (sym w.3) ∙ sym (get_or_map (λ (x : Listed). x.key) order j l k within) ∙ listed.2 in
+          let tie : slice_cmp nat_cmp l.key.proposal p ≡ Equal = rw (key, any.4) (tied_itself nat_list_cmp_total p) in
+          ⊎_elim
+          (λ (s : j < i). let less : slice_cmp nat_cmp l.key.proposal p ≡ Less = rw w.3 at (parted.0 j l (omega arith) s) in cc)
+          (λ (s : i ≤ j). let greater : slice_cmp nat_cmp l.key.proposal p ≡ Greater = rw w.3 at (parted.1 j l s within) in cc)
+          (cases_lt j i))
+      | inr w ↦ absurd (omega (arith, within, w.0))
     ]
 
 pub known_answer : (r : Result ℕ ℕ) (b : Bool) {A : Type 0} → b ≡ is_ok r → MatchResult r (λ _. A) (λ _. A → ⊥) → IsTrue b ↔ A

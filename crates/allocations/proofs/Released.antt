@@ -66,11 +66,11 @@ same_place ns i j n r li lj a b =
     ⊎_elim
     (λ (e : i ≡ j). e)
     (λ (ne : i ≡ j → ⊥).
-      let tie = tied_itself nat_cmp_total n in
-      ⊎_elim
-      (λ (l : i < j). let less : nat_cmp (get_or ns i n) (get_or ns j n) ≡ Less = r i j n l lj in let same : nat_cmp (get_or ns i n) (get_or ns j n) ≡ Equal = rw (a, b) tie in cc)
-      (λ (l : j ≤ i). let less : nat_cmp (get_or ns j n) (get_or ns i n) ≡ Less = r j i n (omega (arith, ne)) li in let same : nat_cmp (get_or ns j n) (get_or ns i n) ≡ Equal = rw (a, b) tie in cc)
-      (cases_lt i j))
+    let tie = tied_itself nat_cmp_total n in
+    ⊎_elim
+    (λ (l : i < j). let less : nat_cmp (get_or ns i n) (get_or ns j n) ≡ Less = r i j n l lj in let same : nat_cmp (get_or ns i n) (get_or ns j n) ≡ Equal = rw (a, b) tie in cc)
+    (λ (l : j ≤ i). let less : nat_cmp (get_or ns j n) (get_or ns i n) ≡ Less = r j i n (omega (arith, ne)) li in let same : nat_cmp (get_or ns j n) (get_or ns i n) ≡ Equal = rw (a, b) tie in cc)
+    (cases_lt i j))
     (cases_eq i j)
 
 -- what is at most a group's holds is at most its amounts
@@ -81,26 +81,26 @@ at_most_seen keys gs n j hs r at most k d l =
     let there = number_at gs n j at in
     let within : any.0 < length gs = rw length-map at any.2 in
     elim (slice_get_cases gs any.0).1 [
-      inl w ↦
-        (let seen : any.1 ≡ group_of keys (get_or gs any.0 w.0) = sym any.3 ∙ get_or_map (group_of keys) gs any.0 w.0 any.1 within in
-        let number : (get_or gs any.0 w.0).group.0 ≡ n.0 = ap (λ (g : GroupHolds). g.group.0) (sym seen) ∙ ap (λ (x : GroupNo). x.0) any.4.0 in
-        let place : any.0 ≡ j = same_place (numbers_of gs) any.0 j n.0 r (rw length-map within) (rw length-map there.0)
+      | inl w ↦
+          (let seen : any.1 ≡ group_of keys (get_or gs any.0 w.0) = sym any.3 ∙ get_or_map (group_of keys) gs any.0 w.0 any.1 within in
+          let number : (get_or gs any.0 w.0).group.0 ≡ n.0 = ap (λ (g : GroupHolds). g.group.0) (sym seen) ∙ ap (λ (x : GroupNo). x.0) any.4.0 in
+          let place : any.0 ≡ j = same_place (numbers_of gs) any.0 j n.0 r (rw length-map within) (rw length-map there.0)
           (get_or_map (λ (g : GroupState). g.group.0) gs any.0 w.0 n.0 within ∙ number)
           (get_or_map (λ (g : GroupState). g.group.0) gs j no_group n.0 there.0 ∙ ap (λ (x : GroupNo). x.0) there.1) in
-        let here : any.1 ≡ group_of keys (group_at gs j) = seen ∙ ap (group_of keys) (get_or_default gs any.0 w.0 no_group within ∙ ap (λ (i : ℕ). get_or gs i no_group) place) in
-        let holds : any.1.holds ≡ map (hold_of keys) (group_at gs j).holds = ap (λ (g : GroupHolds). g.holds) here in
-        any_mapped (group_at gs j).holds h (subst (λ (l : List Hold). Any (λ (o : Hold). (o.key ≡ h.key) × (h.seconds ≤ o.seconds)) l) holds any.4.1))
-    | inr w ↦ absurd (omega (arith, within, w.0))
+          let here : any.1 ≡ group_of keys (group_at gs j) = seen ∙ ap (group_of keys) (get_or_default gs any.0 w.0 no_group within ∙ ap (λ (i : ℕ). get_or gs i no_group) place) in
+          let holds : any.1.holds ≡ map (hold_of keys) (group_at gs j).holds = ap (λ (g : GroupHolds). g.holds) here in
+          any_mapped (group_at gs j).holds h (subst (λ (l : List Hold). Any (λ (o : Hold). (o.key ≡ h.key) × (h.seconds ≤ o.seconds)) l) holds any.4.1))
+      | inr w ↦ absurd (omega (arith, within, w.0))
     ]
   where
     any_mapped : (ms : List Amount) (x : Hold) → Any (λ (o : Hold). (o.key ≡ x.key) × (x.seconds ≤ o.seconds)) (map (hold_of keys) ms) → Any (λ (m : Amount). (key_at keys m.account ≡ x.key) × (x.seconds ≤ m.seconds)) ms
     any_mapped ms x any =
         let within : any.0 < length ms = rw length-map at any.2 in
         elim (slice_get_cases ms any.0).1 [
-          inl w ↦
-            (let e : any.1 ≡ hold_of keys w.0 = sym any.3 ∙ get_or_map (hold_of keys) ms any.0 w.0 any.1 within ∙ ap (hold_of keys) w.3 in
-            (any.0, w.0, within, w.3, subst (λ (o : Hold). (o.key ≡ x.key) × (x.seconds ≤ o.seconds)) e any.4))
-        | inr w ↦ absurd (omega (arith, within, w.0))
+          | inl w ↦
+              (let e : any.1 ≡ hold_of keys w.0 = sym any.3 ∙ get_or_map (hold_of keys) ms any.0 w.0 any.1 within ∙ ap (hold_of keys) w.3 in
+              (any.0, w.0, within, w.3, subst (λ (o : Hold). (o.key ≡ x.key) × (x.seconds ≤ o.seconds)) e any.4))
+          | inr w ↦ absurd (omega (arith, within, w.0))
         ]
 
 -- holds laid in the place of what was lifted

@@ -58,30 +58,30 @@ asked_once keys left i (m ∷ ms) r fit =
     let cons = sum_by-cons (λ (x : Amount). if x.account == i then x.seconds else 0) m ms in
     ⊎_elim
     (λ (e : m.account ≡ i).
-      let others : All (λ x. x.account ≢ i) ms = λ k d l same.
-          let less : key_cmp (key_at keys m.account) (get_or (amount_keys keys ms) k (key_at keys d.account)) ≡ Less = r 0 (suc k) (key_at keys d.account) (omega arith) (rw length-map (omega (arith, l))) in
-          let at : get_or (amount_keys keys ms) k (key_at keys d.account) ≡ key_at keys (get_or ms k d).account = get_or-map (λ (x : Amount). key_at keys x.account) ms k d in
-          let tie : key_cmp (key_at keys m.account) (get_or (amount_keys keys ms) k (key_at keys d.account)) ≡ Equal = rw (at, same, e) (tied_itself key_cmp_total (key_at keys i)) in
-          cc in
-      let none = amount_at-other i ms others in
-      let first : m.seconds ≤ left m.account = All-head (λ x. x.seconds ≤ left x.account) m ms fit in
-      let here : m.seconds ≤ left i = subst (λ (j : ℕ). m.seconds ≤ left j) e first in
-      let one : (if m.account == i then m.seconds else 0) ≡ m.seconds = ap (λ (b : Bool). if b then m.seconds else 0) (eq-eqb m.account i e) in
-      omega (arith, cons, none, here, one))
+    let others : All (λ x. x.account ≢ i) ms = λ k d l same.
+    let less : key_cmp (key_at keys m.account) (get_or (amount_keys keys ms) k (key_at keys d.account)) ≡ Less = r 0 (suc k) (key_at keys d.account) (omega arith) (rw length-map (omega (arith, l))) in
+    let at : get_or (amount_keys keys ms) k (key_at keys d.account) ≡ key_at keys (get_or ms k d).account = get_or-map (λ (x : Amount). key_at keys x.account) ms k d in
+    let tie : key_cmp (key_at keys m.account) (get_or (amount_keys keys ms) k (key_at keys d.account)) ≡ Equal = rw (at, same, e) (tied_itself key_cmp_total (key_at keys i)) in
+    cc in
+    let none = amount_at-other i ms others in
+    let first : m.seconds ≤ left m.account = All-head (λ x. x.seconds ≤ left x.account) m ms fit in
+    let here : m.seconds ≤ left i = subst (λ (j : ℕ). m.seconds ≤ left j) e first in
+    let one : (if m.account == i then m.seconds else 0) ≡ m.seconds = ap (λ (b : Bool). if b then m.seconds else 0) (eq-eqb m.account i e) in
+    omega (arith, cons, none, here, one))
     (λ (ne : m.account ≡ i → ⊥).
-      let rest = asked_once keys left i ms (λ a b d l k. r (suc a) (suc b) d (omega arith) (omega (arith, k))) (All-tail (λ x. x.seconds ≤ left x.account) m ms fit) in
-      let one : (if m.account == i then m.seconds else 0) ≡ 0 = ap (λ (b : Bool). if b then m.seconds else 0) (ne_eqb m.account i ne) in
-      omega (arith, cons, rest, one))
+    let rest = asked_once keys left i ms (λ a b d l k. r (suc a) (suc b) d (omega arith) (omega (arith, k))) (All-tail (λ x. x.seconds ≤ left x.account) m ms fit) in
+    let one : (if m.account == i then m.seconds else 0) ≡ 0 = ap (λ (b : Bool). if b then m.seconds else 0) (ne_eqb m.account i ne) in
+    omega (arith, cons, rest, one))
     (cases_eq m.account i)
 
 -- no hold is of the ipp account
 pub asked_ipp_alone : (keys : List Key) (ms : List Amount) (hs : List Hold) (a : ℕ) → map (hold_of keys) ms ≡ hs → All (λ h. h.key.account ≢ Ipp) hs → (key_at keys a).account ≡ Ipp → amount_at a ms ≡ 0
 asked_ipp_alone keys ms hs a e not_ipp ipp =
     amount_at-other a ms (λ k d l same.
-      let P : Hold → Type 0 = λ h. h.key.account ≢ Ipp in
-      let all : All P (map (hold_of keys) ms) = subst (λ (x : List Hold). All P x) (sym e) not_ipp in
-      let one : (get_or (map (hold_of keys) ms) k (hold_of keys d)).key.account ≢ Ipp = all k (hold_of keys d) (rw length-map l) in
-      one (ap (λ (h : Hold). h.key.account) (get_or-map (hold_of keys) ms k d) ∙ ap (λ (j : ℕ). (key_at keys j).account) same ∙ ipp))
+    let P : Hold → Type 0 = λ h. h.key.account ≢ Ipp in
+    let all : All P (map (hold_of keys) ms) = subst (λ (x : List Hold). All P x) (sym e) not_ipp in
+    let one : (get_or (map (hold_of keys) ms) k (hold_of keys d)).key.account ≢ Ipp = all k (hold_of keys d) (rw length-map l) in
+    one (ap (λ (h : Hold). h.key.account) (get_or-map (hold_of keys) ms k d) ∙ ap (λ (j : ℕ). (key_at keys j).account) same ∙ ipp))
 
 -- a group that holds nothing still holds nothing once another is freed
 pub freed_nothing : (old : Option ℕ) (n : GroupNo) (gs : List GroupState) → HoldsNothing n gs → HoldsNothing n (freed_groups old gs)
@@ -120,11 +120,11 @@ pub booked_seen : (keys : List Key) (ps : List Posting) (gs : List GroupState) (
     → books_of keys (ps ++ charges_of n o) (booked_groups n ms o gs) ≡ booked n hs ipp (books_of keys ps gs)
 booked_seen keys ps gs n ms o hs ipp e f =
     let entries : map (entry_of keys) (ps ++ charges_of n o) ≡ map (entry_of keys) ps ++ map (charge_entry n) (option_to_list (ipp_need hs ipp)) =
-      map-append (entry_of keys) ps (charges_of n o) ∙ ap (λ l. map (entry_of keys) ps ++ l) (charges_seen keys n o ∙ ap (λ (x : Option Hold). map (charge_entry n) (option_to_list x)) f) in
+    map-append (entry_of keys) ps (charges_of n o) ∙ ap (λ l. map (entry_of keys) ps ++ l) (charges_seen keys n o ∙ ap (λ (x : Option Hold). map (charge_entry n) (option_to_list x)) f) in
     let stands : option_map (hold_of keys) (standing o (standing_of n gs)) ≡ standing (ipp_need hs ipp) (ipp_of n (map (group_of keys) gs)) =
-      standing_seen keys o (standing_of n gs) ∙ ap (λ (x : Option Hold). standing x (option_map (hold_of keys) (standing_of n gs))) f ∙ ap (λ (x : Option Hold). standing (ipp_need hs ipp) x) (sym (ipp_seen keys n gs)) in
+    standing_seen keys o (standing_of n gs) ∙ ap (λ (x : Option Hold). standing x (option_map (hold_of keys) (standing_of n gs))) f ∙ ap (λ (x : Option Hold). standing (ipp_need hs ipp) x) (sym (ipp_seen keys n gs)) in
     let group : group_of keys record { group = n; holds = ms; ipp = standing o (standing_of n gs) } ≡ record { group = n; holds = hs; ipp = standing (ipp_need hs ipp) (ipp_of n (map (group_of keys) gs)) } =
-      ap (λ (x : List Hold). record { group = n; holds = x; ipp = option_map (hold_of keys) (standing o (standing_of n gs)) }) e ∙ ap (λ (x : Option Hold). record { group = n; holds = hs; ipp = x }) stands in
+    ap (λ (x : List Hold). record { group = n; holds = x; ipp = option_map (hold_of keys) (standing o (standing_of n gs)) }) e ∙ ap (λ (x : Option Hold). record { group = n; holds = hs; ipp = x }) stands in
     let holds = replace_seen keys gs record { group = n; holds = ms; ipp = standing o (standing_of n gs) } ∙ ap (λ (g : GroupHolds). replace_key group_cmp (map (group_of keys) gs) g) group in
     ap (λ l. record { entries = l; holds = map (group_of keys) (booked_groups n ms o gs) }) entries ∙ ap (λ (l : List GroupHolds). record { entries = map (entry_of keys) ps ++ map (charge_entry n) (option_to_list (ipp_need hs ipp)); holds = l }) holds
 

@@ -33,41 +33,41 @@ step : (i a : ℕ) (kind : EntryKind) (n charged granted refunded : ℕ) (old ne
 step i a Grant n charged granted refunded old new same other h =
     ⊎_elim
     (λ (e : a ≡ i).
-      let q = same e in
-      let b = eq-eqb a i e in
-      let balance : new.balance ≡ (sums_after old Grant n).balance = ap (λ (s : Sums). s.balance) q.0 in
-      let can = q.1 in
-      (rw (b, balance) (omega (arith, can)), ap (λ (s : Sums). s.held) q.0))
+    let q = same e in
+    let b = eq-eqb a i e in
+    let balance : new.balance ≡ (sums_after old Grant n).balance = ap (λ (s : Sums). s.balance) q.0 in
+    let can = q.1 in
+    (rw (b, balance) (omega (arith, can)), ap (λ (s : Sums). s.held) q.0))
     (λ (ne : a ≡ i → ⊥).
-      let b = ne_eqb a i ne in
-      let balance : new.balance ≡ old.balance = ap (λ (s : Sums). s.balance) (other ne) in
-      (rw (b, balance) (omega arith), ap (λ (s : Sums). s.held) (other ne)))
+    let b = ne_eqb a i ne in
+    let balance : new.balance ≡ old.balance = ap (λ (s : Sums). s.balance) (other ne) in
+    (rw (b, balance) (omega arith), ap (λ (s : Sums). s.held) (other ne)))
     (cases_eq a i)
 step i a Charge n charged granted refunded old new same other h =
     ⊎_elim
     (λ (e : a ≡ i).
-      let q = same e in
-      let b = eq-eqb a i e in
-      let balance : new.balance ≡ (sums_after old Charge n).balance = ap (λ (s : Sums). s.balance) q.0 in
-      let can = q.1 in
-      (rw (b, balance) (omega (arith, can)), ap (λ (s : Sums). s.held) q.0))
+    let q = same e in
+    let b = eq-eqb a i e in
+    let balance : new.balance ≡ (sums_after old Charge n).balance = ap (λ (s : Sums). s.balance) q.0 in
+    let can = q.1 in
+    (rw (b, balance) (omega (arith, can)), ap (λ (s : Sums). s.held) q.0))
     (λ (ne : a ≡ i → ⊥).
-      let b = ne_eqb a i ne in
-      let balance : new.balance ≡ old.balance = ap (λ (s : Sums). s.balance) (other ne) in
-      (rw (b, balance) (omega arith), ap (λ (s : Sums). s.held) (other ne)))
+    let b = ne_eqb a i ne in
+    let balance : new.balance ≡ old.balance = ap (λ (s : Sums). s.balance) (other ne) in
+    (rw (b, balance) (omega arith), ap (λ (s : Sums). s.held) (other ne)))
     (cases_eq a i)
 step i a Refund n charged granted refunded old new same other h =
     ⊎_elim
     (λ (e : a ≡ i).
-      let q = same e in
-      let b = eq-eqb a i e in
-      let balance : new.balance ≡ (sums_after old Refund n).balance = ap (λ (s : Sums). s.balance) q.0 in
-      let can = q.1 in
-      (rw (b, balance) (omega (arith, can)), ap (λ (s : Sums). s.held) q.0))
+    let q = same e in
+    let b = eq-eqb a i e in
+    let balance : new.balance ≡ (sums_after old Refund n).balance = ap (λ (s : Sums). s.balance) q.0 in
+    let can = q.1 in
+    (rw (b, balance) (omega (arith, can)), ap (λ (s : Sums). s.held) q.0))
     (λ (ne : a ≡ i → ⊥).
-      let b = ne_eqb a i ne in
-      let balance : new.balance ≡ old.balance = ap (λ (s : Sums). s.balance) (other ne) in
-      (rw (b, balance) (omega arith), ap (λ (s : Sums). s.held) (other ne)))
+    let b = ne_eqb a i ne in
+    let balance : new.balance ≡ old.balance = ap (λ (s : Sums). s.balance) (other ne) in
+    (rw (b, balance) (omega arith), ap (λ (s : Sums). s.held) (other ne)))
     (cases_eq a i)
 
 sums_after-held : (s : Sums) (kind : EntryKind) (n : ℕ) → (sums_after s kind n).held ≡ s.held
@@ -82,11 +82,11 @@ tied_post keys sums ps gs p t l c covered =
     let after : Sums = sums_after (get_or sums a no_sums) p.kind p.seconds in
     let within : a < length sums = omega (arith, t.lengths) in
     let each : (i : ℕ) → i < length keys → ((get_or (set sums a after) i no_sums).balance + posted Charge i (ps ++ p ∷ []) ≡ posted Grant i (ps ++ p ∷ []) + posted Refund i (ps ++ p ∷ [])) × ((get_or (set sums a after) i no_sums).held ≡ (get_or sums i no_sums).held) =
-      λ i li.
-      rw (posted-push Charge i ps p, posted-push Grant i ps p, posted-push Refund i ps p)
-      (step i a p.kind p.seconds (posted Charge i ps) (posted Grant i ps) (posted Refund i ps) (get_or sums i no_sums) (get_or (set sums a after) i no_sums)
-      (λ e. (subst (λ (j : ℕ). get_or (set sums a after) j no_sums ≡ sums_after (get_or sums j no_sums) p.kind p.seconds) e (get_or-set_same sums a after no_sums within), subst (λ (j : ℕ). CanTake (get_or sums j no_sums) p.kind p.seconds) e c))
-      (λ ne. get_or-set_other sums a i after no_sums (λ e. ne (sym e))) (t.balance i li)) in
+    λ i li.
+    rw (posted-push Charge i ps p, posted-push Grant i ps p, posted-push Refund i ps p)
+    (step i a p.kind p.seconds (posted Charge i ps) (posted Grant i ps) (posted Refund i ps) (get_or sums i no_sums) (get_or (set sums a after) i no_sums)
+    (λ e. (subst (λ (j : ℕ). get_or (set sums a after) j no_sums ≡ sums_after (get_or sums j no_sums) p.kind p.seconds) e (get_or-set_same sums a after no_sums within), subst (λ (j : ℕ). CanTake (get_or sums j no_sums) p.kind p.seconds) e c))
+    (λ ne. get_or-set_other sums a i after no_sums (λ e. ne (sym e))) (t.balance i li)) in
     record {
       lengths = length-set sums a after ∙ t.lengths;
       apart = t.apart;
@@ -95,10 +95,10 @@ tied_post keys sums ps gs p t l c covered =
       balance = λ i li. (each i li).0;
       held = λ i li. (each i li).1 ∙ t.held i li;
       covered = λ i li.
-        ⊎_elim
-        (λ (e : a ≡ i). let b = (each i li).0 in let h = (each i li).1 ∙ t.held i li in let c' = subst (λ (j : ℕ). held_at j gs + posted Charge j (ps ++ p ∷ []) ≤ given_at j (ps ++ p ∷ [])) e covered in omega (arith, b, h, c'))
-        (λ (ne : a ≡ i → ⊥). rw (get_or-set_other sums a i after no_sums (λ e. ne (sym e))) (t.covered i li))
-        (cases_eq a i)
+          ⊎_elim
+          (λ (e : a ≡ i). let b = (each i li).0 in let h = (each i li).1 ∙ t.held i li in let c' = subst (λ (j : ℕ). held_at j gs + posted Charge j (ps ++ p ∷ []) ≤ given_at j (ps ++ p ∷ [])) e covered in omega (arith, b, h, c'))
+          (λ (ne : a ≡ i → ⊥). rw (get_or-set_other sums a i after no_sums (λ e. ne (sym e))) (t.covered i li))
+          (cases_eq a i);
     }
 
 -- nothing is posted on an account that isn't there
@@ -137,17 +137,17 @@ tied_add keys sums ps gs k t new =
       located = All-weaker (λ p. p.account < n) (λ p. p.account < length (keys ++ k ∷ [])) (λ p l. omega (arith, longer)) ps t.located;
       placed = All-weaker (IsPlaced n) (IsPlaced (length (keys ++ k ∷ []))) (λ g h. IsPlaced-more n (length (keys ++ k ∷ [])) (omega (arith, longer)) g h) gs t.placed;
       balance = λ i l. ⊎_elim
-        (λ (b : i < n). rw (get_or_append_left sums (no_sums ∷ []) no_sums i (omega (arith, t.lengths))) (t.balance i b))
-        (λ (b : n ≤ i). let e : i ≡ n = omega (arith, longer) in rw (e, last, none Charge, none Grant, none Refund) refl)
-        (cases_lt i n);
+          (λ (b : i < n). rw (get_or_append_left sums (no_sums ∷ []) no_sums i (omega (arith, t.lengths))) (t.balance i b))
+          (λ (b : n ≤ i). let e : i ≡ n = omega (arith, longer) in rw (e, last, none Charge, none Grant, none Refund) refl)
+          (cases_lt i n);
       held = λ i l. ⊎_elim
-        (λ (b : i < n). rw (get_or_append_left sums (no_sums ∷ []) no_sums i (omega (arith, t.lengths))) (t.held i b))
-        (λ (b : n ≤ i). let e : i ≡ n = omega (arith, longer) in rw (e, last, held_at-none n gs t.placed) refl)
-        (cases_lt i n);
+          (λ (b : i < n). rw (get_or_append_left sums (no_sums ∷ []) no_sums i (omega (arith, t.lengths))) (t.held i b))
+          (λ (b : n ≤ i). let e : i ≡ n = omega (arith, longer) in rw (e, last, held_at-none n gs t.placed) refl)
+          (cases_lt i n);
       covered = λ i l. ⊎_elim
-        (λ (b : i < n). rw (get_or_append_left sums (no_sums ∷ []) no_sums i (omega (arith, t.lengths))) (t.covered i b))
-        (λ (b : n ≤ i). let e : i ≡ n = omega (arith, longer) in rw (e, last) (omega arith))
-        (cases_lt i n)
+          (λ (b : i < n). rw (get_or_append_left sums (no_sums ∷ []) no_sums i (omega (arith, t.lengths))) (t.covered i b))
+          (λ (b : n ≤ i). let e : i ≡ n = omega (arith, longer) in rw (e, last) (omega arith))
+          (cases_lt i n);
     }
   where
     get_or_push_at : {X : Type 0} (xs : List X) (x d : X) (n : ℕ) → length xs ≡ n → get_or (xs ++ x ∷ []) n d ≡ x
@@ -171,7 +171,7 @@ pub grouped_add : (keys : List Key) (k : Key) (gs : List GroupState) → All (Is
 grouped_add keys k gs placed g = record {
   rising = g.rising;
   ordered = λ i d l.
-    let state : GroupState = get_or gs i d in
-    rw (map_agree (λ m. key_at (keys ++ k ∷ []) m.account) (λ m. key_at keys m.account) state.holds (All-weaker (λ m. m.account < length keys) (λ m. key_at (keys ++ k ∷ []) m.account ≡ key_at keys m.account) (λ m h. key_at-kept keys k m.account h) state.holds (placed i d l).0))
-    (g.ordered i d l)
+      let state : GroupState = get_or gs i d in
+      rw (map_agree (λ m. key_at (keys ++ k ∷ []) m.account) (λ m. key_at keys m.account) state.holds (All-weaker (λ m. m.account < length keys) (λ m. key_at (keys ++ k ∷ []) m.account ≡ key_at keys m.account) (λ m h. key_at-kept keys k m.account h) state.holds (placed i d l).0))
+      (g.ordered i d l);
 }

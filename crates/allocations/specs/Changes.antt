@@ -61,7 +61,7 @@ released group holds books = record books { holds = change_group group (with_hol
 abbrev pub refunded : GroupNo → Books → Books
 refunded group books = record {
   entries = books.entries ++ map (refund_entry group) (option_to_list (ipp_of group books.holds));
-  holds = change_group group without_ipp books.holds
+  holds = change_group group without_ipp books.holds;
 }
 
 -- the group holds nothing, and its ipp charge is given back
@@ -77,5 +77,5 @@ standing None old = old
 abbrev pub booked : GroupNo → List Hold → ℕ → Books → Books
 booked group holds ipp books = record {
   entries = books.entries ++ map (charge_entry group) (option_to_list (ipp_need holds ipp));
-  holds = replace_key group_cmp books.holds record { group = group; holds = holds; ipp = standing (ipp_need holds ipp) (ipp_of group books.holds) }
+  holds = replace_key group_cmp books.holds record { group = group; holds = holds; ipp = standing (ipp_need holds ipp) (ipp_of group books.holds) };
 }

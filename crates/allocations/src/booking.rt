@@ -87,7 +87,14 @@ fn free_old(store: &mut Store, alloc: Global, old: Option<usize>)
 
 /// Books holds and an ipp charge for a group that holds nothing, once the group at `old` is freed. An error changes
 /// nothing of the books.
-pub fn settle(store: &mut Store, alloc: Global, old: Option<usize>, group: GroupNo, holds: &[Hold], ipp: u64) -> Result<(), LedgerFault>
+pub fn settle(
+    store: &mut Store,
+    alloc: Global,
+    old: Option<usize>,
+    group: GroupNo,
+    holds: &[Hold],
+    ipp: u64,
+) -> Result<(), LedgerFault>
     requires some { 0 < length holds.now }
     requires rising { Rises key_cmp (map (λ h. h.key) holds.now) }
     requires not_ipp { All (λ h. h.key.account ≢ Ipp) holds.now }

@@ -1,7 +1,6 @@
 // What names an account.
 
 ghost use Rattle.std.specs.Prelude.{◌≡◌, IfOk};
-
 ghost use Rattle.allocations.specs.Key.{is_key};
 ghost use Rattle.allocations.specs.Refusals.{ipp_key};
 

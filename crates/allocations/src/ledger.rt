@@ -122,7 +122,13 @@ impl Ledger {
 
     /// Ends what the group `old` holds, refunds its ipp charge where that stands, and then does what `hold` does for
     /// `group`, or nothing. The refusals are those of `hold` over the seconds so freed.
-    pub fn replace(&mut self, old: GroupNo, group: GroupNo, holds: &[Hold], ipp: u64) -> Result<(), LedgerFault>
+    pub fn replace(
+        &mut self,
+        old: GroupNo,
+        group: GroupNo,
+        holds: &[Hold],
+        ipp: u64,
+    ) -> Result<(), LedgerFault>
         requires holds { IsHoldList holds.now }
         requires free { IsFree group self.old.books.holds }
         requires bound { total_seconds (freed old self.old.books) + seconds_of_holds holds.now + ipp ≤ MOST_SECONDS }

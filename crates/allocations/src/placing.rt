@@ -21,7 +21,12 @@ use std::alloc::Global;
 pub const MOST_SECONDS: u64 = 1_000_000_000_000_000_000;
 
 /// The amount of an account for a need, tested against what is left once the group at `old` is freed.
-pub fn place_need(store: &Store, old: Option<usize>, key: &Key, needed: u64) -> Result<Amount, LedgerFault>
+pub fn place_need(
+    store: &Store,
+    old: Option<usize>,
+    key: &Key,
+    needed: u64,
+) -> Result<Amount, LedgerFault>
     requires old { IfSome old (λ j. j < length store.now.groups) }
     requires granted { IsGranted store.now }
     requires bound { total_seconds (freed_books store.now old) ≤ MOST_SECONDS }
@@ -49,7 +54,12 @@ pub fn place_need(store: &Store, old: Option<usize>, key: &Key, needed: u64) -> 
 }
 
 /// The amounts for holds, each tested in order.
-pub fn place_holds(alloc: Global, store: &Store, old: Option<usize>, holds: &[Hold]) -> Result<ListOf<Amount>, LedgerFault>
+pub fn place_holds(
+    alloc: Global,
+    store: &Store,
+    old: Option<usize>,
+    holds: &[Hold],
+) -> Result<ListOf<Amount>, LedgerFault>
     requires old { IfSome old (λ j. j < length store.now.groups) }
     requires granted { IsGranted store.now }
     requires bound { total_seconds (freed_books store.now old) ≤ MOST_SECONDS }
@@ -75,7 +85,13 @@ pub struct Placed {
 }
 
 /// The amount of a proposal's ipp account, where one is asked for.
-fn place_ipp(alloc: Global, store: &Store, old: Option<usize>, proposal: &Name, ipp: u64) -> Result<Option<Amount>, LedgerFault>
+fn place_ipp(
+    alloc: Global,
+    store: &Store,
+    old: Option<usize>,
+    proposal: &Name,
+    ipp: u64,
+) -> Result<Option<Amount>, LedgerFault>
     requires old { IfSome old (λ j. j < length store.now.groups) }
     requires granted { IsGranted store.now }
     requires bound { total_seconds (freed_books store.now old) ≤ MOST_SECONDS }
@@ -95,7 +111,13 @@ fn place_ipp(alloc: Global, store: &Store, old: Option<usize>, proposal: &Name, 
 
 /// The amounts for holds of one proposal and its ipp charge, tested against what is left once the group at `old` is
 /// freed.
-pub fn place(alloc: Global, store: &Store, old: Option<usize>, holds: &[Hold], ipp: u64) -> Result<Placed, LedgerFault>
+pub fn place(
+    alloc: Global,
+    store: &Store,
+    old: Option<usize>,
+    holds: &[Hold],
+    ipp: u64,
+) -> Result<Placed, LedgerFault>
     requires some { 0 < length holds.now }
     requires old { IfSome old (λ j. j < length store.now.groups) }
     requires granted { IsGranted store.now }

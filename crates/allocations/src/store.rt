@@ -117,7 +117,12 @@ impl Store {
 
     /// Adds an account where it stands in the order of keys, and gives its place. Fails only for want of memory, and then
     /// changes nothing.
-    pub fn add_account(&mut self, alloc: Global, index: usize, key: &Key) -> Result<usize, AllocError>
+    pub fn add_account(
+        &mut self,
+        alloc: Global,
+        index: usize,
+        key: &Key,
+    ) -> Result<usize, AllocError>
         requires gap { IsGap key_cmp self.old.listed key.now index }
         requires absent { ¬ (Contains self.old.keys key.now) }
         ensures ok { OnOk result (self.new ≡ record self.old { keys = self.old.keys ++ key.now ∷ []; listed = insert_key key_cmp self.old.listed key.now }) }

@@ -111,7 +111,6 @@ horizon_some o h =
     let long : 1 * 1 ≤ o.horizon * o.slice = mul-le-mul h.horizon_least some in
     omega arith
 
-
 abbrev IsTimed : Span → Type 0
 IsTimed w = IsMoment w.from.0 × IsMoment w.to.0
 
@@ -175,12 +174,32 @@ desk_limits s o h =
     let groups : length (groups_from 1 s.submissions) ≤ 1024 = omega (arith, length_groups 1 s.submissions) in
     let requests : length (listed_groups 0 1 s.submissions) ≤ 1024 = omega (arith, length_listed 0 1 s.submissions) in
     first_none (map (count_fault (snapshot_of s o)) all_counted) (
-      refl, (refl, (refl, (refl, (
-        map_none _ _ (one_within 1024 (length (groups_from 1 s.submissions)) groups), (
-          map_none _ _ (one_within 1024 (length (listed_groups 0 1 s.submissions)) requests), (
-            map_none _ _ (find_listed (λ x. length x.request.windows) (λ n. nat_lt 32 n) (λ _ _ _. refl) 0 1 s.submissions), (
-              map_none _ _ (find_listed (λ x. length x.request.targets) (λ n. nat_lt 16 n) (λ _ _ _. refl) 0 1 s.submissions), (
-                map_none _ _ (find_listed (λ x. length x.request.telescopes) (λ n. nat_lt 32 n) (λ _ _ _. refl) 0 1 s.submissions), (refl, tt)))))))))
+      refl,
+      (
+        refl,
+        (
+          refl,
+          (
+            refl,
+            (
+              map_none _ _ (one_within 1024 (length (groups_from 1 s.submissions)) groups),
+              (
+                map_none _ _ (one_within 1024 (length (listed_groups 0 1 s.submissions)) requests),
+                (
+                  map_none _ _ (find_listed (λ x. length x.request.windows) (λ n. nat_lt 32 n) (λ _ _ _. refl) 0 1 s.submissions),
+                  (
+                    map_none _ _ (find_listed (λ x. length x.request.targets) (λ n. nat_lt 16 n) (λ _ _ _. refl) 0 1 s.submissions),
+                    (
+                      map_none _ _ (find_listed (λ x. length x.request.telescopes) (λ n. nat_lt 32 n) (λ _ _ _. refl) 0 1 s.submissions),
+                      (refl, tt),
+                    ),
+                  ),
+                ),
+              ),
+            ),
+          ),
+        ),
+      ),
     )
 
 desk_spans : (s : StateSeen) (o : Opening) → IsState s → IsOpening o → span_fault (snapshot_of s o) ≡ None
@@ -192,13 +211,30 @@ pub desk_faultless : (s : StateSeen) (o : Opening) → IsState s → IsOpening o
 desk_faultless s o h g =
     let t : Parts = snapshot_of s o in
     first_none (limit_fault t ∷ span_fault t ∷ apart_fault t ∷ group_fault t ∷ request_fault t ∷ shape_fault t ∷ telescope_fault t ∷ fade_fault t ∷ quota_fault t ∷ quota_range_fault t ∷ []) (
-      desk_limits s o h, (
-        desk_spans s o h g, (
-          refl, (
-            map_none _ _ (find_next_group (λ p. nat_le p.1.group.0 p.0.group.0) (λ n _ _. rises n) 1 s.submissions), (
-              map_none _ _ (find_next_request (λ p. nat_le p.1.request.request.0 p.0.request.request.0) (λ _ n _ _. rises n) 0 1 s.submissions), (
-                map_none _ _ (find_group (λ x. not (has_shape x)) (λ _ _. refl) 1 s.submissions), (
-                  map_none _ _ (find_telescope 0 1 s.submissions), (
-                    map_none _ _ (find_request (λ x. nat_lt 1000 x.request.fade) (λ _ _ _. refl) 0 1 s.submissions), (
-                      map_none _ _ (find_group (λ x. not (names_quota 0 x.quota)) (λ _ _. refl) 1 s.submissions), (refl, tt)))))))))
+      desk_limits s o h,
+      (
+        desk_spans s o h g,
+        (
+          refl,
+          (
+            map_none _ _ (find_next_group (λ p. nat_le p.1.group.0 p.0.group.0) (λ n _ _. rises n) 1 s.submissions),
+            (
+              map_none _ _ (find_next_request (λ p. nat_le p.1.request.request.0 p.0.request.request.0) (λ _ n _ _. rises n) 0 1 s.submissions),
+              (
+                map_none _ _ (find_group (λ x. not (has_shape x)) (λ _ _. refl) 1 s.submissions),
+                (
+                  map_none _ _ (find_telescope 0 1 s.submissions),
+                  (
+                    map_none _ _ (find_request (λ x. nat_lt 1000 x.request.fade) (λ _ _ _. refl) 0 1 s.submissions),
+                    (
+                      map_none _ _ (find_group (λ x. not (names_quota 0 x.quota)) (λ _ _. refl) 1 s.submissions),
+                      (refl, tt),
+                    ),
+                  ),
+                ),
+              ),
+            ),
+          ),
+        ),
+      ),
     )

@@ -67,11 +67,7 @@ fn make_request(
 }
 
 /// The group with this number, of the request with the same number.
-fn make_group(
-    alloc: Global,
-    number: u32,
-    submission: Submission,
-) -> Result<GroupPart, AllocError>
+fn make_group(alloc: Global, number: u32, submission: Submission) -> Result<GroupPart, AllocError>
     ensures { IfOk result (λ group. group ≡ group_part number submission) }
 {
     let request = make_request(alloc, number, submission)?;

@@ -109,11 +109,7 @@ impl State {
     }
 
     /// Adds a submission as a group of one request, where the desk is opened and not full.
-    fn apply_submit(
-        &mut self,
-        alloc: Global,
-        submission: Submission,
-    ) -> Result<Reply, AllocError>
+    fn apply_submit(&mut self, alloc: Global, submission: Submission) -> Result<Reply, AllocError>
         requires version { self.old.version < 524288 }
         requires ranges { IsSubmission submission }
         ensures reply { IfOk result (λ reply. reply ≡ (step self.old (Command.Submit submission)).reply) }

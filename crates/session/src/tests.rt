@@ -6,13 +6,17 @@ use std::test::Fail;
 use std::thread::Threads;
 
 const OPEN: &str = "{\"do\":\"open\",\"now\":0,\"slice\":300,\"horizon\":12}\n";
+
 const OPENED: &str = "{\"caller\":0,\"line\":1,\"ok\":\"opened\",\"version\":0}\n";
+
 const PLAN: &str = "{\"do\":\"plan\"}\n";
 
 /// The words `session`.
 fn session_words(alloc: Global) -> Result<Vec<String>, AllocError> {
     let mut words = Vec::new(alloc);
-    words.push(String::from_str(alloc, "session")?).map_err(AllocError::from)?;
+    words
+        .push(String::from_str(alloc, "session")?)
+        .map_err(AllocError::from)?;
     Ok(words)
 }
 
@@ -63,8 +67,10 @@ fn first_night_is_published(rt: HostRuntime) -> Result<(), Fail> {
 
 #[test]
 fn desk_is_opened_once(rt: HostRuntime) -> Result<(), Fail> {
-    let input = "{\"do\":\"submit\",\"seconds\":1,\"value\":1,\"from\":0,\"to\":1}\n{\"do\":\"open\",\"now\":1,\"slice\":60,\"horizon\":1}\n{\"do\":\"open\",\"now\":0,\"slice\":300,\"horizon\":12}\n{\"do\":\"plan\"}\n{\"do\":\"plan\"}\n";
-    let want = "{\"caller\":0,\"line\":1,\"no\":20,\"refused\":\"NotOpened\",\"version\":0}\n{\"caller\":0,\"line\":2,\"ok\":\"opened\",\"version\":0}\n{\"caller\":0,\"line\":3,\"no\":21,\"refused\":\"AlreadyOpened\",\"version\":1}\n{\"caller\":0,\"line\":4,\"ok\":\"taken\",\"version\":1}\n{\"caller\":0,\"claim\":{\"bound\":0,\"placements\":[],\"prices\":[],\"value\":0},\"line\":4,\"ok\":\"published\",\"version\":1}\n{\"caller\":0,\"line\":5,\"ok\":\"taken\",\"version\":2}\n{\"caller\":0,\"claim\":{\"bound\":0,\"placements\":[],\"prices\":[],\"value\":0},\"line\":5,\"ok\":\"published\",\"version\":2}\n";
+    let input =
+        "{\"do\":\"submit\",\"seconds\":1,\"value\":1,\"from\":0,\"to\":1}\n{\"do\":\"open\",\"now\":1,\"slice\":60,\"horizon\":1}\n{\"do\":\"open\",\"now\":0,\"slice\":300,\"horizon\":12}\n{\"do\":\"plan\"}\n{\"do\":\"plan\"}\n";
+    let want =
+        "{\"caller\":0,\"line\":1,\"no\":20,\"refused\":\"NotOpened\",\"version\":0}\n{\"caller\":0,\"line\":2,\"ok\":\"opened\",\"version\":0}\n{\"caller\":0,\"line\":3,\"no\":21,\"refused\":\"AlreadyOpened\",\"version\":1}\n{\"caller\":0,\"line\":4,\"ok\":\"taken\",\"version\":1}\n{\"caller\":0,\"claim\":{\"bound\":0,\"placements\":[],\"prices\":[],\"value\":0},\"line\":4,\"ok\":\"published\",\"version\":1}\n{\"caller\":0,\"line\":5,\"ok\":\"taken\",\"version\":2}\n{\"caller\":0,\"claim\":{\"bound\":0,\"placements\":[],\"prices\":[],\"value\":0},\"line\":5,\"ok\":\"published\",\"version\":2}\n";
     let (status, sink) = replies(&rt, rt.alloc(), input.as_bytes())?;
     assert_eq!(rt; status, Status::Done);
     assert!(rt; sink.bytes() == want.as_bytes());
@@ -113,8 +119,10 @@ fn other_lines_are_not_built(rt: HostRuntime) -> Result<(), Fail> {
 
 #[test]
 fn edges_of_the_forms_are_built(rt: HostRuntime) -> Result<(), Fail> {
-    let input = "{\"do\":\"open\",\"now\":253402300799,\"slice\":3600,\"horizon\":1440,\"more\":1.5}\n{\"do\":\"submit\",\"seconds\":86400,\"value\":288000000,\"from\":253402300798,\"to\":253402300799}\n{\"do\":\"plan\",\"do\":\"plan\"}\n";
-    let want = "{\"caller\":0,\"line\":1,\"ok\":\"opened\",\"version\":0}\n{\"caller\":0,\"group\":1,\"ipp_charged\":0,\"line\":2,\"ok\":\"submitted\",\"requests\":[1],\"version\":1}\n{\"caller\":0,\"line\":3,\"ok\":\"taken\",\"version\":2}\n{\"caller\":0,\"claim\":{\"bound\":288000000,\"placements\":[],\"prices\":[288000000],\"value\":0},\"line\":3,\"ok\":\"published\",\"version\":2}\n";
+    let input =
+        "{\"do\":\"open\",\"now\":253402300799,\"slice\":3600,\"horizon\":1440,\"more\":1.5}\n{\"do\":\"submit\",\"seconds\":86400,\"value\":288000000,\"from\":253402300798,\"to\":253402300799}\n{\"do\":\"plan\",\"do\":\"plan\"}\n";
+    let want =
+        "{\"caller\":0,\"line\":1,\"ok\":\"opened\",\"version\":0}\n{\"caller\":0,\"group\":1,\"ipp_charged\":0,\"line\":2,\"ok\":\"submitted\",\"requests\":[1],\"version\":1}\n{\"caller\":0,\"line\":3,\"ok\":\"taken\",\"version\":2}\n{\"caller\":0,\"claim\":{\"bound\":288000000,\"placements\":[],\"prices\":[288000000],\"value\":0},\"line\":3,\"ok\":\"published\",\"version\":2}\n";
     let (status, sink) = replies(&rt, rt.alloc(), input.as_bytes())?;
     assert_eq!(rt; status, Status::Done);
     assert!(rt; sink.bytes() == want.as_bytes());
@@ -124,7 +132,8 @@ fn edges_of_the_forms_are_built(rt: HostRuntime) -> Result<(), Fail> {
 #[test]
 fn lines_that_are_no_text_or_too_long_are_not_built(rt: HostRuntime) -> Result<(), Fail> {
     let alloc = rt.alloc();
-    let want = "{\"caller\":0,\"line\":1,\"no\":39,\"refused\":\"NotBuilt\",\"version\":0}\n{\"caller\":0,\"line\":2,\"no\":20,\"refused\":\"NotOpened\",\"version\":0}\n";
+    let want =
+        "{\"caller\":0,\"line\":1,\"no\":39,\"refused\":\"NotBuilt\",\"version\":0}\n{\"caller\":0,\"line\":2,\"no\":20,\"refused\":\"NotOpened\",\"version\":0}\n";
     let mut unread = vec![in alloc; 0xffu8, b'\n']?;
     unread.extend_from_slice(PLAN.as_bytes())?;
     let (status, sink) = replies(&rt, rt.alloc(), unread.as_slice())?;
@@ -159,7 +168,8 @@ fn desk_takes_512_submissions(rt: HostRuntime) -> Result<(), Fail> {
         input.push_str("{\"do\":\"submit\",\"seconds\":300,\"value\":1,\"from\":0,\"to\":3600}\n")?;
     }
     let (status, sink) = replies(&rt, rt.alloc(), input.as_bytes())?;
-    let last = "{\"caller\":0,\"group\":512,\"ipp_charged\":0,\"line\":513,\"ok\":\"submitted\",\"requests\":[512],\"version\":512}\n{\"caller\":0,\"line\":514,\"no\":39,\"refused\":\"NotBuilt\",\"version\":513}\n";
+    let last =
+        "{\"caller\":0,\"group\":512,\"ipp_charged\":0,\"line\":513,\"ok\":\"submitted\",\"requests\":[512],\"version\":512}\n{\"caller\":0,\"line\":514,\"no\":39,\"refused\":\"NotBuilt\",\"version\":513}\n";
     assert_eq!(rt; status, Status::Done);
     assert!(rt; sink.bytes().ends_with(last.as_bytes()));
     Ok(())
@@ -169,7 +179,10 @@ fn desk_takes_512_submissions(rt: HostRuntime) -> Result<(), Fail> {
 fn other_words_do_nothing(rt: HostRuntime) -> Result<(), Fail> {
     let alloc = rt.alloc();
     let one = vec![in alloc; String::from_str(alloc, "sessions")?]?;
-    let two = vec![in alloc; String::from_str(alloc, "session")?, String::from_str(alloc, "x")?]?;
+    let two = vec![in alloc;
+        String::from_str(alloc, "session")?,
+        String::from_str(alloc, "x")?,
+    ]?;
     for words in [Vec::new(alloc), one, two] {
         let mut source = SteadySource::new(Vec::from_slice(alloc, PLAN.as_bytes())?);
         let mut sink = SteadySink::new(alloc, 100)?;

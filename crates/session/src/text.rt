@@ -116,11 +116,7 @@ fn claim_value(alloc: Global, claim: &Claim) -> Result<Value, AllocError>
 }
 
 /// An entry that refuses its line.
-fn refusal_value(
-    alloc: Global,
-    entry: &EventEntry,
-    refusal: Refusal,
-) -> Result<Value, AllocError>
+fn refusal_value(alloc: Global, entry: &EventEntry, refusal: Refusal) -> Result<Value, AllocError>
     ensures { IfOk result (λ value. view value ≡ refusal_data entry.now refusal) }
 {
     let number = refusal.number();
@@ -207,9 +203,11 @@ fn entry_value(alloc: Global, entry: &EventEntry) -> Result<Value, AllocError>
 {
     match &entry.reply {
         Reply::Opened => plain_value(alloc, entry, "opened"),
-        Reply::Submitted { group, ipp_charged, requests } => {
-            submitted_value(alloc, entry, *group, *ipp_charged, requests.as_slice())
-        }
+        Reply::Submitted {
+            group,
+            ipp_charged,
+            requests,
+        } => { submitted_value(alloc, entry, *group, *ipp_charged, requests.as_slice()) }
         Reply::Taken => plain_value(alloc, entry, "taken"),
         Reply::Published(claim) => published_value(alloc, entry, claim),
         Reply::Refused(refusal) => refusal_value(alloc, entry, *refusal),

@@ -33,11 +33,11 @@ loop-index-preserved c =
     let first : IsFirstOn keys d.account (drop kept holds) c.first_on.result = subst (λ (l : List Hold). IsFirstOn keys d.account l c.first_on.result) (from_kept holds kept) c.first_on.ensures in
     let here : IsFirstOn keys (get_or now index d).account (drop kept holds) c.first_on.result = subst (λ (m : Amount). IsFirstOn keys m.account (drop kept holds) c.first_on.result) c.index.ensures first in
     elim c.match-first_on.branch [
-      in-Some w ↦
-        (let taken = lowers_take keys all holds now kept index c.loop-index.invariant within d w.in-Some.seconds (subst (λ (o : Option ℕ). IsFirstOn keys (get_or now index d).account (drop kept holds) o) w.in-Some.is here) in
-        let items : c.match-first_on.amounts.items ≡ set now kept record { account = (get_or now index d).account; seconds = w.in-Some.seconds } = ap (λ (v : Vec Amount Global). v.items) w.amounts-is ∙ ap (λ (m : Amount). set now kept record { account = m.account; seconds = w.in-Some.seconds }) c.index.ensures in
-        rw (items, w.kept-is) taken)
-    | in_default w ↦
-        (let skipped = lowers_skip keys all holds now kept index c.loop-index.invariant within d (subst (λ (o : Option ℕ). IsFirstOn keys (get_or now index d).account (drop kept holds) o) w.in_default.is here) in
-        rw (w.amounts-is, w.kept-is) skipped)
+      | in-Some w ↦
+          (let taken = lowers_take keys all holds now kept index c.loop-index.invariant within d w.in-Some.seconds (subst (λ (o : Option ℕ). IsFirstOn keys (get_or now index d).account (drop kept holds) o) w.in-Some.is here) in
+          let items : c.match-first_on.amounts.items ≡ set now kept record { account = (get_or now index d).account; seconds = w.in-Some.seconds } = ap (λ (v : Vec Amount Global). v.items) w.amounts-is ∙ ap (λ (m : Amount). set now kept record { account = m.account; seconds = w.in-Some.seconds }) c.index.ensures in
+          rw (items, w.kept-is) taken)
+      | in_default w ↦
+          (let skipped = lowers_skip keys all holds now kept index c.loop-index.invariant within d (subst (λ (o : Option ℕ). IsFirstOn keys (get_or now index d).account (drop kept holds) o) w.in_default.is here) in
+          rw (w.amounts-is, w.kept-is) skipped)
     ]

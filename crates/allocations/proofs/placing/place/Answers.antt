@@ -37,9 +37,9 @@ returns-in_err-ipp-clause-refused c =
     let any : Any (λ (k : Key). k.proposal ≡ proposal_of hs) s.keys = subst (λ (p : List ℕ). Any (λ (k : Key). k.proposal ≡ p) s.keys) (sym first) (c.knows.ensures.known.0 c.if-not-knows.false) in
     let knows : knows_proposal (freed_books s c.args.old).entries (proposal_of hs) ≡ true = knows_true s c.args.old (proposal_of hs) c.requires.granted any in
     rw (p.1, p.2) (λ ne.
-      let refused = c.in_err-ipp.ensures.refused ne in
-      asked_ipp (freed_books s c.args.old) hs c.args.ipp (Some c.in_err-ipp.field-0.0) knows c.in_ok-holds.ensures.given refused.0
-      (subst (λ (q : List ℕ). refusal_at (freed_books s c.args.old) record { key = ipp_key q; seconds = c.args.ipp } ≡ Some c.in_err-ipp.field-0.0) (sym first) refused.1))
+    let refused = c.in_err-ipp.ensures.refused ne in
+    asked_ipp (freed_books s c.args.old) hs c.args.ipp (Some c.in_err-ipp.field-0.0) knows c.in_ok-holds.ensures.given refused.0
+    (subst (λ (q : List ℕ). refusal_at (freed_books s c.args.old) record { key = ipp_key q; seconds = c.args.ipp } ≡ Some c.in_err-ipp.field-0.0) (sym first) refused.1))
 
 pub returns-clause-given : goal.returns-clause-given
 returns-clause-given c =
@@ -50,6 +50,6 @@ returns-clause-given c =
     let knows : knows_proposal (freed_books s c.args.old).entries (proposal_of hs) ≡ true = knows_true s c.args.old (proposal_of hs) c.requires.granted any in
     ⊎_elim
     (λ (l : 0 < c.args.ipp). asked_ipp (freed_books s c.args.old) hs c.args.ipp None knows c.in_ok-holds.ensures.given l
-      (subst (λ (q : List ℕ). refusal_at (freed_books s c.args.old) record { key = ipp_key q; seconds = c.args.ipp } ≡ None) (sym first) (c.in_ok-ipp.ensures.given l)))
+    (subst (λ (q : List ℕ). refusal_at (freed_books s c.args.old) record { key = ipp_key q; seconds = c.args.ipp } ≡ None) (sym first) (c.in_ok-ipp.ensures.given l)))
     (λ (l : c.args.ipp ≤ 0). asked_none (freed_books s c.args.old) hs c.args.ipp knows c.in_ok-holds.ensures.given l)
     (cases_lt 0 c.args.ipp)

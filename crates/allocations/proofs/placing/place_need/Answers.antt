@@ -46,5 +46,5 @@ returns-clause-stands c =
     let at = c.in-Ok.ensures.found in
     record {
       account = slice_get_within s.keys c.in-Ok.place c.args.key.now at;
-      hold = rw (get_or_from_slice_get s.keys c.in-Ok.place c.args.key.now no_key at) refl
+      hold = rw (get_or_from_slice_get s.keys c.in-Ok.place c.args.key.now no_key at) refl;
     }

@@ -19,8 +19,8 @@ returns-clause-full c =
     let P : LedgerFault → Type 0 = λ fault. fault ≢ NoMemory → (fault ≡ Full MOST_ACCOUNTS Accounts) × (Contains s.keys key → ⊥) × (MOST_ACCOUNTS ≤ length s.listed) in
     let Q : LedgerFault → Type 0 = λ fault. fault ≢ NoMemory → (fault ≡ Full MOST_ACCOUNTS Accounts) × IsFull MOST_ACCOUNTS (store_books s).entries key in
     rw (← c.self.view_is) (IfErr-weaker c.grant.result P Q
-      (λ fault h ne.
-        let f = h ne in
-        let many : length s.listed ≡ length (accounts_of (store_books s).entries) = ap (λ (l : List Key). length l) c.self.invariant.listed in
-        (f.0, record { new = unknown_granted s.keys s.postings key c.grant.ensures.sound.located f.1; many = omega (arith, many, f.2) }))
-      c.grant.ensures.full)
+    (λ fault h ne.
+    let f = h ne in
+    let many : length s.listed ≡ length (accounts_of (store_books s).entries) = ap (λ (l : List Key). length l) c.self.invariant.listed in
+    (f.0, record { new = unknown_granted s.keys s.postings key c.grant.ensures.sound.located f.1; many = omega (arith, many, f.2) }))
+    c.grant.ensures.full)

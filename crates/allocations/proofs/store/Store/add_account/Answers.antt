@@ -14,5 +14,5 @@ invariant_of-self-2 c =
     record {
       tied = rw (pushed, keys) (tied_add inside.register.keys inside.sums.items inside.postings.items inside.groups.items c.args.key.now c.self.invariant.tied (rw (← c.self.view_is) at c.requires.absent));
       grouped = rw keys (grouped_add inside.register.keys c.args.key.now inside.groups.items c.self.invariant.tied.placed c.self.invariant.grouped);
-      room = c.self.invariant.room
+      room = c.self.invariant.room;
     }

@@ -26,10 +26,10 @@ invariant_of-self c =
     let held : (i : ℕ) → i < length inside.register.keys → (get_or c.raise.new.sums i no_sums).held ≡ (get_or inside.sums.items i no_sums).held + amount_at i c.args.holds = λ i l. more i (omega (arith, t.lengths)) in
     let balance : (i : ℕ) → i < length inside.register.keys → (get_or c.raise.new.sums i no_sums).balance ≡ (get_or inside.sums.items i no_sums).balance = λ i l. same i (omega (arith, t.lengths)) in
     let tied = tied_set inside.register.keys inside.sums.items c.raise.new.sums inside.postings.items inside.groups.items j g t within (rw (← c.self.view_is) at c.requires.places, (t.placed j no_group within).1) lengths balance
-      (λ i l. let h = held i l in rw nothing (omega (arith, h)))
-      (λ i l. let h = held i l in let b = balance i l in let o = t.held i l in let d = t.balance i l in let r = room i l in omega (arith, h, b, o, d, r)) in
+    (λ i l. let h = held i l in rw nothing (omega (arith, h)))
+    (λ i l. let h = held i l in let b = balance i l in let o = t.held i l in let d = t.balance i l in let r = room i l in omega (arith, h, b, o, d, r)) in
     rw state record {
       tied = subst (λ (s : List Sums). Tied inside.register.keys s inside.postings.items (set inside.groups.items j g)) (sym (put_all inside.sums.len c.raise.new.sums inside.sums.items inside.sums.ok.0 lengths)) tied;
       grouped = grouped_set inside.register.keys inside.groups.items j g c.self.invariant.grouped refl (rw (← c.self.view_is) at c.requires.rising);
-      room = c.self.invariant.room
+      room = c.self.invariant.room;
     }

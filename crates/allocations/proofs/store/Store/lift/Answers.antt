@@ -29,5 +29,5 @@ invariant_of-self c =
     rw (state, emptied) record {
       tied = subst (λ (s : List Sums). Tied inside.register.keys s inside.postings.items (set inside.groups.items j g)) (sym (put_all inside.sums.len c.lower.new.sums inside.sums.items inside.sums.ok.0 lengths)) tied;
       grouped = grouped_set inside.register.keys inside.groups.items j g c.self.invariant.grouped refl (λ a b d l m. absurd (omega arith));
-      room = c.self.invariant.room
+      room = c.self.invariant.room;
     }

@@ -15,5 +15,5 @@ invariant_of-self c =
     record {
       tied = rw opened (tied_open inside.register.keys inside.sums.items inside.postings.items inside.groups.items c.args.index c.args.group c.self.invariant.tied);
       grouped = rw opened (grouped_open inside.register.keys inside.groups.items c.args.index c.args.group c.self.invariant.grouped (rw (← c.self.view_is) at c.requires.gap));
-      room = c.self.invariant.room
+      room = c.self.invariant.room;
     }

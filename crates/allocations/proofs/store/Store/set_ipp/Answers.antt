@@ -15,7 +15,7 @@ invariant_of-self c =
     rw state record {
       tied = tied_set inside.register.keys inside.sums.items inside.sums.items inside.postings.items inside.groups.items j g t within ((t.placed j no_group within).0, rw (← c.self.view_is) at c.requires.place) refl (λ i l. refl) (λ i l. refl) t.covered;
       grouped = grouped_set inside.register.keys inside.groups.items j g c.self.invariant.grouped refl (c.self.invariant.grouped.ordered j no_group within);
-      room = c.self.invariant.room
+      room = c.self.invariant.room;
     }
 
 pub returns-clause-sound : goal.returns-clause-sound
