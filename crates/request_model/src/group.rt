@@ -1,0 +1,32 @@
+// The request group.
+
+use crate::request::RequestDoc;
+use plan_base::{ListOf, Name, Op};
+
+/// How an observation is scheduled, the portal's `observation_type`.
+#[derive(Clone, Copy, Debug, PartialEq, Eq)]
+pub enum ObsKind {
+    /// `NORMAL`: whenever it fits best.
+    Normal,
+    /// `TIME_CRITICAL`: it has to be taken at its time.
+    TimeCritical,
+    /// `RAPID_RESPONSE`: as soon as it can be.
+    RapidResponse,
+}
+
+/// A request group, as its document has it.
+#[derive(Debug, Drop, PartialEq, Eq)]
+pub struct GroupDoc {
+    pub name: Name,
+    /// The proposal that is charged.
+    pub proposal: Name,
+    /// How the requests belong together.
+    pub op: Op,
+    pub kind: ObsKind,
+    /// The intra-proposal priority in thousandths, 500 to 2,000, of which 1,000 is neutral.
+    pub ipp: u16,
+    /// The priority, 1 to 100.
+    pub priority: u8,
+    /// 1 for `SINGLE`, 2 to 32 for the other operators.
+    pub requests: ListOf<RequestDoc>,
+}

@@ -1,0 +1,66 @@
+// The requests of a group, with where, when and how long to observe.
+
+use plan_base::{ListOf, Name, Sec, Span};
+
+/// Where a request may be observed: on telescopes of a class and, where they are named, at that site, in that
+/// enclosure, on that telescope.
+#[derive(Debug, Drop, PartialEq, Eq)]
+pub struct Location {
+    pub class: Name,
+    pub site: Option<Name>,
+    pub enclosure: Option<Name>,
+    pub telescope: Option<Name>,
+}
+
+/// Moments at an even distance, round each of which an observation is asked for: `start`, and from there every
+/// `period` seconds, before `end`.
+#[derive(Clone, Copy, Debug, PartialEq, Eq)]
+pub struct Cadence {
+    pub start: Sec,
+    pub end: Sec,
+    /// The seconds from one centre to the next, 0 to 15,552,000; there are no centres to speak of where it is 0.
+    pub period: u64,
+    /// The seconds that the window round a centre has, 0 to 15,552,000, half of them before the centre.
+    pub jitter: u64,
+}
+
+/// When a request may be observed.
+#[derive(Debug, Drop, PartialEq, Eq)]
+pub enum When {
+    /// Inside one of these, 1 to 32, each of which has a second.
+    Windows(ListOf<Span>),
+    /// Once round each centre.
+    Cadence(Cadence),
+}
+
+/// Exposures of one length, the portal's instrument configuration.
+#[derive(Clone, Copy, Debug, PartialEq, Eq)]
+pub struct Exposure {
+    /// How long each one is, 1 to 86,400,000 milliseconds.
+    pub ms: u32,
+    /// How many there are, 1 to 10,000.
+    pub count: u32,
+}
+
+/// What is taken of one target.
+#[derive(Debug, Drop, PartialEq, Eq)]
+pub struct ConfigDoc {
+    pub target: Name,
+    /// 1 to 16, taken in this order.
+    pub exposures: ListOf<Exposure>,
+}
+
+/// A request: one observation that is asked for, or with a cadence one round each centre.
+#[derive(Debug, Drop, PartialEq, Eq)]
+pub struct RequestDoc {
+    pub location: Location,
+    pub when: When,
+    /// The instrument type of all configurations.
+    pub instrument: Name,
+    /// 1 to 16, taken in this order.
+    pub configurations: ListOf<ConfigDoc>,
+    /// The least percent, 0 to 100, that has to be taken for the request to be completed.
+    pub threshold: u8,
+    /// The thousandths of the value, 0 to 1,000, that are lost with each slice of delay.
+    pub fade: u16,
+}

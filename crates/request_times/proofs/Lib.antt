@@ -1,0 +1,2 @@
+pub mod Centres
+pub mod Sound

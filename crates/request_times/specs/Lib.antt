@@ -1,0 +1,3 @@
+pub mod Duration
+pub mod Cadence
+pub mod Laws
