@@ -1,6 +1,6 @@
 // How long requests take.
 
-ghost use Rattle.std.specs.Prelude.{◌≡◌, ◌≤◌, ◌×◌, length, All, IfOk};
+ghost use Rattle.std.specs.Prelude.{◌≡◌, ◌≤◌, length, All, IfOk};
 ghost use Rattle.request_times.specs.Duration.{IsOverhead, IsShort, IsSmall, IsFew};
 
 use crate::{Instrument, TimeFault, seconds_of};
