@@ -1,0 +1,71 @@
+// Possible starts as a list that is kept as runs.
+
+ghost use Rattle.std.specs.Prelude.{◌≡◌, ◌≤◌, ◌<◌, length, HoldsAt};
+ghost use Rattle.snapshot_starts.specs.Runs.{AreRuns};
+
+use crate::run::Run;
+use plan_base::{Placement, SliceNo};
+use std::marker::Model;
+
+/// The most possible starts that are listed.
+pub const MOST_STARTS: u64 = 1_048_576;
+
+/// Possible starts in the order of request, telescope and slice. Contracts see the list of them; kept are their runs.
+#[derive(Debug, Drop)]
+pub struct Starts {
+    runs: Vec<Run>,
+    /// How many starts each run has together with those before it.
+    sums: Vec<u32>,
+}
+
+impl Model for Starts {
+    ghost use Rattle.std.specs.Prelude.{List};
+    ghost use Rattle.plan_base.specs.declared.claim.Placement.{Placement};
+    ghost use Rattle.snapshot_starts.specs.Runs.{starts_of};
+    ghost use Rattle.snapshot_starts.specs.Kept.{IsKept};
+
+    ghost Value = { List Placement };
+
+    ghost view = { λ a. starts_of a.runs.items };
+
+    ghost invariant = { λ a. IsKept a.runs.items a.sums.items };
+}
+
+impl Starts {
+    /// How many starts there are.
+    pub fn count(&self) -> usize
+        ensures count { result ≡ length self.now }
+        ensures most { result ≤ 1048576 }
+    {
+        match self.sums.last() {
+            Some(sum) => *sum as usize,
+            None => 0,
+        }
+    }
+
+    /// The start at a place of the list. It looks by halves for the run that has it.
+    pub fn at(&self, index: usize) -> Placement
+        requires { index < length self.now }
+        ensures { HoldsAt (λ start. start ≡ result) self.now index }
+    {
+        let place = self.sums.partition_point(|sum| (*sum as usize) <= index);
+        let before = if place == 0 {
+            0
+        } else {
+            self.sums[place - 1] as usize
+        };
+        let run = self.runs[place];
+        Placement {
+            request: run.request,
+            telescope: run.telescope,
+            slice: SliceNo(run.first.0 + (index - before) as u32),
+        }
+    }
+
+    /// The runs of the starts, in the order of request, telescope and slice.
+    pub fn runs(&self) -> &[Run]
+        ensures { AreRuns self.now result.now }
+    {
+        self.runs.as_slice()
+    }
+}
