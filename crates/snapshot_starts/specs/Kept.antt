@@ -7,15 +7,19 @@ use Rattle.snapshot_starts.specs.Runs.{IsRunBefore}
 abbrev pub count_of : List Run → ℕ
 count_of runs = sum_by (λ run. run.count) runs
 
+-- runs in order, few enough and in their ranges
+pub record CanKeep (runs : List Run) : Type 0 where
+  pub some : All (λ run. 0 < run.count) runs
+  pub slices : All (λ run. run.first.0 + run.count ≤ 2 ^ 32) runs
+  pub order : AllPairs IsRunBefore runs
+  pub few : count_of runs ≤ 1048576
+
 -- the sums count the starts of the runs from the first up to each
 pub record AreSums (runs : List Run) (sums : List ℕ) : Type 0 where
   pub count : length sums ≡ length runs
   pub each : (i : ℕ) → i < length runs → slice_index_or sums i 0 ≡ count_of (take (i + 1) runs)
 
--- runs in order, few enough and in their ranges, with their sums
-pub record IsKept (runs : List Run) (ends : List ℕ) : Type 0 where
-  pub some : All (λ run. 0 < run.count) runs
-  pub slices : All (λ run. run.first.0 + run.count ≤ 2 ^ 32) runs
-  pub order : AllPairs IsRunBefore runs
-  pub few : count_of runs ≤ 1048576
-  pub sums : AreSums runs ends
+-- the runs can be kept, and these are their sums
+pub record IsKept (runs : List Run) (sums : List ℕ) : Type 0 where
+  pub can_keep : CanKeep runs
+  pub are_sums : AreSums runs sums

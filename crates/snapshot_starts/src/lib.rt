@@ -3,9 +3,15 @@
 
 mod fault;
 mod find;
+mod found;
 mod list;
+mod observation;
+mod pair;
 mod possible;
 mod run;
+mod sky;
+mod slices;
+mod telescope;
 
 pub use fault::StartFault;
 pub use find::starts;

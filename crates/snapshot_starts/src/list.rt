@@ -1,10 +1,12 @@
 // Possible starts as a list that is kept as runs.
 
-ghost use Rattle.std.specs.Prelude.{◌≡◌, ◌≤◌, ◌<◌, length, HoldsAt};
-ghost use Rattle.snapshot_starts.specs.Runs.{AreRuns};
+ghost use Rattle.std.specs.Prelude.{◌≡◌, ◌≤◌, ◌<◌, length, HoldsAt, IfOk};
+ghost use Rattle.snapshot_starts.specs.Runs.{AreRuns, starts_of};
+ghost use Rattle.snapshot_starts.specs.Kept.{CanKeep, AreSums, count_of};
 
 use crate::run::Run;
 use plan_base::{Placement, SliceNo};
+use std::alloc::{AllocError, Global};
 use std::marker::Model;
 
 /// The most possible starts that are listed.
@@ -32,6 +34,15 @@ impl Model for Starts {
 }
 
 impl Starts {
+    /// The starts of runs that are in order.
+    pub(crate) fn from_runs(alloc: Global, runs: Vec<Run>) -> Result<Starts, AllocError>
+        requires { CanKeep runs.items }
+        ensures { IfOk result (λ starts. starts ≡ starts_of runs.items) }
+    {
+        let sums = sums_of(alloc, runs.as_slice())?;
+        Ok(Starts { runs, sums })
+    }
+
     /// How many starts there are.
     pub fn count(&self) -> usize
         ensures count { result ≡ length self.now }
@@ -68,4 +79,17 @@ impl Starts {
     {
         self.runs.as_slice()
     }
+}
+
+fn sums_of(alloc: Global, runs: &[Run]) -> Result<Vec<u32>, AllocError>
+    requires { count_of runs.now ≤ 1048576 }
+    ensures { IfOk result (λ sums. AreSums runs.now sums.items) }
+{
+    let mut sums = Vec::with_capacity(alloc, runs.len())?;
+    let mut sum = 0;
+    for run in runs {
+        sum += run.count;
+        sums.push(sum)?;
+    }
+    Ok(sums)
 }

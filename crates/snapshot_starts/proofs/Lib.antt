@@ -1,0 +1,5 @@
+pub mod Skies
+pub mod Begun
+pub mod Pairing
+pub mod Open
+pub mod Sets
