@@ -3,3 +3,4 @@ pub mod Begun
 pub mod Pairing
 pub mod Open
 pub mod Sets
+pub mod Narrowing

@@ -30,7 +30,7 @@ ceil_iff a b k pos =
     )
 
 pub floor_iff : (m b k : ℕ) → 0 < b → (k < m / b + 1) ↔ (k * b ≤ m)
-floor_iff m b k pos = let both = le-div_iff_mul-le {b} {k} {m} pos in (λ lt. both.0 (omega arith), λ le. let q : k ≤ m / b = both.1 le in omega arith)
+floor_iff m b k pos = let both = le-div_iff_mul-le {k = b} {x = k} {y = m} pos in (λ lt. both.0 (omega arith), λ le. let q : k ≤ m / b = both.1 le in omega arith)
 
 -- an element of one of the spans, and one of the list
 any_left : (P : Span → Type 0) (xs : List Span) (x : Span) → Any P xs → Any P (xs ++ x ∷ [])

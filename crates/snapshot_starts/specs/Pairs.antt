@@ -3,6 +3,7 @@ use Rattle.std.specs.Prelude.{◌≡◌, ℕ, ◌+◌, ◌*◌, ◌≤◌, ◌<�
 use Rattle.plan_base.specs.declared.parts.Parts.{Parts}
 use Rattle.plan_base.specs.declared.parts.RequestPart.{RequestPart}
 use Rattle.plan_base.specs.declared.parts.TelescopePart.{TelescopePart}
+use Rattle.plan_base.specs.declared.number.RequestNo.{RequestNo}
 use Rattle.plan_base.specs.declared.number.TelescopeNo.{TelescopeNo}
 use Rattle.plan_base.specs.declared.number.TargetNo.{TargetNo}
 use Rattle.plan_base.specs.declared.claim.Placement.{Placement}
@@ -35,11 +36,15 @@ pub record CanStart (s : Parts) (q : RequestPart) (t : TelescopeNo) (k : ℕ) : 
 abbrev pub pair_start : Pair → ℕ → Placement
 pair_start pair k = record { request = pair.request; telescope = pair.telescope; slice = record { 0 = k } }
 
--- a request with each of its telescopes
-abbrev pub pairs_of_request : RequestPart → List Pair
-pairs_of_request q = map (λ t. record { request = q.request; telescope = t }) q.telescopes
+-- the request on the telescope
+abbrev pub pair_of : RequestNo → TelescopeNo → Pair
+pair_of r t = record { request = r; telescope = t }
 
--- each request with each of its telescopes
+-- a request on each of its telescopes
+abbrev pub pairs_of_request : RequestPart → List Pair
+pairs_of_request q = map (pair_of q.request) q.telescopes
+
+-- each request on each of its telescopes
 abbrev pub pairs_of : Parts → List Pair
 pairs_of s = flat_map (λ x. pairs_of_request x.request) (listed s)
 

@@ -114,7 +114,8 @@ fn slices_under_all(
     site: SiteNo,
     slices: Spans,
 ) -> Result<Spans, AllocError>
-    requires { IsOrderly parts.now }
+    requires orderly { IsOrderly parts.now }
+    requires sorted { IsSortedApart slices }
     ensures { IfOk result (AreSlices (λ k. IsTrue (has slices k) × All (λ target. IsVisibleThrough parts.now target.0 site.0 (k * parts.now.len) (k * parts.now.len + seconds)) targets.now)) }
 {
     let mut left = slices;
