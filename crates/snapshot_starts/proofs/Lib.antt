@@ -4,3 +4,6 @@ pub mod Pairing
 pub mod Open
 pub mod Sets
 pub mod Narrowing
+pub mod InRuns
+pub mod RunOrder
+pub mod RunSums

@@ -23,3 +23,9 @@ pub record AreSums (runs : List Run) (sums : List ℕ) : Type 0 where
 pub record IsKept (runs : List Run) (sums : List ℕ) : Type 0 where
   pub can_keep : CanKeep runs
   pub are_sums : AreSums runs sums
+
+-- the numbers before place n are at most the bound, and those from it on are above it
+pub record IsCountUpTo (sums : List ℕ) (most n : ℕ) : Type 0 where
+  pub within : n ≤ length sums
+  pub up_to : (k : ℕ) → k < n → slice_index_or sums k 0 ≤ most
+  pub above : (k : ℕ) → n ≤ k → k < length sums → most < slice_index_or sums k 0

@@ -1,8 +1,9 @@
 // Possible starts as a list that is kept as runs.
 
-ghost use Rattle.std.specs.Prelude.{◌≡◌, ◌≤◌, ◌<◌, length, HoldsAt, IfOk};
+ghost use Rattle.std.specs.Prelude.{◌≡◌, ◌≤◌, ◌<◌, ◌∷◌, length, slice_index_or, HoldsAt, IfOk};
+ghost use Rattle.std.specs.List.Sorted.{IsNonDecreasingBy};
 ghost use Rattle.snapshot_starts.specs.Runs.{AreRuns, starts_of};
-ghost use Rattle.snapshot_starts.specs.Kept.{CanKeep, AreSums, count_of};
+ghost use Rattle.snapshot_starts.specs.Kept.{CanKeep, AreSums, IsCountUpTo, count_of};
 
 use crate::run::Run;
 use plan_base::{Placement, SliceNo};
@@ -59,17 +60,14 @@ impl Starts {
         requires { index < length self.now }
         ensures { HoldsAt (λ start. start ≡ result) self.now index }
     {
-        let place = self.sums.partition_point(|sum| (*sum as usize) <= index);
-        let before = if place == 0 {
-            0
-        } else {
-            self.sums[place - 1] as usize
-        };
+        let sums = self.sums.as_slice();
+        let place = count_up_to(sums, index);
         let run = self.runs[place];
+        let offset = index - sum_before(sums, place);
         Placement {
             request: run.request,
             telescope: run.telescope,
-            slice: SliceNo(run.first.0 + (index - before) as u32),
+            slice: SliceNo(run.first.0 + offset as u32),
         }
     }
 
@@ -92,4 +90,23 @@ fn sums_of(alloc: Global, runs: &[Run]) -> Result<Vec<u32>, AllocError>
         sums.push(sum)?;
     }
     Ok(sums)
+}
+
+/// How many of the sums, which rise, are at most a number.
+fn count_up_to(sums: &[u32], most: usize) -> usize
+    requires { IsNonDecreasingBy (λ sum. sum) sums.now }
+    ensures { IsCountUpTo sums.now most result }
+{
+    sums.partition_point(|sum| (*sum as usize) <= most)
+}
+
+/// The sum at the place before this one, or 0 before all.
+fn sum_before(sums: &[u32], place: usize) -> usize
+    requires { place ≤ length sums.now }
+    ensures { result ≡ slice_index_or (0 ∷ sums.now) place 0 }
+{
+    if place == 0 {
+        return 0;
+    }
+    sums[place - 1] as usize
 }
