@@ -7,3 +7,5 @@ pub mod Narrowing
 pub mod InRuns
 pub mod RunOrder
 pub mod RunSums
+pub mod FoundPairs
+pub mod FoundRuns

@@ -50,7 +50,8 @@ pub record StandsIn (runs : List Run) (index place before : ℕ) : Type 0 where
 before_is : (runs : List Run) (sums : List ℕ) (place : ℕ) → AreSums runs sums → place ≤ length sums → slice_index_or (0 ∷ sums) place 0 ≡ count_of (take place runs)
 before_is runs sums zero are le = refl
 before_is runs sums (suc place) are le =
-    let e : take (place + 1) runs ≡ take (suc place) runs = ap (λ (n : ℕ). take n runs) (omega arith) in
+    let same : place + 1 ≡ suc place = omega arith in
+    let e : take (place + 1) runs ≡ take (suc place) runs = ap (λ (n : ℕ). take n runs) same in
     sum_at runs sums place 0 are (omega arith) ∙ ap count_of e
 
 begun_before : (sums : List ℕ) (index place : ℕ) → IsCountUpTo sums index place → slice_index_or (0 ∷ sums) place 0 ≤ index
@@ -112,3 +113,23 @@ slice_fits runs index place before run can stands at =
     let past : index - before < (slice_index_or runs place run).count = stands.not_past run in
     let first : run.first.0 ≡ (slice_index_or runs place run).first.0 = ap (λ (r : Run). r.first.0) at in
     omega arith
+
+-- the same as a look-up reads it
+pub stands_at : (runs : List Run) (sums read : List ℕ) (starts : List Placement) (index place before : ℕ) → AreSums runs sums → read ≡ sums → starts_of runs ≡ starts → IsCountUpTo read index place
+    → index < length starts → before ≡ slice_index_or (0 ∷ read) place 0 → StandsIn runs index place before
+stands_at runs sums read starts index place before are same whole up l e =
+    let below : index < length (starts_of runs) = subst (λ (xs : List Placement). index < length xs) (sym whole) l in
+    let here : StandsIn runs index place (slice_index_or (0 ∷ sums) place 0) = stands_in runs sums index place are (subst (λ (xs : List ℕ). IsCountUpTo xs index place) same up) below in
+    subst (StandsIn runs index place) (sym (e ∙ ap (λ (xs : List ℕ). slice_index_or (0 ∷ xs) place 0) same)) here
+
+-- the sum before the end counts all
+pub sum_of_all : (runs : List Run) (sums read : List ℕ) (starts : List Placement) (n : ℕ) → AreSums runs sums → read ≡ sums → starts_of runs ≡ starts → n ≡ slice_index_or (0 ∷ read) (length read) 0
+    → (n ≡ length starts) × (n ≡ count_of runs)
+sum_of_all runs sums read starts n are same whole e =
+    let count : length sums ≡ length runs = are.count in
+    let read_count : length read ≡ length sums = ap (λ (xs : List ℕ). length xs) same in
+    let first : n ≡ slice_index_or (0 ∷ sums) (length sums) 0 = e ∙ ap (λ (xs : List ℕ). slice_index_or (0 ∷ xs) (length xs) 0) same in
+    let all : n ≡ count_of runs = first ∙ before_is runs sums (length sums) are (omega arith) ∙ ap count_of (take_all (length sums) runs (omega arith)) in
+    let counted : length (starts_of runs) ≡ count_of runs = length_of_starts runs in
+    let listed : length (starts_of runs) ≡ length starts = ap (λ (xs : List Placement). length xs) whole in
+    (omega arith, all)

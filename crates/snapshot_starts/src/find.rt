@@ -25,6 +25,7 @@ pub fn starts<R: Threads + Sync>(
     ensures ok { IfOk result (λ starts. AreAllStarts snapshot.now starts) }
     ensures err { IfErr result (λ fault. IsCauseOf snapshot.now fault) }
 {
+    let _ = snapshot.parts();
     let found = find_all(rt, alloc, snapshot)?;
     let count = count_starts(found.as_slice());
     if count > MOST_STARTS {

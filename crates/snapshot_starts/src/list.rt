@@ -49,10 +49,8 @@ impl Starts {
         ensures count { result ≡ length self.now }
         ensures most { result ≤ 1048576 }
     {
-        match self.sums.last() {
-            Some(sum) => *sum as usize,
-            None => 0,
-        }
+        let sums = self.sums.as_slice();
+        sum_before(sums, sums.len())
     }
 
     /// The start at a place of the list. It looks by halves for the run that has it.

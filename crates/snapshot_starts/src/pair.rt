@@ -55,12 +55,11 @@ pub(crate) fn slices_of_pair(
     ensures slices { IfOk result (ArePairSlices snapshot.now) }
 {
     let parts = snapshot.parts();
-    let slices = match snapshot.place_of(pair.request) {
-        Some(place) => {
-            let request = snapshot.request_at(place);
-            start_slices(alloc, parts, request, pair.telescope)?
-        }
-        None => Spans::empty(alloc),
+    let Some(place) = snapshot.place_of(pair.request) else {
+        let slices = Spans::empty(alloc);
+        return Ok(PairSlices { pair, slices });
     };
+    let request = snapshot.request_at(place);
+    let slices = start_slices(alloc, parts, request, pair.telescope)?;
     Ok(PairSlices { pair, slices })
 }

@@ -1,0 +1,35 @@
+use Rattle.std.proofs.Common.{◌≡◌, sym, ◌∙◌, ap, subst, arith, List}
+use Rattle.std.specs.Prelude.{sum_by}
+use Rattle.std.proofs.lemmas.Result.{IfOk-weaker}
+use Rattle.plan_base.specs.declared.claim.Placement.{Placement}
+use Rattle.snapshot_starts.specs.declared.run.Run.{Run}
+use Rattle.snapshot_starts.specs.declared.pair.PairSlices.{PairSlices}
+use Rattle.snapshot_starts.specs.Found.{AreFew, AreRunSpans, slice_count, runs_of}
+use Rattle.snapshot_starts.specs.Kept.{CanKeep}
+use Rattle.snapshot_starts.specs.Runs.{AreAllStarts, starts_of}
+use Rattle.snapshot_starts.proofs.FoundRuns.{are_few, run_spans, can_keep, start_count, all_found}
+use Rattle.snapshot_starts.proofs.find.starts.Goals as goal
+
+pub count_starts-count-requires : goal.count_starts-count-requires
+count_starts-count-requires g c = subst AreFew (sym c.as_slice.ensures.value) (are_few c.args.snapshot.now c.in_ok-found.found.items c.parts.ensures.orderly c.in_ok-found.ensures)
+
+pub returns-then-count-gt-MOST_STARTS-clause-err : goal.returns-then-count-gt-MOST_STARTS-clause-err
+returns-then-count-gt-MOST_STARTS-clause-err g c = (
+  c.if-count-gt-MOST_STARTS.true,
+  start_count c.args.snapshot.now c.in_ok-found.found.items _ c.parts.ensures.orderly c.in_ok-found.ensures
+  (c.count_starts-count.ensures ∙ ap (λ (found : List PairSlices). sum_by (λ x. slice_count x.slices) found) c.as_slice.ensures.value),
+)
+
+pub runs_of-requires : goal.runs_of-requires
+runs_of-requires g c = subst AreRunSpans (sym c.as_slice-2.ensures.value) (run_spans c.args.snapshot.now c.in_ok-found.found.items c.parts.ensures.orderly c.in_ok-found.ensures)
+
+pub from_runs-requires : goal.from_runs-requires
+from_runs-requires g c =
+    subst CanKeep (sym (c.in_ok-runs.ensures ∙ ap runs_of c.as_slice-2.ensures.value))
+    (can_keep c.args.snapshot.now c.in_ok-found.found.items c.count_starts-count.result c.parts.ensures.orderly c.in_ok-found.ensures
+    (c.count_starts-count.ensures ∙ ap (λ (found : List PairSlices). sum_by (λ x. slice_count x.slices) found) c.as_slice.ensures.value) c.if-count-gt-MOST_STARTS.false)
+
+pub returns-clause-ok : goal.returns-clause-ok
+returns-clause-ok g c =
+    let whole = c.in_ok-runs.ensures ∙ ap runs_of c.as_slice-2.ensures.value in
+    ?
