@@ -51,8 +51,8 @@ has_in : (spans : List Span) (w : Span) (k : ℕ) → Contains spans w → w.fro
 has_in spans w k (i, l, e) from to = list_any-from_Any (λ v. span_has v k) spans (i, w, l, e, grind (arith, nat_tests))
 
 in_of_has : (spans : List Span) (k : ℕ) → IsTrue (has spans k) → (w : Span) × Contains spans w × (w.from.0 ≤ k) × (k < w.to.0)
-in_of_has spans k yes =
-    let any = Any-from_list_any (λ v. span_has v k) spans yes in
+in_of_has spans k is_in =
+    let any = Any-from_list_any (λ v. span_has v k) spans is_in in
     let here : span_has any.1 k ≡ true = any.4 in
     (any.1, (any.0, any.2, any.3), grind (arith, nat_tests), grind (arith, nat_tests))
 
@@ -112,11 +112,12 @@ are_few s found o are =
 
 -- ---- the runs in order
 
+apart_runs : (pair : Pair) (v w : Span) → v.from.0 < v.to.0 → v.to.0 < w.from.0 → IsRunBefore (run_of pair v) (run_of pair w)
+apart_runs pair v w some gap = inr (refl, inr (refl, omega arith))
+
 runs_of_pair_in_order : (pair : Pair) (spans : List Span) → IsSortedApart spans → AllPairs IsRunBefore (map (run_of pair) spans)
-runs_of_pair_in_order pair spans sorted = AllPairs-map IsRunBefore (run_of pair) spans (λ i j d l m.
-let gap : (slice_index_or spans i d).to.0 < (slice_index_or spans j d).from.0 = sorted.apart i j d l m in
-let some : (slice_index_or spans i d).from.0 < (slice_index_or spans i d).to.0 = sorted.nonempty i d (omega arith) in
-inr (refl, inr (refl, omega arith)))
+runs_of_pair_in_order pair spans sorted =
+    AllPairs-map IsRunBefore (run_of pair) spans (λ i j d l m. apart_runs pair (slice_index_or spans i d) (slice_index_or spans j d) (sorted.nonempty i d (omega arith)) (sorted.apart i j d l m))
 
 across_made : (p q : Pair) (v w : Span) (a b : Run) → run_of p v ≡ a → run_of q w ≡ b → IsPairBefore p q → IsRunBefore a b
 across_made p q v w a b e f (inl less) =

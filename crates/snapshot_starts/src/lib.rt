@@ -12,6 +12,8 @@ mod run;
 mod sky;
 mod slices;
 mod telescope;
+#[cfg(test)]
+mod tests;
 
 pub use fault::StartFault;
 pub use find::starts;

@@ -17,7 +17,7 @@ pub returns-then-count-gt-MOST_STARTS-clause-err : goal.returns-then-count-gt-MO
 returns-then-count-gt-MOST_STARTS-clause-err g c = (
   c.if-count-gt-MOST_STARTS.true,
   start_count c.args.snapshot.now c.in_ok-found.found.items _ c.parts.ensures.orderly c.in_ok-found.ensures
-  (c.count_starts-count.ensures ∙ ap (λ (found : List PairSlices). sum_by (λ x. slice_count x.slices) found) c.as_slice.ensures.value),
+      (c.count_starts-count.ensures ∙ ap (λ (found : List PairSlices). sum_by (λ x. slice_count x.slices) found) c.as_slice.ensures.value),
 )
 
 pub runs_of-requires : goal.runs_of-requires
@@ -32,4 +32,4 @@ from_runs-requires g c =
 pub returns-clause-ok : goal.returns-clause-ok
 returns-clause-ok g c =
     let whole = c.in_ok-runs.ensures ∙ ap runs_of c.as_slice-2.ensures.value in
-    ?
+    subst (AreAllStarts c.args.snapshot.now) (sym (c.in_ok-from_runs.ensures ∙ ap starts_of whole)) (all_found c.args.snapshot.now c.in_ok-found.found.items c.parts.ensures.orderly c.in_ok-found.ensures)
