@@ -1,6 +1,6 @@
 // All possible starts of a snapshot.
 
-ghost use Rattle.std.specs.Prelude.{IfOk, IfErr};
+ghost use Rattle.std.specs.Prelude.{◌≤◌, length, IfOk, IfErr};
 ghost use Rattle.std.specs.List.{AllZip};
 ghost use Rattle.snapshot_starts.specs.Runs.{AreAllStarts, IsCauseOf};
 ghost use Rattle.snapshot_starts.specs.Found.{IsFoundFor, AreFound};
@@ -23,6 +23,7 @@ pub fn starts<R: Threads + Sync>(
     snapshot: &Snapshot,
 ) -> Result<Starts, StartFault>
     ensures ok { IfOk result (λ starts. AreAllStarts snapshot.now starts) }
+    ensures few { IfOk result (λ starts. length starts ≤ 1048576) }
     ensures err { IfErr result (λ fault. IsCauseOf snapshot.now fault) }
 {
     let _ = snapshot.parts();

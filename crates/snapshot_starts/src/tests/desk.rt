@@ -50,11 +50,11 @@ pub fn span(from: u64, to: u64) -> Span {
     }
 }
 
-pub fn dish(site: u16, usable: &[Span]) -> Dish {
+pub fn dish_at(site: u16, usable: &[Span]) -> Dish {
     Dish { site, usable }
 }
 
-pub fn view(target: u16, site: u16, spans: &[Span]) -> View {
+pub fn view_of(target: u16, site: u16, spans: &[Span]) -> View {
     View {
         target,
         site,
@@ -62,7 +62,7 @@ pub fn view(target: u16, site: u16, spans: &[Span]) -> View {
     }
 }
 
-pub fn wish<'a>(
+pub fn wish_for<'a>(
     seconds: u32,
     windows: &'a [Span],
     telescopes: &'a [TelescopeNo],

@@ -1,6 +1,6 @@
 // A plain program that tests each second of each slice, beside which the starts of pseudo-random desks are held.
 
-use super::desk::{Desk, dish, snapshot_of, span, view, wish};
+use super::desk::{Desk, dish_at, snapshot_of, span, view_of, wish_for};
 use crate::{Starts, is_possible, starts};
 use plan_base::{
     Parts, Placement, RequestPart, SliceNo, Snapshot, Span, TargetNo, TelescopeNo, TelescopePart,
@@ -125,15 +125,21 @@ fn assert_same(rt: &impl Abort, listed: &Starts, plain: &[Placement]) {
     }
 }
 
-fn check_desk<R: Threads + Sync + Abort>(rt: &R, alloc: Global, desk: &Desk) -> Result<(), Fail> {
+/// How many starts the desk has, which are those of the plain program.
+fn check_desk<R: Threads + Sync + Abort>(
+    rt: &R,
+    alloc: Global,
+    desk: &Desk,
+) -> Result<usize, Fail> {
     let snapshot = snapshot_of(rt, alloc, desk)?;
     let plain = plain_starts(rt, alloc, &snapshot)?;
     let listed = starts(rt, alloc, &snapshot)?;
     assert_same(rt, &listed, plain.as_slice());
-    Ok(())
+    Ok(plain.len())
 }
 
 /// Numbers that look random: a linear congruential generator.
+#[derive(Drop)]
 struct Random {
     state: u64,
 }
@@ -182,18 +188,19 @@ fn check_random<R: Threads + Sync + Abort>(
     rt: &R,
     alloc: Global,
     lists: &[Vec<Span>],
-) -> Result<(), Fail> {
+) -> Result<usize, Fail> {
     let both = [TelescopeNo(0), TelescopeNo(1)];
-    let dishes = [dish(0, pick(lists, 0)), dish(1, pick(lists, 1))];
+    let dishes = [dish_at(0, pick(lists, 0)), dish_at(1, pick(lists, 1))];
     let views = [
-        view(0, 0, pick(lists, 2)),
-        view(0, 1, pick(lists, 3)),
-        view(1, 0, pick(lists, 4)),
+        view_of(0, 0, pick(lists, 2)),
+        view_of(0, 1, pick(lists, 3)),
+        view_of(1, 0, pick(lists, 4)),
     ];
+    let targets = [TargetNo(0), TargetNo(1)];
     let wishes = [
-        wish(60, pick(lists, 5), &both, &[TargetNo(0)]),
-        wish(90, pick(lists, 6), &both, &[TargetNo(0), TargetNo(1)]),
-        wish(130, pick(lists, 7), &both, &[]),
+        wish_for(60, pick(lists, 5), &both, &targets[..1]),
+        wish_for(90, pick(lists, 6), &both, &targets),
+        wish_for(130, pick(lists, 7), &both, &[]),
     ];
     let desk = Desk {
         len: 60,
@@ -208,9 +215,12 @@ fn check_random<R: Threads + Sync + Abort>(
 
 #[test]
 fn starts_are_those_of_a_plain_program(rt: HostRuntime) -> Result<(), Fail> {
+    let mut with_starts = 0u32;
     for seed in 0..40u64 {
         let lists = random_lists(rt.alloc(), seed)?;
-        check_random(&rt, rt.alloc(), lists.as_slice())?;
+        let count = check_random(&rt, rt.alloc(), lists.as_slice())?;
+        with_starts = with_starts.saturating_add(u32::from(count > 0));
     }
+    assert!(rt; with_starts > 20);
     Ok(())
 }

@@ -1,6 +1,6 @@
 // Runs and counts that were worked out by hand.
 
-use super::desk::{Desk, Dish, View, Wish, dish, snapshot_of, span, view, wish};
+use super::desk::{Desk, Dish, View, Wish, dish_at, snapshot_of, span, view_of, wish_for};
 use crate::{Run, StartFault, is_possible, starts};
 use plan_base::{Placement, RequestNo, SliceNo, Span, TargetNo, TelescopeNo};
 use std::alloc::{AllocError, Global};
@@ -37,7 +37,8 @@ fn check_runs<R: Threads + Sync + Abort>(
         wishes: &[wish],
     };
     let snapshot = snapshot_of(rt, alloc, &desk)?;
-    assert_eq!(rt; starts(rt, alloc, &snapshot)?.runs(), runs);
+    let list = starts(rt, alloc, &snapshot)?;
+    assert_eq!(rt; list.runs(), runs);
     Ok(())
 }
 
@@ -50,9 +51,10 @@ const ONE: [TelescopeNo; 1] = [TelescopeNo(0)];
 
 #[test]
 fn a_closure_cuts_a_run_in_two(rt: HostRuntime) -> Result<(), Fail> {
-    let closed = [dish(0, &[span(0, 900), span(1800, 3600)])];
-    let reopened = [dish(0, &NIGHT)];
-    let request = wish(600, &NIGHT, &ONE, &[]);
+    let around = [span(0, 900), span(1800, 3600)];
+    let closed = [dish_at(0, &around)];
+    let reopened = [dish_at(0, &NIGHT)];
+    let request = wish_for(600, &NIGHT, &ONE, &[]);
     let alloc = rt.alloc();
     check_runs(
         &rt,
@@ -68,10 +70,10 @@ fn a_closure_cuts_a_run_in_two(rt: HostRuntime) -> Result<(), Fail> {
 
 #[test]
 fn an_observation_lies_in_one_window(rt: HostRuntime) -> Result<(), Fail> {
-    let night = [dish(0, &NIGHT)];
+    let night = [dish_at(0, &NIGHT)];
     let touching = [span(0, 300), span(300, 600)];
-    let long = wish(600, &touching, &ONE, &[]);
-    let short = wish(300, &touching, &ONE, &[]);
+    let long = wish_for(600, &touching, &ONE, &[]);
+    let short = wish_for(300, &touching, &ONE, &[]);
     let alloc = rt.alloc();
     check_runs(&rt, alloc, 12, &night, &[], long, &[])?;
     check_runs(&rt, alloc, 12, &night, &[], short, &[run(0, 0, 2)])
@@ -79,8 +81,8 @@ fn an_observation_lies_in_one_window(rt: HostRuntime) -> Result<(), Fail> {
 
 #[test]
 fn a_part_of_a_slice_is_a_slice(rt: HostRuntime) -> Result<(), Fail> {
-    let night = [dish(0, &NIGHT)];
-    let request = wish(301, &NIGHT, &ONE, &[]);
+    let night = [dish_at(0, &NIGHT)];
+    let request = wish_for(301, &NIGHT, &ONE, &[]);
     let alloc = rt.alloc();
     check_runs(&rt, alloc, 1, &night, &[], request, &[])?;
     check_runs(&rt, alloc, 3, &night, &[], request, &[run(0, 0, 2)])
@@ -88,10 +90,12 @@ fn a_part_of_a_slice_is_a_slice(rt: HostRuntime) -> Result<(), Fail> {
 
 #[test]
 fn a_target_without_a_sky_is_never_visible(rt: HostRuntime) -> Result<(), Fail> {
-    let dishes = [dish(0, &NIGHT), dish(1, &NIGHT)];
-    let views = [view(7, 1, &[span(600, 1500)])];
+    let dishes = [dish_at(0, &NIGHT), dish_at(1, &NIGHT)];
+    let seen = [span(600, 1500)];
+    let views = [view_of(7, 1, &seen)];
     let both = [TelescopeNo(0), TelescopeNo(1)];
-    let request = wish(300, &NIGHT, &both, &[TargetNo(7)]);
+    let targets = [TargetNo(7)];
+    let request = wish_for(300, &NIGHT, &both, &targets);
     check_runs(
         &rt,
         rt.alloc(),
@@ -131,8 +135,8 @@ const WHOLE: [Span; 1] = [Span {
 #[test]
 fn too_many_starts_are_counted(rt: HostRuntime) -> Result<(), Fail> {
     let telescopes = all_telescopes(rt.alloc())?;
-    let dishes = [dish(0, &WHOLE); 32];
-    let wishes = [wish(300, &WHOLE, telescopes.as_slice(), &[]); 23];
+    let dishes = [dish_at(0, &WHOLE); 32];
+    let wishes = [wish_for(300, &WHOLE, telescopes.as_slice(), &[]); 23];
     let snapshot = snapshot_of(&rt, rt.alloc(), &full_desk(&dishes, &wishes))?;
     let answer = starts(&rt, rt.alloc(), &snapshot);
     assert!(rt; matches!(answer, Err(StartFault::TooManyStarts { count: 1_059_840 })));
@@ -150,8 +154,8 @@ fn placement(request: u32, telescope: u16, slice: u32) -> Placement {
 #[test]
 fn as_many_starts_as_there_may_be_are_listed(rt: HostRuntime) -> Result<(), Fail> {
     let telescopes = all_telescopes(rt.alloc())?;
-    let dishes = [dish(0, &WHOLE); 32];
-    let wishes = [wish(300, &WHOLE, telescopes.as_slice(), &[]); 22];
+    let dishes = [dish_at(0, &WHOLE); 32];
+    let wishes = [wish_for(300, &WHOLE, telescopes.as_slice(), &[]); 22];
     let snapshot = snapshot_of(&rt, rt.alloc(), &full_desk(&dishes, &wishes))?;
     let list = starts(&rt, rt.alloc(), &snapshot)?;
     assert_eq!(rt; list.count(), 1_013_760);
