@@ -1,5 +1,4 @@
-// Possible starts of small desks, worked out by hand, and of others beside a plain program.
+// Possible starts of small desks, worked out by hand.
 
 mod desk;
-mod plain;
 mod rows;
