@@ -1,0 +1,11 @@
+pub mod Skies
+pub mod Begun
+pub mod Pairing
+pub mod Open
+pub mod Sets
+pub mod Narrowing
+pub mod InRuns
+pub mod RunOrder
+pub mod RunSums
+pub mod FoundPairs
+pub mod FoundRuns

@@ -1,0 +1,31 @@
+-- What a list of starts keeps.
+use Rattle.std.specs.Prelude.{◌≡◌, ℕ, ◌+◌, ◌^◌, ◌≤◌, ◌<◌, List, length, take, slice_index_or, All, AllPairs, sum_by}
+use Rattle.snapshot_starts.specs.declared.run.Run.{Run}
+use Rattle.snapshot_starts.specs.Runs.{IsRunBefore}
+
+-- how many starts the runs have
+abbrev pub count_of : List Run → ℕ
+count_of runs = sum_by (λ run. run.count) runs
+
+-- runs in order, few enough and in their ranges
+pub record CanKeep (runs : List Run) : Type 0 where
+  pub some : All (λ run. 0 < run.count) runs
+  pub slices : All (λ run. run.first.0 + run.count ≤ 2 ^ 32) runs
+  pub order : AllPairs IsRunBefore runs
+  pub few : count_of runs ≤ 1048576
+
+-- the sums count the starts of the runs from the first up to each
+pub record AreSums (runs : List Run) (sums : List ℕ) : Type 0 where
+  pub count : length sums ≡ length runs
+  pub each : (i : ℕ) → i < length runs → slice_index_or sums i 0 ≡ count_of (take (i + 1) runs)
+
+-- the runs can be kept, and these are their sums
+pub record IsKept (runs : List Run) (sums : List ℕ) : Type 0 where
+  pub can_keep : CanKeep runs
+  pub are_sums : AreSums runs sums
+
+-- the numbers before place n are at most the bound, and those from it on are above it
+pub record IsCountUpTo (sums : List ℕ) (most n : ℕ) : Type 0 where
+  pub within : n ≤ length sums
+  pub up_to : (k : ℕ) → k < n → slice_index_or sums k 0 ≤ most
+  pub above : (k : ℕ) → n ≤ k → k < length sums → most < slice_index_or sums k 0

@@ -1,0 +1,6 @@
+pub mod Runs
+pub mod Kept
+pub mod Skies
+pub mod Pairs
+pub mod Slices
+pub mod Found

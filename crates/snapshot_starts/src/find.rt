@@ -1,0 +1,67 @@
+// All possible starts of a snapshot.
+
+ghost use Rattle.std.specs.Prelude.{◌≤◌, length, IfOk, IfErr};
+ghost use Rattle.std.specs.List.{AllZip};
+ghost use Rattle.snapshot_starts.specs.Runs.{AreAllStarts, IsCauseOf};
+ghost use Rattle.snapshot_starts.specs.Found.{IsFoundFor, AreFound};
+
+use crate::fault::StartFault;
+use crate::found::{count_starts, runs_of};
+use crate::list::{MOST_STARTS, Starts};
+use crate::pair::{Pair, PairSlices, pairs_of, slices_of_pair};
+use plan_base::Snapshot;
+use rayon::prelude::*;
+use std::alloc::{AllocError, Global};
+use std::thread::Threads;
+
+/// All possible starts of a snapshot, each once, in the order of request, telescope and slice. It costs each request
+/// on each of its telescopes the spans of its windows, of the telescope and of the skies of its targets, but no step
+/// for each slice.
+pub fn starts<R: Threads + Sync>(
+    rt: &R,
+    alloc: Global,
+    snapshot: &Snapshot,
+) -> Result<Starts, StartFault>
+    ensures ok { IfOk result (λ starts. AreAllStarts snapshot.now starts) }
+    ensures few { IfOk result (λ starts. length starts ≤ 1048576) }
+    ensures err { IfErr result (λ fault. IsCauseOf snapshot.now fault) }
+{
+    let _ = snapshot.parts();
+    let found = find_all(rt, alloc, snapshot)?;
+    let count = count_starts(found.as_slice());
+    if count > MOST_STARTS {
+        return Err(StartFault::TooManyStarts { count });
+    }
+    let runs = runs_of(alloc, found.as_slice())?;
+    Ok(Starts::from_runs(alloc, runs)?)
+}
+
+/// The slices at which each pair has a possible start.
+fn find_all<R: Threads + Sync>(
+    rt: &R,
+    alloc: Global,
+    snapshot: &Snapshot,
+) -> Result<Vec<PairSlices>, AllocError>
+    ensures { IfOk result (λ found. AreFound snapshot.now found.items) }
+{
+    let pairs = pairs_of(alloc, snapshot)?;
+    find_for(rt, alloc, snapshot, pairs.as_slice())?
+}
+
+fn find_for<R: Threads + Sync>(
+    rt: &R,
+    alloc: Global,
+    snapshot: &Snapshot,
+    pairs: &[Pair],
+) -> Result<Result<Vec<PairSlices>, AllocError>, AllocError>
+    ensures { IfOk result (λ answer. IfOk answer (λ found. AllZip (IsFoundFor snapshot.now) pairs.now found.items)) }
+{
+    pairs
+        .par_iter()
+        .map(
+            |pair: &Pair| -> Result<PairSlices, AllocError>
+                ensures { IfOk result (IsFoundFor snapshot.entry.now pair.now) }
+            { slices_of_pair(alloc, snapshot, *pair) },
+        )
+        .collect(rt, alloc)
+}

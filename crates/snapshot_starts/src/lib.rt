@@ -1,0 +1,22 @@
+// The possible starts of a snapshot, kept as runs of slices.
+#![tactic(auto)]
+
+mod fault;
+mod find;
+mod found;
+mod list;
+mod observation;
+mod pair;
+mod possible;
+mod run;
+mod sky;
+mod slices;
+mod telescope;
+#[cfg(test)]
+mod tests;
+
+pub use fault::StartFault;
+pub use find::starts;
+pub use list::{MOST_STARTS, Starts};
+pub use possible::is_possible;
+pub use run::Run;

@@ -1,0 +1,65 @@
+// Each request with each of its telescopes.
+
+ghost use Rattle.std.specs.Prelude.{◌≡◌, ◌++◌, IfOk, OnOk, All, map};
+ghost use Rattle.snapshot_starts.specs.Pairs.{pairs_of, pairs_of_request, ArePairSlices};
+
+use crate::slices::start_slices;
+use interval_set::Spans;
+use plan_base::{RequestNo, RequestPart, Snapshot, TelescopeNo};
+use std::alloc::{AllocError, Global};
+
+/// A request on one of its telescopes.
+#[derive(Clone, Copy, Debug)]
+pub(crate) struct Pair {
+    pub request: RequestNo,
+    pub telescope: TelescopeNo,
+}
+
+/// A pair with the slices at which it has a possible start.
+#[derive(Drop)]
+pub(crate) struct PairSlices {
+    pub pair: Pair,
+    pub slices: Spans,
+}
+
+/// All pairs, in the order of request and telescope.
+pub(crate) fn pairs_of(alloc: Global, snapshot: &Snapshot) -> Result<Vec<Pair>, AllocError>
+    ensures { IfOk result (λ pairs. pairs.items ≡ pairs_of snapshot.now) }
+{
+    let mut pairs = Vec::new(alloc);
+    for place in 0..snapshot.requests() {
+        push_pairs(&mut pairs, snapshot.request_at(place))?;
+    }
+    Ok(pairs)
+}
+
+fn push_pairs(pairs: &mut Vec<Pair>, request: &RequestPart) -> Result<(), AllocError>
+    ensures { OnOk result (pairs.new.items ≡ pairs.old.items ++ pairs_of_request request.now) }
+{
+    for telescope in request.telescopes.as_slice() {
+        pairs.push(Pair {
+            request: request.request,
+            telescope: *telescope,
+        })?;
+    }
+    Ok(())
+}
+
+/// The slices at which the pair has a possible start.
+pub(crate) fn slices_of_pair(
+    alloc: Global,
+    snapshot: &Snapshot,
+    pair: Pair,
+) -> Result<PairSlices, AllocError>
+    ensures pair { IfOk result (λ x. x.pair ≡ pair) }
+    ensures slices { IfOk result (ArePairSlices snapshot.now) }
+{
+    let parts = snapshot.parts();
+    let Some(place) = snapshot.place_of(pair.request) else {
+        let slices = Spans::empty(alloc);
+        return Ok(PairSlices { pair, slices });
+    };
+    let request = snapshot.request_at(place);
+    let slices = start_slices(alloc, parts, request, pair.telescope)?;
+    Ok(PairSlices { pair, slices })
+}

@@ -1,0 +1,4 @@
+// Possible starts of small desks, worked out by hand.
+
+mod desk;
+mod rows;
