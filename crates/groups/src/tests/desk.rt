@@ -124,8 +124,9 @@ fn request(alloc: Global, number: u32, seconds: u32) -> Result<RequestPart, Allo
 pub(super) fn is_possible(snapshot: &Snapshot, placement: Placement) -> bool
     ensures { IsTrue result → IsPossibleStart snapshot.now placement }
 {
+    let parts = snapshot.parts();
     match snapshot.place_of(placement.request) {
-        Some(place) => can_begin(snapshot.parts(), snapshot.request_at(place), placement),
+        Some(place) => can_begin(parts, snapshot.request_at(place), placement),
         None => false,
     }
 }

@@ -1,6 +1,6 @@
 // The prices of requests less what their seconds cost of their quotas.
 
-ghost use Rattle.std.specs.Prelude.{◌↔◌, ◌≤◌, IsTrue, All};
+ghost use Rattle.std.specs.Prelude.{◌≡◌, ◌↔◌, ◌≤◌, ◌⊎◌, [], length, IsTrue, All};
 ghost use Rattle.plan_base.specs.Verdict.{IsPriceInRange};
 
 use super::desk::{Asked, snapshot_of};
@@ -50,16 +50,34 @@ fn snapshot(rt: &impl Abort, alloc: Global) -> Result<Snapshot, Fail> {
     snapshot_of(rt, alloc, &groups, &[1000, 0])
 }
 
-fn are_in_range(prices: &[i64]) -> bool
+/// Whether prices and quota prices are such as a claim may have.
+fn are_in_ranges(prices: &Prices, quota_prices: &QuotaPrices) -> bool
+    ensures prices { IsTrue result → All IsPriceInRange prices.now.0 }
+    ensures quota_prices { IsTrue result → All (λ u. u ≤ 200000) quota_prices.now.0 }
+{
+    are_prices(prices.0.as_slice()) && are_quota_prices(quota_prices.0.as_slice())
+}
+
+fn are_prices(prices: &[i64]) -> bool
     ensures { IsTrue result ↔ All IsPriceInRange prices.now }
 {
     prices.iter().all(|price| -1_000_000_000_000 <= *price && *price <= 1_000_000_000_000)
 }
 
-fn are_low(quota_prices: &[u32]) -> bool
+fn are_quota_prices(quota_prices: &[u32]) -> bool
     ensures { IsTrue result ↔ All (λ u. u ≤ 200000) quota_prices.now }
 {
     quota_prices.iter().all(|price| *price <= 200_000)
+}
+
+/// Whether there is a price for each quota, or none at all.
+fn are_counted(snapshot: &Snapshot, quota_prices: &QuotaPrices) -> bool
+    ensures { IsTrue result → (quota_prices.now.0 ≡ []) ⊎ (length quota_prices.now.0 ≡ length snapshot.now.quotas) }
+{
+    if quota_prices.0.is_empty() {
+        return true;
+    }
+    quota_prices.0.len() == snapshot.parts().quotas.len()
 }
 
 fn assert_row(rt: &impl Abort, alloc: Global, row: &Row) -> Result<(), Fail> {
@@ -68,10 +86,10 @@ fn assert_row(rt: &impl Abort, alloc: Global, row: &Row) -> Result<(), Fail> {
     let quota_prices = QuotaPrices(ListOf::from_vec(Vec::from_slice(alloc, row.quota_prices)?));
     let mut nets = Prices(ListOf::from_vec(Vec::from_slice(alloc, &[1; 6])?));
     assert!(rt; snapshot.requests() == 6);
-    assert!(rt; snapshot.parts().quotas.len() == 2);
-    assert!(rt; are_in_range(prices.0.as_slice()));
-    assert!(rt; are_low(quota_prices.0.as_slice()));
-    assert!(rt; quota_prices.0.is_empty() || quota_prices.0.len() == 2);
+    let parts = snapshot.parts();
+    assert!(rt; parts.groups.len() == 4);
+    assert!(rt; are_in_ranges(&prices, &quota_prices));
+    assert!(rt; are_counted(&snapshot, &quota_prices));
     net(&snapshot, &prices, &quota_prices, &mut nets);
     assert_eq!(rt; nets.0.as_slice(), row.nets.as_slice());
     Ok(())
