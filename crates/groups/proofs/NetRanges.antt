@@ -1,5 +1,5 @@
 -- Net prices lie in their range where the prices and the quota prices are those that a claim may have.
-use Rattle.std.proofs.Common.{◌≡◌, ℕ, ◌≤◌, ℤ, List, All, arith}
+use Rattle.std.proofs.Common.{ℕ, ◌≤◌, ℤ, List, All, arith}
 use Rattle.std.proofs.lemmas.Int.{ints}
 use Rattle.std.proofs.lemmas.List.Elements.{Contains-get_or, All-map}
 use Rattle.plan_base.specs.declared.parts.Parts.{Parts}

@@ -1,12 +1,11 @@
 -- A request without targets may start where it lies within the horizon, inside a window and inside a usable span.
-use Rattle.std.proofs.Common.{◌≡◌, ℕ, ◌+◌, ◌*◌, ◌≤◌, List, [], slice_index_or, All, Contains, sym, ◌∙◌, ap, subst, arith}
+use Rattle.std.proofs.Common.{◌≡◌, ℕ, ◌+◌, ◌*◌, ◌≤◌, List, [], slice_index_or, All, Contains, sym, ◌∙◌, ap, subst}
 use Rattle.std.specs.Prelude.{HoldsAt}
 use Rattle.std.proofs.lemmas.List.Elements.{All-nil}
 use Rattle.plan_base.specs.declared.parts.Parts.{Parts}
 use Rattle.plan_base.specs.declared.parts.RequestPart.{RequestPart}
 use Rattle.plan_base.specs.declared.span.Span.{Span}
 use Rattle.plan_base.specs.declared.number.TelescopeNo.{TelescopeNo}
-use Rattle.plan_base.specs.declared.number.TargetNo.{TargetNo}
 use Rattle.plan_base.specs.declared.claim.Placement.{Placement}
 use Rattle.plan_base.specs.Requests.{Listed, listed, place_of, known_or, IsKnown, seconds_of, windows_of, telescopes_of, targets_of}
 use Rattle.plan_base.specs.Starts.{IsPossibleStart, slices_for, start_second, end_second, site_of}
