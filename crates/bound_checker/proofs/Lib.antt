@@ -1,0 +1,4 @@
+pub mod Firsts
+pub mod Marks
+pub mod PossibleStarts
+pub mod Requested
