@@ -1,4 +1,7 @@
 pub mod Firsts
+pub mod GroupCounts
 pub mod Marks
 pub mod PossibleStarts
 pub mod Requested
+pub mod SlotFlags
+pub mod WholeGroups

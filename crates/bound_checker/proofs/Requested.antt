@@ -1,15 +1,16 @@
 -- What the snapshot has of a request that it knows.
-use Rattle.std.proofs.Common.{◌≡◌, ℕ, ◌+◌, ◌<◌, ◌≤◌, List, [], ◌∷◌, ◌++◌, length, All, Contains, inl, inr, sym, ◌∙◌, ap, subst, arith}
+use Rattle.std.proofs.Common.{◌≡◌, ℕ, suc, ◌+◌, ◌<◌, ◌≤◌, List, [], ◌∷◌, ◌++◌, length, map, slice_index_or, Some, None, All, Contains, inl, inr, refl, sym, ◌∙◌, ap, subst, arith}
 use Rattle.std.specs.Prelude.{HoldsAt}
 use Rattle.std.specs.List.{flat_map}
 use Rattle.std.proofs.lemmas.List.{length-append, get_or_append_left, get_or-append-add}
-use Rattle.std.proofs.lemmas.List.Elements.{All-contains}
+use Rattle.std.proofs.lemmas.List.Elements.{All-contains, All-nil, All-append, All-map}
 use Rattle.plan_base.specs.declared.parts.Parts.{Parts}
 use Rattle.plan_base.specs.declared.parts.RequestPart.{RequestPart}
+use Rattle.plan_base.specs.declared.parts.GroupPart.{GroupPart}
 use Rattle.plan_base.specs.declared.span.Span.{Span}
-use Rattle.plan_base.specs.Requests.{Listed, listed, place_of, known_or, IsKnown}
+use Rattle.plan_base.specs.Requests.{Listed, listed_from, listed, place_of, IsKnown, group_of, quota_of}
 use Rattle.plan_base.specs.Snapshot.{IsOrderly, IsMoment, all_spans}
-use Rattle.plan_base.proofs.Known.{known_as, known_or_is, IsListedAs}
+use Rattle.plan_base.proofs.Known.{known_as, known_or_is, IsListedAs, quota_known}
 use Rattle.plan_base.proofs.Orders.{contains_cases}
 use Rattle.bound_checker.specs.Claims.{IsRequestOf, IsRequestInRanges}
 
@@ -61,3 +62,32 @@ request_in_ranges s r q o known at =
       moments = λ i d l. (moments i d l).0;
       telescopes = All-contains (λ y. All (λ t. t.0 < length s.telescopes) y.request.telescopes) (listed s) x.0 o.telescopes x.1.in_list;
     }
+
+-- the group of the request that stands at the place of r
+pub group_here : (s : Parts) (r place g : ℕ) → IsKnown s r → place ≡ place_of s r → HoldsAt (λ x. x.group ≡ g) (listed s) place → g ≡ group_of s r
+group_here s r place g known e h =
+    let x = known_as s r known in
+    sym (known_or_is (λ x. x.group) 0 s r x.0 known x.1 ∙ ap (λ (y : Listed). y.group) (sym x.1.at_place) ∙ ap (λ (k : ℕ). (slice_index_or (listed s) k x.0).group) (sym e) ∙ h x.0)
+
+-- a listed request counts towards the quota of its group
+quotas_listed : (n : ℕ) (xs : List GroupPart) → All (λ x. (i : ℕ) × (n + i ≡ x.group) × HoldsAt (λ y. y.quota ≡ x.quota) xs i) (listed_from n xs)
+quotas_listed n [] = All-nil (λ x. (i : ℕ) × (n + i ≡ x.group) × HoldsAt (λ y. y.quota ≡ x.quota) [] i)
+quotas_listed n (y ∷ ys) =
+    All-append (λ x. (i : ℕ) × (n + i ≡ x.group) × HoldsAt (λ z. z.quota ≡ x.quota) (y ∷ ys) i) (map (λ q. record { group = n; quota = y.quota; request = q }) y.requests) (listed_from (suc n) ys)
+    (All-map (λ x. (i : ℕ) × (n + i ≡ x.group) × HoldsAt (λ z. z.quota ≡ x.quota) (y ∷ ys) i) (λ q. record { group = n; quota = y.quota; request = q }) y.requests (λ i d l. (0, omega arith, λ e. refl)))
+    (λ i d l. let rest = quotas_listed (suc n) ys i d l in let place = rest.1 in (suc rest.0, omega arith, rest.2))
+
+-- the quota that the group of r names
+pub quota_here : (s : Parts) (r g : ℕ) (d : GroupPart) → IsKnown s r → g ≡ group_of s r → (slice_index_or s.groups g d).quota ≡ quota_of s r
+quota_here s r g d known e =
+    let x = known_as s r known in
+    let group : group_of s r ≡ x.0.group = known_or_is (λ y. y.group) 0 s r x.0 known x.1 in
+    let quota : quota_of s r ≡ x.0.quota = known_or_is (λ y. y.quota) None s r x.0 known x.1 in
+    let at = All-contains (λ y. (i : ℕ) × (0 + i ≡ y.group) × HoldsAt (λ z. z.quota ≡ y.quota) s.groups i) (listed s) x.0 (quotas_listed 0 s.groups) x.1.in_list in
+    let place : 0 + at.0 ≡ x.0.group = at.1 in
+    let same : g ≡ at.0 = omega arith in
+    ap (λ (k : ℕ). (slice_index_or s.groups k d).quota) same ∙ at.2 d ∙ sym quota
+
+-- it is one of the snapshot's
+pub quota_within : (s : Parts) (r q : ℕ) → IsOrderly s → IsKnown s r → quota_of s r ≡ Some q → q < length s.quotas
+quota_within s r q o known e = quota_known s r o known q e

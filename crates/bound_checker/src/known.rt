@@ -1,7 +1,7 @@
 // Whether the requests of a plan are known, and each placed once.
 
 ghost use Rattle.std.specs.Prelude.{◌≡◌, ◌<◌, IsTrue, MatchOption, IfOk, replicate, false, true, length, slice_index_or, ◌↔◌, ◌⊎◌, ℕ};
-ghost use Rattle.plan_base.specs.Requests.{listed, place_of, IsKnown};
+ghost use Rattle.plan_base.specs.Requests.{listed, place_of, group_of, IsKnown};
 ghost use Rattle.plan_base.specs.Feasible.{IsEachOnce};
 ghost use Rattle.plan_base.specs.Verdict.{IsFirst, IsUnknownAt, HasEarlier};
 ghost use Rattle.bound_checker.specs.Claims.{IsEachKnown, IsRequestOf, IsRequestInRanges};
@@ -57,6 +57,15 @@ pub(crate) fn known_place(snapshot: &Snapshot, request: RequestNo) -> usize
         Some(place) => place,
         None => unreachable!(),
     }
+}
+
+/// The place of the group of a request that the snapshot has.
+pub(crate) fn known_group(snapshot: &Snapshot, request: RequestNo) -> usize
+    requires { IsKnown snapshot.now request.0 }
+    ensures value { result ≡ group_of snapshot.now request.0 }
+    ensures within { result < length snapshot.now.groups }
+{
+    snapshot.group_at(known_place(snapshot, request))
 }
 
 /// A request that the snapshot has.

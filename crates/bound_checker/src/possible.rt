@@ -10,6 +10,7 @@ ghost use Rattle.plan_base.specs.Verdict.{IsFirst, IsNotPossibleAt};
 ghost use Rattle.bound_checker.specs.Claims.{IsEachKnown, IsSkyOf, CanObserve};
 
 use crate::known::request_of;
+use crate::worth::slices_for;
 use plan_base::{
     Parts, Placement, RequestPart, Sec, SiteNo, Sky, SliceNo, Snapshot, Span, TargetNo, TelescopeNo,
 };
@@ -57,19 +58,9 @@ fn is_within_horizon(parts: &Parts, request: &RequestPart, slice: SliceNo) -> bo
     requires seconds { request.now.seconds ≤ 86400 }
     ensures { IsTrue result ↔ ((parts.now.first.0 ≤ slice.0) × (slice.0 + slices_for parts.now.len request.now.seconds ≤ parts.now.first.0 + parts.now.slices)) }
 {
-    let size = slices_for(parts.len, request.seconds);
+    let size = slices_for(u64::from(parts.len), u64::from(request.seconds));
     let end = u64::from(parts.first.0) + u64::from(parts.slices);
-    parts.first <= slice && u64::from(slice.0) + u64::from(size) <= end
-}
-
-/// How many slices of this length so many seconds take, the last one perhaps in part.
-fn slices_for(len: u32, seconds: u32) -> u32
-    requires least { 60 ≤ len }
-    requires most { len ≤ 3600 }
-    requires seconds { seconds ≤ 86400 }
-    ensures { result ≡ slices_for len seconds }
-{
-    (seconds + len - 1) / len
+    parts.first <= slice && u64::from(slice.0) + size <= end
 }
 
 /// The seconds of the request where it begins at this slice.
