@@ -1,7 +1,6 @@
 // Whether placements share a slice.
 
-ghost use Rattle.std.specs.Prelude.{◌≡◌, ◌≤◌, ◌<◌, ◌&&◌, nat_le, nat_lt, ℕ, length, false, true, not, cond, slice_index_or, slice_range, MatchOption, IfOk};
-ghost use Rattle.std.specs.List.{list_all};
+ghost use Rattle.std.specs.Prelude.{◌≡◌, ◌≤◌, ◌<◌, ◌&&◌, nat_le, nat_lt, ℕ, length, false, true, cond, slice_index_or, IsTrue, MatchOption, IfOk};
 ghost use Rattle.plan_base.specs.Starts.{IsPossibleStart, ShareSlice};
 ghost use Rattle.plan_base.specs.Feasible.{IsEachPossible, IsDisjoint};
 ghost use Rattle.plan_base.specs.Verdict.{IsFirst, HasEarlier};
@@ -58,11 +57,16 @@ fn slots_of(snapshot: &Snapshot, placement: Placement) -> Slots
 
 /// Whether none of the flags of these slots is set.
 fn are_clear(flags: &[bool], slots: Slots) -> bool
-    requires order { slots.from ≤ slots.to }
-    requires within { slots.to ≤ length flags.now }
-    ensures { result ≡ list_all not (slice_range flags.now slots.from slots.to) }
+    requires { slots.to ≤ length flags.now }
+    ensures clear { IsTrue result → (i : ℕ) → slots.from ≤ i → i < slots.to → slice_index_or flags.now i false ≡ false }
+    ensures taken { result ≡ false → (i : ℕ) × (slots.from ≤ i) × (i < slots.to) × (slice_index_or flags.now i false ≡ true) }
 {
-    flags[slots.from..slots.to].iter().all(|flag| !*flag)
+    for slot in slots.from..slots.to {
+        if flags[slot] {
+            return false;
+        }
+    }
+    true
 }
 
 /// Sets the flags of these slots.
