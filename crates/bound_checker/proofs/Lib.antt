@@ -1,8 +1,10 @@
 pub mod Firsts
 pub mod GroupCounts
+pub mod GroupReasons
 pub mod Marks
 pub mod PossibleStarts
 pub mod QuotaSums
 pub mod Requested
 pub mod SlotFlags
+pub mod Stages
 pub mod WholeGroups

@@ -74,7 +74,7 @@ pub(crate) fn request_of(snapshot: &Snapshot, request: RequestNo) -> &RequestPar
     ensures is { IsRequestOf snapshot.now request.0 result.now }
     ensures ranges { IsRequestInRanges (length snapshot.now.telescopes) result.now }
 {
-    let _orderly = snapshot.parts();
+    let _ = snapshot.parts();
     snapshot.request_at(known_place(snapshot, request))
 }
 
