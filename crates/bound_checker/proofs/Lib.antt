@@ -1,0 +1,9 @@
+pub mod Added
+pub mod Alike
+pub mod Filling
+pub mod Here
+pub mod Seen
+pub mod Skies
+pub mod Spans
+pub mod Swept
+pub mod Telling

@@ -1,0 +1,5 @@
+pub mod Listings
+pub mod Offers
+pub mod Sights
+pub mod Stretches
+pub mod Tables

@@ -1,0 +1,8 @@
+// The checker of claims, which stands on the definitions alone and trusts nobody.
+#![tactic(auto)]
+
+mod sight;
+mod starts;
+mod stretches;
+mod table;
+mod worth;
