@@ -72,14 +72,14 @@ span_moments : (s : Parts) (w : Span) → IsOrderly s → Contains (usable_spans
 span_moments s w o c = All-contains (λ v. IsMoment v.from.0 × IsMoment v.to.0) (all_spans s) w o.ranges.moments c
 
 pub usable_moments : (s : Parts) (x : TelescopePart) (w : Span) → IsOrderly s → Contains s.telescopes x → Contains x.usable w → IsMoment w.from.0 × IsMoment w.to.0
-usable_moments s x w o c d = span_moments s w o (Contains-append_left (usable_spans s) (sky_spans s ++ window_spans s) w (contains_flat_map (λ y. y.usable) s.telescopes x w c d))
+usable_moments s x w o c d =
+    span_moments s w o (Contains-append_left (usable_spans s ++ sky_spans s) (window_spans s) w (Contains-append_left (usable_spans s) (sky_spans s) w (contains_flat_map (λ y. y.usable) s.telescopes x w c d)))
 
 pub sky_moments : (s : Parts) (x : Sky) (w : Span) → IsOrderly s → Contains s.skies x → Contains x.spans w → IsMoment w.from.0 × IsMoment w.to.0
-sky_moments s x w o c d = span_moments s w o (Contains-append_right (usable_spans s) (sky_spans s ++ window_spans s) w (Contains-append_left (sky_spans s) (window_spans s) w (contains_flat_map (λ y. y.spans) s.skies x w c d)))
+sky_moments s x w o c d = span_moments s w o (Contains-append_left (usable_spans s ++ sky_spans s) (window_spans s) w (Contains-append_right (usable_spans s) (sky_spans s) w (contains_flat_map (λ y. y.spans) s.skies x w c d)))
 
 pub window_moments : (s : Parts) (x : Listed) (w : Span) → IsOrderly s → Contains (listed s) x → Contains x.request.windows w → IsMoment w.from.0 × IsMoment w.to.0
-window_moments s x w o c d =
-    span_moments s w o (Contains-append_right (usable_spans s) (sky_spans s ++ window_spans s) w (Contains-append_right (sky_spans s) (window_spans s) w (contains_flat_map (λ y. y.request.windows) (listed s) x w c d)))
+window_moments s x w o c d = span_moments s w o (Contains-append_right (usable_spans s ++ sky_spans s) (window_spans s) w (contains_flat_map (λ y. y.request.windows) (listed s) x w c d))
 
 pub request_here : (s : Parts) (place : ℕ) (q : RequestPart) → IsOrderly s → place < length (listed s) → HoldsAt (λ x. x.request ≡ q) (listed s) place → IsHere s place q
 request_here s place q o l at =

@@ -6,4 +6,5 @@ pub mod Seen
 pub mod Skies
 pub mod Spans
 pub mod Swept
+pub mod Tabled
 pub mod Telling

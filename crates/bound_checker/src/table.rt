@@ -1,7 +1,7 @@
 // The greatest surplus from each slice on.
 
 ghost use Rattle.std.specs.Prelude.{◌≡◌, ℕ, ◌+◌, ◌<◌, ◌≤◌, ◌⊎◌, ℤ, pos, ◌≤ℤ◌, length, All, Contains};
-ghost use Rattle.bound_checker.specs.Tables.{IsWeight, IsEntry, gain, DoRowsFit, IsRecursion};
+ghost use Rattle.bound_checker.specs.Tables.{IsWeight, IsEntry, entry, gain, DoRowsFit, IsRecursion};
 
 use plan_base::ListOf;
 
@@ -21,13 +21,14 @@ struct Greatest {
 }
 
 /// Writes the greatest surplus from each slice on, where the rows have the starts at each slice: an entry is the
-/// greatest of the next one and of what each start in its row gives. The last one, after all slices, is 0.
-pub(crate) fn fill_table(rows: &[ListOf<Start>], table: &mut [i64])
+/// greatest of the next one and of what each start in its row gives. The last one, after all slices, is 0. The first one
+/// is the answer.
+pub(crate) fn fill_table(rows: &[ListOf<Start>], table: &mut [i64]) -> i64
     requires entries { length table.old ≡ length rows.now + 1 }
     requires rows { length rows.now ≤ 1440 }
     requires fit { DoRowsFit rows.now }
-    ensures entries { length table.new ≡ length rows.now + 1 }
     ensures recursion { IsRecursion rows.now table.new }
+    ensures first { result ≡ entry table.new 0 }
 {
     for entry in table.iter_mut() {
         *entry = 0;
@@ -35,6 +36,7 @@ pub(crate) fn fill_table(rows: &[ListOf<Start>], table: &mut [i64])
     for slice in (0..rows.len()).rev() {
         table[slice] = row_best(rows[slice].as_slice(), table, table[slice + 1]);
     }
+    table[0]
 }
 
 /// The greatest of `least` and of what each start in a row gives.
