@@ -20,14 +20,14 @@ both_stretch P Q k a b p q = by_fits a.fits refl b.fits refl
     })
     by_fits true e false f = subst (IsStretch (λ j. P j × Q j) k)
         (sym (ap (λ (t : Bool). cond t (cond b.fits (record { fits = true; end = min a.end b.end }) b) a) e ∙ ap (λ (t : Bool). cond t (record { fits = true; end = min a.end b.end }) b) f)) (record {
-      later = q.later;
-      alike = λ j from to. (λ fits. absurd (false≢true (sym f ∙ fits)), λ holds. (q.alike j from to).1 holds.1);
-    })
+          later = q.later;
+          alike = λ j from to. (λ fits. absurd (false≢true (sym f ∙ fits)), λ holds. (q.alike j from to).1 holds.1);
+        })
     by_fits true e true f = subst (IsStretch (λ j. P j × Q j) k)
         (sym (ap (λ (t : Bool). cond t (cond b.fits (record { fits = true; end = min a.end b.end }) b) a) e ∙ ap (λ (t : Bool). cond t (record { fits = true; end = min a.end b.end }) b) f)) (record {
-      later = let one : k < a.end = p.later in let two : k < b.end = q.later in omega arith;
-      alike = λ j from to. (λ fits. ((p.alike j from (omega arith)).0 e, (q.alike j from (omega arith)).0 f), λ holds. refl);
-    })
+          later = let one : k < a.end = p.later in let two : k < b.end = q.later in omega arith;
+          alike = λ j from to. (λ fits. ((p.alike j from (omega arith)).0 e, (q.alike j from (omega arith)).0 f), λ holds. refl);
+        })
 
 -- what is said in other words
 pub stretch_said : (P Q : ℕ → Type 0) (k : ℕ) (x : Stretch) → ((j : ℕ) → P j → Q j) → ((j : ℕ) → Q j → P j) → IsStretch P k x → IsStretch Q k x

@@ -172,8 +172,7 @@ module _ (s : Parts) (t place : ℕ) (q : RequestPart) (site : SiteNo) (x : Sigh
         usable = same_fit x.usable.now (usable_of s p.telescope.0) _ _ (start_second s p) (end_second s p) (sym usable_same) (sym begins_same) (sym ends_same) can.in_sight.usable;
         visible = subst (All (λ target. IsVisibleThrough s target.0 (site_of s p.telescope.0) (start_second s p) (end_second s p))) (sym targets_same) (λ n e l.
             let count : length x.views.now ≡ length q.targets = sight.views.count refl in
-            let view : IsSkyAt s.skies (slice_index_or q.targets n e) site (slice_index_or x.views.now n 0) = sight.views.each refl n e l in
-            (
+            let view : IsSkyAt s.skies (slice_index_or q.targets n e) site (slice_index_or x.views.now n 0) = sight.views.each refl n e l in (
               slice_index_or x.views.now n 0,
               view.0,
               view.1,

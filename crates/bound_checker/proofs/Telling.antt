@@ -83,11 +83,11 @@ module _ (s : Parts) (prices : List ℤ) (t : TelescopeNo) (place : ℕ) (q : Re
     possible = λ i y has. elim (added.nothing_else i y has) [
       | inl earlier ↦ before.possible i y earlier
       | inr here_new ↦ (
-          placed (s.first.0 + i),
-          record { possible = possible_if_seen s t.0 place q site x (slice_index_or prices place (pos 0)) o orderly here sight offer (placed (s.first.0 + i)) refl refl able here_new.0; same_telescope = refl },
-          refl,
-          subst (IsToldBy s prices (placed (s.first.0 + i))) (sym here_new.1) (told_by s prices place q o (placed (s.first.0 + i)) i here offer refl refl),
-        )
+        placed (s.first.0 + i),
+        record { possible = possible_if_seen s t.0 place q site x (slice_index_or prices place (pos 0)) o orderly here sight offer (placed (s.first.0 + i)) refl refl able here_new.0; same_telescope = refl },
+        refl,
+        subst (IsToldBy s prices (placed (s.first.0 + i))) (sym here_new.1) (told_by s prices place q o (placed (s.first.0 + i)) i here offer refl refl),
+      )
     ];
     complete = λ p start below. elim (below_or_at (place_of s p.request.0) place below) [
       | inl less ↦ let earlier = before.complete p start less in (earlier.0, added.kept (p.slice.0 - s.first.0) earlier.0 earlier.1, earlier.2)

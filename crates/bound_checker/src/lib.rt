@@ -6,4 +6,8 @@ mod sight;
 mod starts;
 mod stretches;
 mod table;
+#[cfg(test)]
+mod tests;
 mod worth;
+
+pub use best::best_of;

@@ -91,7 +91,12 @@ fn has_telescope(telescopes: &[TelescopeNo], telescope: TelescopeNo) -> bool
 }
 
 /// Adds the starts of an offer that are in sight.
-fn list_stretches(parts: &Parts, sight: &Sight, offer: &Offer, rows: &mut Vec<ListOf<Start>>) -> Result<(), AllocError>
+fn list_stretches(
+    parts: &Parts,
+    sight: &Sight,
+    offer: &Offer,
+    rows: &mut Vec<ListOf<Start>>,
+) -> Result<(), AllocError>
     requires first { parts.now.first.0 ≤ 4223371680 }
     requires slices { parts.now.slices ≤ 1440 }
     requires clear { IsClear sight.now }
@@ -114,7 +119,13 @@ fn list_stretches(parts: &Parts, sight: &Sight, offer: &Offer, rows: &mut Vec<Li
 }
 
 /// Adds the starts of an offer at the slices from one to the one before another. The rows begin at the slice `first`.
-fn push_starts(rows: &mut Vec<ListOf<Start>>, offer: &Offer, first: u64, from: u64, to: u64) -> Result<(), AllocError>
+fn push_starts(
+    rows: &mut Vec<ListOf<Start>>,
+    offer: &Offer,
+    first: u64,
+    from: u64,
+    to: u64,
+) -> Result<(), AllocError>
     requires offer { IsOfferRange offer.now }
     requires begins { first ≤ from }
     requires order { from ≤ to }

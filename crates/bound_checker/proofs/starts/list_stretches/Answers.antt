@@ -20,8 +20,8 @@ loop-slice-preserved-in_ok-push_starts c =
     let before = c.loop-slice.invariant in (
       let on = goes_on c.args.parts.now c.args.sight.now c.args.offer.now c.args.rows.now.items c.loop-slice.rows.items c.loop-slice.slice c.min-end.result c.saturating_sub-stop.result c.stretch_in_sight-stretch.result c.stretch_in_sight-stretch.ensures before.0 c.loop-slice-test.true stop end in omega (arith, before.0),
       swept_starts c.args.parts.now c.args.sight.now c.args.offer.now c.args.rows.now.items c.loop-slice.rows.items c.loop-slice.slice c.min-end.result c.saturating_sub-stop.result c.stretch_in_sight-stretch.result c.stretch_in_sight-stretch.ensures before.0 c.loop-slice-test.true stop end
-      c.push_starts.new.rows.items c.if-stretch.true before.1
-      (subst (λ (n : ℕ). IsAdded c.args.offer.now n (λ k. (c.loop-slice.slice ≤ k) × (k < c.min-end.result)) c.loop-slice.rows.items c.push_starts.new.rows.items) first c.in_ok-push_starts.ensures),
+          c.push_starts.new.rows.items c.if-stretch.true before.1
+          (subst (λ (n : ℕ). IsAdded c.args.offer.now n (λ k. (c.loop-slice.slice ≤ k) × (k < c.min-end.result)) c.loop-slice.rows.items c.push_starts.new.rows.items) first c.in_ok-push_starts.ensures),
     )
 
 pub loop-slice-preserved : goal.loop-slice-preserved
@@ -32,7 +32,7 @@ loop-slice-preserved c =
     let before = c.loop-slice.invariant in (
       let on = goes_on c.args.parts.now c.args.sight.now c.args.offer.now c.args.rows.now.items c.loop-slice.rows.items c.loop-slice.slice c.min-end.result c.saturating_sub-stop.result c.stretch_in_sight-stretch.result c.stretch_in_sight-stretch.ensures before.0 c.loop-slice-test.true stop end in omega (arith, before.0),
       swept_none c.args.parts.now c.args.sight.now c.args.offer.now c.args.rows.now.items c.loop-slice.rows.items c.loop-slice.slice c.min-end.result c.saturating_sub-stop.result c.stretch_in_sight-stretch.result c.stretch_in_sight-stretch.ensures before.0 c.loop-slice-test.true stop end
-      c.if-stretch.false before.1,
+          c.if-stretch.false before.1,
     )
 
 pub returns : goal.returns
