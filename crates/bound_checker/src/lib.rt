@@ -1,6 +1,7 @@
-// The checker that trusts nobody: whether a claim is certified for a snapshot, by tables of its own.
+// The checker of claims, which stands on the definitions alone and trusts nobody.
 #![tactic(auto)]
 
+mod best;
 mod bound;
 mod kinds;
 mod known;
@@ -8,8 +9,15 @@ mod overlap;
 mod possible;
 mod quotas;
 mod ranges;
+mod sight;
+mod starts;
+mod stretches;
+mod table;
+#[cfg(test)]
+mod tests;
 mod value;
 mod verdict;
 mod worth;
 
+pub use best::best_of;
 pub use verdict::check;

@@ -1,18 +1,19 @@
 // Whether a placement is a possible start, by whole observations inside single spans.
 
-ghost use Rattle.std.specs.Prelude.{◌≡◌, ◌<◌, ◌≤◌, ◌+◌, ◌*◌, ◌↔◌, ◌^◌, length, All, Contains, MatchOption, IsTrue, HoldsAt};
+ghost use Rattle.std.specs.Prelude.{◌≡◌, ◌<◌, ◌≤◌, ◌+◌, ◌*◌, ◌↔◌, ◌^◌, length, All, Contains, MatchOption, IsTrue};
 ghost use Rattle.plan_base.specs.Requests.{IsKnown};
 ghost use Rattle.plan_base.specs.Starts.{IsPossibleStart, site_of, slices_for};
 ghost use Rattle.plan_base.specs.Snapshot.{IsOrderly};
 ghost use Rattle.plan_base.specs.BySpans.{HasAll, IsVisibleThrough, usable_of};
 ghost use Rattle.plan_base.specs.Feasible.{IsEachPossible};
 ghost use Rattle.plan_base.specs.Verdict.{IsFirst, IsNotPossibleAt};
-ghost use Rattle.bound_checker.specs.Claims.{IsEachKnown, IsSkyOf, CanObserve};
+ghost use Rattle.bound_checker.specs.Claims.{IsEachKnown, CanObserve};
 
 use crate::known::request_of;
+use crate::sight::find_sky;
 use crate::worth::slices_for;
 use plan_base::{
-    Parts, Placement, RequestPart, Sec, SiteNo, Sky, SliceNo, Snapshot, Span, TargetNo, TelescopeNo,
+    Parts, Placement, RequestPart, Sec, SiteNo, SliceNo, Snapshot, Span, TargetNo, TelescopeNo,
 };
 
 /// The first placement that isn't a possible start.
@@ -126,17 +127,8 @@ fn is_visible(parts: &Parts, target: TargetNo, site: SiteNo, observed: Span) -> 
     ensures { IsTrue result ↔ IsVisibleThrough parts.now target.0 site.0 observed.from.0 observed.to.0 }
 {
     let skies = parts.skies.as_slice();
-    match sky_place(skies, target, site) {
+    match find_sky(skies, target, site) {
         Some(place) => has_all(skies[place].spans.as_slice(), observed),
         None => false,
     }
-}
-
-/// The place of the sky of the target at the site.
-fn sky_place(skies: &[Sky], target: TargetNo, site: SiteNo) -> Option<usize>
-    ensures { MatchOption result (All (λ y. ¬ (IsSkyOf target.0 site.0 y)) skies.now) (λ place. (place < length skies.now) × HoldsAt (IsSkyOf target.0 site.0) skies.now place) }
-{
-    skies
-        .iter()
-        .position(|sky| sky.target == target && sky.site == site)
 }
