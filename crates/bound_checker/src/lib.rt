@@ -17,6 +17,8 @@ mod table;
 mod tests;
 mod value;
 mod verdict;
+#[cfg(test)]
+mod verdict_tests;
 mod worth;
 
 pub use best::best_of;

@@ -79,12 +79,7 @@ fn observed_span(parts: &Parts, request: &RequestPart, slice: SliceNo) -> Span
 }
 
 /// Whether the telescope can take the request in these seconds.
-fn can_observe(
-    parts: &Parts,
-    request: &RequestPart,
-    telescope: TelescopeNo,
-    observed: Span,
-) -> bool
+fn can_observe(parts: &Parts, request: &RequestPart, telescope: TelescopeNo, observed: Span) -> bool
     requires orderly { IsOrderly parts.now }
     requires telescope { telescope.0 < length parts.now.telescopes }
     ensures { IsTrue result ↔ CanObserve parts.now request.now telescope.0 observed.from.0 observed.to.0 }
@@ -103,9 +98,7 @@ fn can_observe(
 fn has_all(spans: &[Span], observed: Span) -> bool
     ensures { IsTrue result ↔ HasAll spans.now observed.from.0 observed.to.0 }
 {
-    spans
-        .iter()
-        .any(|span| span.from <= observed.from && observed.to <= span.to)
+    spans.iter().any(|span| span.from <= observed.from && observed.to <= span.to)
 }
 
 /// Whether all targets are visible from the site in these seconds.
