@@ -1,7 +1,10 @@
 pub mod Added
 pub mod Alike
 pub mod Filling
+pub mod Growing
 pub mod Here
+pub mod Rebated
+pub mod Runs
 pub mod Seen
 pub mod Skies
 pub mod Spans

@@ -1,4 +1,5 @@
 pub mod Listings
+pub mod Nets
 pub mod Offers
 pub mod Sights
 pub mod Stretches

@@ -2,6 +2,8 @@
 #![tactic(auto)]
 
 mod best;
+mod nets;
+mod rebate;
 mod sight;
 mod starts;
 mod stretches;
@@ -11,3 +13,4 @@ mod tests;
 mod worth;
 
 pub use best::best_of;
+pub use rebate::rebate_of;
