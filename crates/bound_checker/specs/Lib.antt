@@ -1,5 +1,6 @@
 pub mod Claims
 pub mod Listings
+pub mod Nets
 pub mod Offers
 pub mod Reasons
 pub mod Sights

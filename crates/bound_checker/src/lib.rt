@@ -5,10 +5,12 @@ mod best;
 mod bound;
 mod kinds;
 mod known;
+mod nets;
 mod overlap;
 mod possible;
 mod quotas;
 mod ranges;
+mod rebate;
 mod sight;
 mod starts;
 mod stretches;
@@ -22,4 +24,5 @@ mod verdict_tests;
 mod worth;
 
 pub use best::best_of;
+pub use rebate::rebate_of;
 pub use verdict::check;

@@ -1,6 +1,6 @@
 // The greatest surpluses of small snapshots, worked out by hand.
 
-ghost use Rattle.std.specs.Prelude.{◌≡◌, true, All};
+ghost use Rattle.std.specs.Prelude.{◌≡◌, ◌↔◌, IsTrue, true, All};
 ghost use Rattle.plan_base.specs.Verdict.{IsPriceInRange};
 
 use crate::best_of;
@@ -119,12 +119,18 @@ fn snapshot(alloc: Global, parts: Parts) -> Result<Snapshot, Fail> {
     Ok(Snapshot::build(alloc, parts)?)
 }
 
+fn is_in_range(price: i64) -> bool
+    ensures { IsTrue result ↔ IsPriceInRange price }
+{
+    -1_000_000_000_000 <= price && price <= 1_000_000_000_000
+}
+
 /// Whether all prices are in their range.
 fn are_in_range(prices: &[i64]) -> bool
     ensures { result ≡ true → All IsPriceInRange prices.now }
 {
     for price in prices {
-        if *price < -1_000_000_000_000 || 1_000_000_000_000 < *price {
+        if !is_in_range(*price) {
             return false;
         }
     }

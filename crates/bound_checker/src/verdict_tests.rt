@@ -432,6 +432,13 @@ fn wrong_prices_have_their_reasons(rt: HostRuntime) -> Result<(), Fail> {
     assert_reasons(&rt, rt.alloc(), cases.as_slice())
 }
 
+fn differs(claimed: u64) -> Reason {
+    Reason::BoundDiffers {
+        claimed,
+        found: 50_000,
+    }
+}
+
 #[test]
 fn wrong_sums_have_their_reasons(rt: HostRuntime) -> Result<(), Fail> {
     let value = Case {
@@ -445,10 +452,6 @@ fn wrong_sums_have_their_reasons(rt: HostRuntime) -> Result<(), Fail> {
     let high_bound = Case {
         bound: 50_001,
         ..alone()
-    };
-    let differs = |claimed| Reason::BoundDiffers {
-        claimed,
-        found: 50_000,
     };
     let cases = [
         (
