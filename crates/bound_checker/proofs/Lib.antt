@@ -8,6 +8,7 @@ pub mod Runs
 pub mod Seen
 pub mod Skies
 pub mod Spans
+pub mod Summing
 pub mod Swept
 pub mod Tabled
 pub mod Telling

@@ -2,6 +2,7 @@
 #![tactic(auto)]
 
 mod best;
+mod bound;
 mod nets;
 mod rebate;
 mod sight;
@@ -13,4 +14,5 @@ mod tests;
 mod worth;
 
 pub use best::best_of;
+pub use bound::bound_of;
 pub use rebate::rebate_of;
