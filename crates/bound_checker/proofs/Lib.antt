@@ -17,6 +17,7 @@ pub mod Skies
 pub mod SlotFlags
 pub mod Spans
 pub mod Stages
+pub mod Summing
 pub mod Swept
 pub mod Tabled
 pub mod Telling

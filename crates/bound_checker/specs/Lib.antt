@@ -6,4 +6,5 @@ pub mod Reasons
 pub mod Sights
 pub mod Slots
 pub mod Stretches
+pub mod Summed
 pub mod Tables

@@ -24,5 +24,6 @@ mod verdict_tests;
 mod worth;
 
 pub use best::best_of;
+pub use bound::bound_of;
 pub use rebate::rebate_of;
 pub use verdict::check;
