@@ -40,11 +40,15 @@ typed_of ms =
 abbrev pub typed_in : Data → Result Typed JsonFault
 typed_in d = object_in Configurations d >>= typed_of
 
+-- all configurations are of that instrument type
+abbrev pub are_of_type : List ℕ → List Typed → Bool
+are_of_type type ts = list_all (λ t. bytes_eq t.instrument type) ts
+
 -- the configurations of the request at that place, if all are of the first one's instrument type
 abbrev pub of_one_type : ℕ → List Typed → Result OfOneType GroupFault
 of_one_type index [] = Err (MixedInstruments index)
 of_one_type index (t ∷ ts) =
-    if list_all (λ u. bytes_eq u.instrument t.instrument) (t ∷ ts)
+    if are_of_type t.instrument (t ∷ ts)
     then Ok (record { instrument = t.instrument; configurations = map (λ u. u.configuration) (t ∷ ts) })
     else Err (MixedInstruments index)
 

@@ -1,11 +1,11 @@
 // What is taken of one target, and of which instrument type the configurations of a request are.
 
-ghost use Rattle.std.specs.Prelude.{◌≡◌, ◌≢◌, ◌<◌, length, IfOk, IfErr, Ok, Err};
+ghost use Rattle.std.specs.Prelude.{◌≡◌, ◌≢◌, ◌<◌, length, map, IfOk, IfErr, Ok, Err};
 ghost use Rattle.plan_json.specs.declared.fault.JsonFault.TheVariants as json;
 ghost use Rattle.plan_json.specs.Reading.{read_each};
 ghost use Rattle.plan_json.specs.Shown.{members_of, elements_of, element_of, named_by};
 ghost use Rattle.plan_json.specs.declared.member.Member.TheVariants.{InstrumentConfigs, Configurations};
-ghost use Rattle.request_model.specs.Configuration.{exposure_of, exposure_in, typed_of, typed_in, of_one_type, configurations_of};
+ghost use Rattle.request_model.specs.Configuration.{exposure_of, exposure_in, typed_of, typed_in, are_of_type, of_one_type, configurations_of};
 ghost use Rattle.request_model.specs.declared.fault.GroupFault.TheVariants.{NoMemory};
 
 use crate::fault::GroupFault;
@@ -13,7 +13,7 @@ use crate::read::members::number;
 use crate::request::{ConfigDoc, Exposure};
 use plan_base::{ListOf, Name};
 use plan_json::{Doc, DocList, JsonFault, Member};
-use std::alloc::Global;
+use std::alloc::{AllocError, Global};
 
 /// The longest exposure, in milliseconds: a day.
 const MOST_MS: u32 = 86_400_000;
@@ -103,23 +103,35 @@ fn read_all_typed(alloc: Global, list: &DocList) -> Result<ListOf<Typed>, JsonFa
     Ok(all)
 }
 
-/// The configurations of the request at that place, if all are of the first one's instrument type.
-fn of_one_type(alloc: Global, index: u32, typed: ListOf<Typed>) -> Result<OfOneType, GroupFault>
-    ensures value { IfOk result (λ all. of_one_type index typed ≡ Ok all) }
-    ensures fault { IfErr result (λ e. e ≢ NoMemory → of_one_type index typed ≡ Err e) }
+fn are_of_type(typed: &[Typed], instrument: &Name) -> bool
+    ensures { result ≡ are_of_type instrument.now typed.now }
 {
-    let typed = typed.into_vec();
+    typed.iter().all(|one| one.instrument == *instrument)
+}
+
+fn without_types(alloc: Global, typed: Vec<Typed>) -> Result<Vec<ConfigDoc>, AllocError>
+    ensures { IfOk result (λ all. all.items ≡ map (λ one. one.configuration) typed.items) }
+{
+    typed
+        .into_iter()
+        .map(|one| one.configuration)
+        .collect(alloc)
+}
+
+/// The configurations of the request at that place, if all are of the first one's instrument type.
+#[tactic(auto, using(crate::proofs::Types::of_first))]
+fn of_one_type(alloc: Global, index: u32, typed: Vec<Typed>) -> Result<OfOneType, GroupFault>
+    ensures value { IfOk result (λ all. of_one_type index typed.items ≡ Ok all) }
+    ensures fault { IfErr result (λ e. e ≢ NoMemory → of_one_type index typed.items ≡ Err e) }
+{
     let [first, ..] = typed.as_slice() else {
         return Err(GroupFault::MixedInstruments { index });
     };
-    if !typed.iter().all(|one| one.instrument == first.instrument) {
+    if !are_of_type(&typed, &first.instrument) {
         return Err(GroupFault::MixedInstruments { index });
     }
     let instrument = first.instrument.copy(alloc)?;
-    let configurations = typed
-        .into_iter()
-        .map(|one| one.configuration)
-        .collect(alloc)?;
+    let configurations = without_types(alloc, typed)?;
     Ok(OfOneType {
         instrument,
         configurations: ListOf::from_vec(configurations),
@@ -137,5 +149,6 @@ pub(crate) fn read_configurations(
         (λ e. e ≢ NoMemory → configurations_of index (members_of doc.now) ≡ Err e) }
 {
     let list = doc.list(Member::Configurations, 1, MOST_CONFIGURATIONS)?;
-    of_one_type(alloc, index, read_all_typed(alloc, &list)?)
+    let typed = read_all_typed(alloc, &list)?;
+    of_one_type(alloc, index, typed.into_vec())
 }
