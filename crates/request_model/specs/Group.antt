@@ -4,7 +4,6 @@ use Rattle.std.specs.Int.{is_in_range}
 use Rattle.serde_json.specs.Data.{Data, Members}
 use Rattle.plan_base.specs.declared.parts.Op.{Op}
 use Rattle.plan_base.specs.declared.parts.Op.TheVariants.{Single, Many, OneOf, And}
-use Rattle.plan_json.specs.declared.member.Member.{Member}
 use Rattle.plan_json.specs.declared.member.Member.TheVariants as member
 use Rattle.plan_json.specs.declared.fault.JsonFault.{JsonFault}
 use Rattle.plan_json.specs.declared.fault.JsonFault.TheVariants.{Missing, OutOfRange}
@@ -30,8 +29,8 @@ operator_named s =
     else (if bytes_eq s (codes "AND") then Some And
     else None)))
 
-abbrev pub operator_in : Member → Data → Result Op JsonFault
-operator_in m d = text_in m d >>= λ s. ok_or (operator_named s) (OutOfRange m)
+abbrev pub operator_of : Members → Result Op JsonFault
+operator_of ms = member_of text_in ms member.Operator >>= λ s. ok_or (operator_named s) (OutOfRange member.Operator)
 
 -- the observation type with that name
 abbrev pub kind_named : List ℕ → Option ObsKind
@@ -41,8 +40,8 @@ kind_named s =
     else (if bytes_eq s (codes "RAPID_RESPONSE") then Some RapidResponse
     else None))
 
-abbrev pub kind_in : Member → Data → Result ObsKind JsonFault
-kind_in m d = text_in m d >>= λ s. ok_or (kind_named s) (OutOfRange m)
+abbrev pub kind_of : Members → Result ObsKind JsonFault
+kind_of ms = member_of text_in ms member.ObservationType >>= λ s. ok_or (kind_named s) (OutOfRange member.ObservationType)
 
 -- `ipp_thousandths`, or else 1000; but it is missing where the portal's own member `ipp_value` is there
 abbrev pub ipp_of : Members → Result ℕ JsonFault
@@ -72,8 +71,8 @@ abbrev pub group_of : Members → Result GroupDoc GroupFault
 group_of ms =
     in_group (member_of text_in ms member.Name) >>= λ name.
     in_group (member_of text_in ms member.Proposal) >>= λ proposal.
-    in_group (member_of operator_in ms member.Operator) >>= λ op.
-    in_group (member_of kind_in ms member.ObservationType) >>= λ kind.
+    in_group (operator_of ms) >>= λ op.
+    in_group (kind_of ms) >>= λ kind.
     in_group (ipp_of ms) >>= λ ipp.
     in_group (or_default 10 (number_in 1 100) ms member.Priority) >>= λ priority.
     requests_of op ms >>= λ requests.

@@ -1,11 +1,10 @@
 // Request groups.
 
-ghost use Rattle.std.specs.Prelude.{◌≡◌, ◌≢◌, ◌≤◌, length, IfOk, IfErr, Ok, Err};
+ghost use Rattle.std.specs.Prelude.{◌≡◌, ◌≢◌, ◌≤◌, IfOk, IfErr, Ok, Err};
 ghost use Rattle.plan_json.specs.declared.fault.JsonFault.TheVariants as json;
-ghost use Rattle.plan_json.specs.Object.{member_of};
 ghost use Rattle.plan_json.specs.Shown.{members_of};
 ghost use Rattle.request_model.specs.declared.fault.GroupFault.TheVariants.{NoMemory};
-ghost use Rattle.request_model.specs.Group.{operator_named, operator_in, kind_named, kind_in, ipp_of, is_shape, requests_of, group_of};
+ghost use Rattle.request_model.specs.Group.{operator_named, operator_of, kind_named, kind_of, ipp_of, is_shape, requests_of, group_of};
 
 use crate::fault::GroupFault;
 use crate::group::{GroupDoc, ObsKind};
@@ -49,10 +48,8 @@ fn kind_named(name: &str) -> Option<ObsKind>
 }
 
 fn read_operator(alloc: Global, doc: &Doc) -> Result<Op, JsonFault>
-    ensures value { IfOk result
-        (λ op. member_of operator_in (members_of doc.now) Member.Operator ≡ Ok op) }
-    ensures fault { IfErr result
-        (λ e. e ≢ json.NoMemory → member_of operator_in (members_of doc.now) Member.Operator ≡ Err e) }
+    ensures value { IfOk result (λ op. operator_of (members_of doc.now) ≡ Ok op) }
+    ensures fault { IfErr result (λ e. e ≢ json.NoMemory → operator_of (members_of doc.now) ≡ Err e) }
 {
     let member = Member::Operator;
     let name = doc.text(alloc, member)?;
@@ -60,10 +57,8 @@ fn read_operator(alloc: Global, doc: &Doc) -> Result<Op, JsonFault>
 }
 
 fn read_kind(alloc: Global, doc: &Doc) -> Result<ObsKind, JsonFault>
-    ensures value { IfOk result
-        (λ kind. member_of kind_in (members_of doc.now) Member.ObservationType ≡ Ok kind) }
-    ensures fault { IfErr result
-        (λ e. e ≢ json.NoMemory → member_of kind_in (members_of doc.now) Member.ObservationType ≡ Err e) }
+    ensures value { IfOk result (λ kind. kind_of (members_of doc.now) ≡ Ok kind) }
+    ensures fault { IfErr result (λ e. e ≢ json.NoMemory → kind_of (members_of doc.now) ≡ Err e) }
 {
     let member = Member::ObservationType;
     let name = doc.text(alloc, member)?;
