@@ -5,6 +5,8 @@ mod fault;
 mod group;
 mod read;
 mod request;
+#[cfg(test)]
+mod tests;
 
 pub use fault::GroupFault;
 pub use group::{GroupDoc, ObsKind};
