@@ -1,7 +1,9 @@
 // Documents of groups, with what each is read as or its first fault.
 
 mod counts;
+mod edges;
 mod faults;
+mod order;
 mod values;
 
 use crate::{GroupDoc, GroupFault, read_group};

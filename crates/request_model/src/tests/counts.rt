@@ -3,22 +3,23 @@
 use super::{LEAST, fault_with};
 use crate::GroupFault;
 use plan_base::Op;
-use plan_json::JsonFault::{OutOfRange, WrongKind};
-use plan_json::Member;
+use plan_json::{JsonFault, Member};
 use std::alloc::Global;
 use std::test::Fail;
 
-const WINDOW: &str = "{\"start\":0,\"end\":3600}";
+/// The one window of the least group.
+const WINDOW: &str = r#"{"start":0,"end":3600}"#;
 
-const EXPOSURE: &str = "{\"exposure_time_ms\":300000,\"exposure_count\":1}";
+/// Its one kind of exposures.
+const EXPOSURE: &str = r#"{"exposure_time_ms":300000,"exposure_count":1}"#;
 
-const CONFIGURATION: &str = "{\"instrument_type\":\"SINISTRO\",\"target\":{\"name\":\"M51\"},\
-\"instrument_configs\":[{\"exposure_time_ms\":300000,\"exposure_count\":1}]}";
+/// Its one configuration.
+const CONFIGURATION: &str =
+    r#"{"instrument_type":"SINISTRO","target":{"name":"M51"},"instrument_configs":[{"exposure_time_ms":300000,"exposure_count":1}]}"#;
 
+/// Its one request.
 const REQUEST: &str =
-    "{\"location\":{\"telescope_class\":\"1m0\"},\"windows\":[{\"start\":0,\"end\":3600}],\
-\"configurations\":[{\"instrument_type\":\"SINISTRO\",\"target\":{\"name\":\"M51\"},\
-\"instrument_configs\":[{\"exposure_time_ms\":300000,\"exposure_count\":1}]}]}";
+    r#"{"location":{"telescope_class":"1m0"},"windows":[{"start":0,"end":3600}],"configurations":[{"instrument_type":"SINISTRO","target":{"name":"M51"},"instrument_configs":[{"exposure_time_ms":300000,"exposure_count":1}]}]}"#;
 
 /// The piece so many times, with commas between.
 fn times(alloc: Global, piece: &str, count: usize) -> Result<String, Fail> {
@@ -30,71 +31,32 @@ fn times(alloc: Global, piece: &str, count: usize) -> Result<String, Fail> {
     Ok(text)
 }
 
-/// The fault of a document whose list has this element so many times in place of once.
+/// The fault of the least group with an element so many times in place of once, if it has one.
 fn fault_of_list(alloc: Global, piece: &str, count: usize) -> Result<Option<GroupFault>, Fail> {
     let elements = times(alloc, piece, count)?;
     fault_with(alloc, LEAST, piece, elements.as_str())
 }
 
-/// An element, how many there are, and the fault.
-const LISTS: [(&str, usize, Option<GroupFault>); 9] = [
-    (
-        WINDOW,
-        0,
-        Some(GroupFault::Json(OutOfRange {
-            member: Member::Windows,
-        })),
-    ),
-    (WINDOW, 32, None),
-    (
-        WINDOW,
-        33,
-        Some(GroupFault::Json(OutOfRange {
-            member: Member::Windows,
-        })),
-    ),
-    (
-        EXPOSURE,
-        0,
-        Some(GroupFault::Json(OutOfRange {
-            member: Member::InstrumentConfigs,
-        })),
-    ),
-    (EXPOSURE, 16, None),
-    (
-        EXPOSURE,
-        17,
-        Some(GroupFault::Json(OutOfRange {
-            member: Member::InstrumentConfigs,
-        })),
-    ),
-    (
-        CONFIGURATION,
-        0,
-        Some(GroupFault::Json(OutOfRange {
-            member: Member::Configurations,
-        })),
-    ),
-    (CONFIGURATION, 16, None),
-    (
-        CONFIGURATION,
-        17,
-        Some(GroupFault::Json(OutOfRange {
-            member: Member::Configurations,
-        })),
-    ),
+/// An element, and the most that its list may have.
+const LISTS: [(&str, usize, Member); 3] = [
+    (WINDOW, 32, Member::Windows),
+    (EXPOSURE, 16, Member::InstrumentConfigs),
+    (CONFIGURATION, 16, Member::Configurations),
 ];
 
 #[test]
 fn lists_have_counts(rt: HostRuntime) -> Result<(), Fail> {
-    for (piece, count, fault) in LISTS.iter() {
-        let found = fault_of_list(rt.alloc(), piece, *count)?;
-        assert_eq!(rt; found, *fault, "{count} of {piece}");
+    for (piece, most, member) in LISTS.iter() {
+        let fault = Some(GroupFault::Json(JsonFault::OutOfRange { member: *member }));
+        for (count, wanted) in [(0, fault), (*most, None), (*most + 1, fault)] {
+            let found = fault_of_list(rt.alloc(), piece, count)?;
+            assert_eq!(rt; found, wanted, "{count} {member}");
+        }
     }
     Ok(())
 }
 
-/// The fault of a group with this operator and so many of these in place of its request.
+/// The fault of a group with this operator and so many of these in place of its request, if it has one.
 fn fault_of_group(
     alloc: Global,
     operator: &str,
@@ -106,94 +68,52 @@ fn fault_of_group(
     fault_with(alloc, text.as_str(), REQUEST, elements.as_str())
 }
 
-fn shape(operator: Op, count: u32) -> Option<GroupFault> {
-    Some(GroupFault::BadShape { operator, count })
-}
+const NO_OBJECT: GroupFault = GroupFault::Json(JsonFault::WrongKind {
+    member: Member::Requests,
+});
 
-const OPERATORS: [(&str, Op); 3] = [("MANY", Op::Many), ("ONEOF", Op::OneOf), ("AND", Op::And)];
+const TOO_MANY: GroupFault = GroupFault::Json(JsonFault::OutOfRange {
+    member: Member::Requests,
+});
 
-/// The number of requests is tested before they are looked at.
+/// How many elements, which they are, and the fault. `5` is no request, but the number is tested before.
+const SINGLES: [(usize, &str, GroupFault); 2] = [(1, "5", NO_OBJECT), (1025, "5", TOO_MANY)];
+
 #[test]
-fn groups_of_several_have_2_to_32_requests(rt: HostRuntime) -> Result<(), Fail> {
-    for (name, op) in OPERATORS.iter() {
-        for (count, piece, fault) in [
-            (0, "5", shape(*op, 0)),
-            (1, "5", shape(*op, 1)),
-            (2, REQUEST, None),
-            (32, REQUEST, None),
-            (33, "5", shape(*op, 33)),
-        ] {
-            let found = fault_of_group(rt.alloc(), name, piece, count)?;
-            assert_eq!(rt; found, fault, "{count} in {name}");
-        }
+fn requests_are_counted_then_read(rt: HostRuntime) -> Result<(), Fail> {
+    for (count, piece, fault) in SINGLES.iter() {
+        let found = fault_of_group(rt.alloc(), "SINGLE", piece, *count)?;
+        assert_eq!(rt; found, Some(*fault), "{count}");
     }
     Ok(())
 }
 
-const SINGLES: [(usize, &str, Option<GroupFault>); 6] = [
-    (
-        0,
-        "5",
-        Some(GroupFault::BadShape {
-            operator: Op::Single,
-            count: 0,
-        }),
-    ),
-    (1, REQUEST, None),
-    (
-        1,
-        "5",
-        Some(GroupFault::Json(WrongKind {
-            member: Member::Requests,
-        })),
-    ),
-    (
-        2,
-        "5",
-        Some(GroupFault::BadShape {
-            operator: Op::Single,
-            count: 2,
-        }),
-    ),
-    (
-        1024,
-        "5",
-        Some(GroupFault::BadShape {
-            operator: Op::Single,
-            count: 1024,
-        }),
-    ),
-    (
-        1025,
-        "5",
-        Some(GroupFault::Json(OutOfRange {
-            member: Member::Requests,
-        })),
-    ),
+/// Numbers of requests that an operator doesn't have.
+const SHAPES: [(&str, Op, u32); 9] = [
+    ("SINGLE", Op::Single, 0),
+    ("SINGLE", Op::Single, 2),
+    ("SINGLE", Op::Single, 1024),
+    ("MANY", Op::Many, 1),
+    ("MANY", Op::Many, 33),
+    ("ONEOF", Op::OneOf, 1),
+    ("ONEOF", Op::OneOf, 33),
+    ("AND", Op::And, 1),
+    ("AND", Op::And, 33),
 ];
 
 #[test]
-fn a_single_has_one_request(rt: HostRuntime) -> Result<(), Fail> {
-    for (count, piece, fault) in SINGLES.iter() {
-        let found = fault_of_group(rt.alloc(), "SINGLE", piece, *count)?;
-        assert_eq!(rt; found, *fault, "{count} in a single");
+fn operators_have_numbers_of_requests(rt: HostRuntime) -> Result<(), Fail> {
+    for (name, operator, count) in SHAPES.iter() {
+        let fault = GroupFault::BadShape {
+            operator: *operator,
+            count: *count,
+        };
+        let found = fault_of_group(rt.alloc(), name, "5", *count as usize)?;
+        assert_eq!(rt; found, Some(fault), "{count} in {name}");
     }
-    Ok(())
-}
-
-/// The fault of the second request names its place.
-#[test]
-fn places_count_from_0(rt: HostRuntime) -> Result<(), Fail> {
-    let mut text = String::from_str(rt.alloc(), REQUEST)?;
-    text.push(',')?;
-    text.push_str(REQUEST.replacen(rt.alloc(), ":3600", ":0", 1)?.as_str())?;
-    let found = fault_of_group(rt.alloc(), "AND", text.as_str(), 1)?;
-    assert_eq!(rt;
-        found,
-        Some(GroupFault::BadWindow {
-            index: 1,
-            window: 0
-        })
-    );
+    for (name, count) in [("MANY", 2), ("MANY", 32), ("ONEOF", 2), ("AND", 32)] {
+        let found = fault_of_group(rt.alloc(), name, REQUEST, count)?;
+        assert_eq!(rt; found, None, "{count} in {name}");
+    }
     Ok(())
 }
