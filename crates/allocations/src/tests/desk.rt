@@ -99,6 +99,11 @@ impl Desk {
         GroupNo(self.calls)
     }
 
+    /// Asserts which account stands at a place.
+    pub fn check_account(&self, rt: &impl Abort, index: usize, key: Option<&Key>) {
+        assert_eq!(rt; self.ledger.account(index), key);
+    }
+
     /// Counts a call.
     fn count(&mut self, rt: &impl Abort)
         ensures few { self.old.calls < 100000000 }

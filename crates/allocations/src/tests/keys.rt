@@ -23,7 +23,7 @@ fn grant_all(rt: &impl Abort, desk: &mut Desk, keys: &[Key], order: &[usize]) ->
 fn accounts_are_in_the_order_of_keys(rt: HostRuntime) -> Result<(), Fail> {
     let keys = keys(rt.alloc())?;
     let mut desk = Desk::new(rt.alloc());
-    assert_eq!(&rt; desk.ledger.account(0), None);
+    desk.check_account(&rt, 0, None);
     grant_all(
         &rt,
         &mut desk,
@@ -31,9 +31,9 @@ fn accounts_are_in_the_order_of_keys(rt: HostRuntime) -> Result<(), Fail> {
         &[8, 4, 9, 2, 6, 0, 7, 5, 1, 3, 4],
     )?;
     for spot in 0..SPOTS.len() {
-        assert_eq!(&rt; desk.ledger.account(spot), keys.get(spot));
+        desk.check_account(&rt, spot, keys.get(spot));
     }
-    assert_eq!(&rt; desk.ledger.account(SPOTS.len()), None);
+    desk.check_account(&rt, SPOTS.len(), None);
     Ok(())
 }
 
@@ -68,7 +68,7 @@ fn accounts_are_full_at_their_limit(rt: HostRuntime) -> Result<(), Fail> {
         Err(full)
     );
     assert_eq!(&rt; grant_numbered(&rt, alloc, &mut desk, 512)?, Ok(14));
-    assert_eq!(&rt; desk.ledger.account(MOST_ACCOUNTS), None);
+    desk.check_account(&rt, MOST_ACCOUNTS, None);
     Ok(())
 }
 

@@ -73,11 +73,11 @@ fn check_all(rt: &impl Abort, walk: &Walk) {
     for spot in 0..walk.keys.len() {
         check_spot(rt, walk, spot);
         if walk.plain.is_granted(spot) {
-            assert_eq!(rt; walk.desk.ledger.account(accounts), walk.keys.get(spot));
+            walk.desk.check_account(rt, accounts, walk.keys.get(spot));
             accounts = accounts.saturating_add(1);
         }
     }
-    assert_eq!(rt; walk.desk.ledger.account(accounts), None);
+    walk.desk.check_account(rt, accounts, None);
 }
 
 /// An account that may be held.
