@@ -1,6 +1,8 @@
 pub mod Adding
 pub mod Computed
 pub mod ComputedFaults
+pub mod ComputedRebates
+pub mod ComputedStarts
 pub mod Duality
 pub mod Empty
 pub mod FaultLemmas
