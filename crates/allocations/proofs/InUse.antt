@@ -1,6 +1,6 @@
 -- Ledgers in use stay so.
-use Rattle.std.proofs.Common.{◌≡◌, ◌≢◌, ℕ, zero, suc, ◌+◌, ◌*◌, ◌<◌, ◌≤◌, List, [], ◌∷◌, ◌++◌, length, get_or, refl, sym, ap, ◌∙◌, subst, arith, map, Bool, true, false, Some, None, Option}
-use Rattle.std.specs.Prelude.{All, Any, AllPairs, IfSome, OnOk, OnErr, Result, Ok, Err, sum_by, find, option_and_then, if◌then◌else◌, ◌==◌, nat_lt}
+use Rattle.std.proofs.Common.{◌≡◌, ◌≢◌, ℕ, ◌+◌, ◌*◌, ◌<◌, ◌≤◌, List, [], ◌∷◌, ◌++◌, refl, sym, ap, ◌∙◌, subst, arith, map, Bool, true, false, Some, None, Option}
+use Rattle.std.specs.Prelude.{All, Any, IfSome, OnOk, OnErr, Result, Ok, Err, sum_by, find, option_and_then, if◌then◌else◌, ◌==◌, nat_lt}
 use Rattle.std.specs.Option.{option_to_list}
 use Rattle.std.specs.Ordering.{nat_cmp, match_ordering}
 use Rattle.std.specs.Cmp.{nat_cmp_is}
@@ -19,11 +19,10 @@ use Rattle.allocations.specs.declared.key.Account.TheVariants.{Ipp}
 use Rattle.allocations.specs.declared.entry.Entry.{Entry}
 use Rattle.allocations.specs.declared.entry.Hold.{Hold}
 use Rattle.allocations.specs.Key.{key_cmp}
-use Rattle.allocations.specs.Rising.{Rises}
 use Rattle.allocations.specs.Books.{Books, GroupHolds, total_seconds}
 use Rattle.allocations.specs.Changes.{group_cmp, ipp_of, with_entry, charge_entry, refund_entry, with_holds, without_ipp, change_group, released, refunded, freed, standing, booked}
 use Rattle.allocations.specs.Refusals.{proposal_of, ipp_key, ipp_need}
-use Rattle.allocations.specs.Ledger.{IsHoldList, IsFree, IsAtMost, seconds_of_holds}
+use Rattle.allocations.specs.Ledger.{IsAtMost, seconds_of_holds}
 use Rattle.allocations.specs.InUse.{IsWithin, IsInUse, IsAsked}
 use Rattle.allocations.proofs.Numbered.{find_none, map_none}
 
@@ -87,9 +86,6 @@ within_last g h s a b es last w more low charge sums = record {
 -- a group with a number above all others
 fresh_tests : (gs : List GroupHolds) (n : ℕ) → All (λ x. x.group.0 < n) gs → All (λ x. (x.group.0 == n) ≡ false) gs
 fresh_tests gs n below = All-weaker (λ (x : GroupHolds). x.group.0 < n) (λ (x : GroupHolds). (x.group.0 == n) ≡ false) (λ x l. ne_eqb x.group.0 n (λ e. absurd (omega (arith, l, e)))) gs below
-
-pub fresh_free : (gs : List GroupHolds) (n : GroupNo) → All (λ x. x.group.0 < n.0) gs → IsFree n gs
-fresh_free gs n below k d l same = let low = below k d l in let number = ap (λ (x : GroupNo). x.0) same in absurd (omega (arith, low, number))
 
 replace_last : (gs : List GroupHolds) (g : GroupHolds) → All (λ x. x.group.0 < g.group.0) gs → replace_key group_cmp gs g ≡ gs ++ g ∷ []
 replace_last [] g below = refl

@@ -1,6 +1,5 @@
 -- Ledgers in use, of which it is known which group numbers are new and how many seconds there are at most.
-use Rattle.std.specs.Prelude.{◌≡◌, ◌≢◌, ℕ, ◌+◌, ◌*◌, ◌<◌, ◌≤◌, List, All, IfSome}
-use Rattle.plan_base.specs.declared.number.GroupNo.{GroupNo}
+use Rattle.std.specs.Prelude.{ℕ, ◌*◌, ◌<◌, ◌≤◌, List, All, IfSome}
 use Rattle.allocations.specs.declared.entry.Hold.{Hold}
 use Rattle.allocations.specs.Books.{Books, total_seconds}
 use Rattle.allocations.specs.Ledger.{IsHoldList, seconds_of_holds}
