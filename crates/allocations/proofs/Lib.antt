@@ -13,3 +13,4 @@ pub mod Granted
 pub mod Changed
 pub mod Lower
 pub mod Released
+pub mod InUse

@@ -30,7 +30,7 @@ module _ {X : Type 0} (number : X → ℕ) where
       let rest = map_none xs n f (All-tail (λ y. (number y == n) ≡ false) x xs h) in
       ap (λ (b : Bool). (if b then f x else x) ∷ map (λ y. if number y == n then f y else y) xs) first ∙ ap (λ (l : List X). x ∷ l) rest
 
-  find_none : (xs : List X) (n : ℕ) → All (λ x. (number x == n) ≡ false) xs → find (λ x. number x == n) xs ≡ None
+  pub find_none : (xs : List X) (n : ℕ) → All (λ x. (number x == n) ≡ false) xs → find (λ x. number x == n) xs ≡ None
   find_none [] n h = refl
   find_none (x ∷ xs) n h =
       let first : (number x == n) ≡ false = All-head (λ y. (number y == n) ≡ false) x xs h in

@@ -48,7 +48,7 @@ one_need b n = only (refusal_at b n) refl
     only None e = rw e refl
     only (Some f) e = rw e refl
 
-need_above : (hs : List Hold) (ipp : ℕ) → 0 < ipp → ipp_need hs ipp ≡ Some record { key = ipp_key (proposal_of hs); seconds = ipp }
+pub need_above : (hs : List Hold) (ipp : ℕ) → 0 < ipp → ipp_need hs ipp ≡ Some record { key = ipp_key (proposal_of hs); seconds = ipp }
 need_above hs ipp l = ap (λ (x : Bool). if x then Some record { key = ipp_key (proposal_of hs); seconds = ipp } else None) (lt-ltb 0 ipp l)
 
 pub need_none : (hs : List Hold) (ipp : ℕ) → ipp ≤ 0 → ipp_need hs ipp ≡ None

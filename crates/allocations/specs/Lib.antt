@@ -13,3 +13,4 @@ pub mod Booking
 pub mod Ledger
 pub mod LedgerInside
 pub mod Lowered
+pub mod InUse

@@ -13,6 +13,8 @@ mod posting;
 mod register;
 mod store;
 mod sums;
+#[cfg(test)]
+mod tests;
 
 pub use entry::{Entry, EntryKind, Hold};
 pub use fault::{FullOf, LedgerFault};
