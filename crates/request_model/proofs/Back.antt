@@ -1,21 +1,17 @@
 -- What is written is read again.
-use Rattle.std.proofs.Common.{◌≡◌, ℕ, suc, ◌+◌, ◌≤◌, ◌<◌, List, [], ◌∷◌, map, length, All, Bool, true, false, cond, nat_le, nat_lt, Option, Some, None, option_map, IfSome, Result, Ok, Err, refl, ap, sym, ◌∙◌, arith}
-use Rattle.std.proofs.lemmas.Bool.{le-leb, lt-ltb, leb-true}
-use Rattle.serde_json.specs.Data.{Data, string, object, Members, no_members}
-use Rattle.serde_json.specs.View.{items_of}
+use Rattle.std.proofs.Common.{◌≡◌, ℕ, suc, ◌+◌, ◌≤◌, List, [], ◌∷◌, map, length, All, Result, Ok, refl, ap, arith}
+use Rattle.std.proofs.lemmas.Bool.{le-leb}
+use Rattle.serde_json.specs.Data.{Data, string}
 use Rattle.plan_base.specs.declared.number.Sec.{Sec}
-use Rattle.plan_base.specs.declared.span.Span.{Span}
 use Rattle.plan_json.specs.declared.member.Member.{Member}
 use Rattle.plan_json.specs.declared.member.Member.TheVariants as key
-use Rattle.plan_json.specs.declared.fault.JsonFault.{JsonFault}
-use Rattle.plan_json.specs.Reading.{result_map, result_and_then, read_each}
-use Rattle.plan_json.specs.Object.{value_of, member_of, object_in}
+use Rattle.plan_json.specs.Reading.{read_each}
 use Rattle.plan_json.specs.Text.{text_in}
-use Rattle.plan_json.specs.Moment.{moment_in, moment_at, last_moment}
-use Rattle.plan_json.specs.List.{elements, counted, list_in}
+use Rattle.plan_json.specs.Moment.{moment_in, last_moment}
+use Rattle.plan_json.specs.List.{list_in}
 use Rattle.plan_json.proofs.Values.{elements_of_items}
 use Rattle.request_model.specs.declared.request.Exposure.{Exposure}
-use Rattle.request_model.specs.Reading.{◌>>=◌, number_in, read_from}
+use Rattle.request_model.specs.Reading.{number_in, read_from}
 use Rattle.request_model.specs.Configuration.{exposure_in}
 use Rattle.request_model.specs.Written.{whole, list_data, exposure_data}
 use Rattle.request_model.specs.Ranges.{IsBetween, IsText, IsExposure}

@@ -1,5 +1,5 @@
 -- A group that is written is read again.
-use Rattle.std.proofs.Common.{◌≡◌, ℕ, ◌≤◌, List, map, length, true, Ok, ok_or, nat_le, refl, arith}
+use Rattle.std.proofs.Common.{◌≡◌, ℕ, ◌≤◌, List, length, true, Ok, ok_or, nat_le, refl, arith}
 use Rattle.std.proofs.lemmas.Bool.{leb-true, eqb-true, and_parts}
 use Rattle.serde_json.specs.Data.{string}
 use Rattle.plan_base.specs.declared.parts.Op.{Op}

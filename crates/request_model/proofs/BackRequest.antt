@@ -1,5 +1,5 @@
 -- A request that is written is read again.
-use Rattle.std.proofs.Common.{◌≡◌, ℕ, suc, ◌≤◌, ◌<◌, List, [], ◌∷◌, map, length, All, Bool, true, false, cond, nat_lt, bytes_eq, is_some, Option, Some, None, option_map, IfSome, Result, Ok, Err, refl, ap, sym, ◌∙◌, arith}
+use Rattle.std.proofs.Common.{◌≡◌, ℕ, suc, ◌≤◌, List, [], ◌∷◌, map, length, All, Bool, true, false, cond, nat_lt, bytes_eq, Option, Some, None, option_map, IfSome, Ok, refl, ap, arith}
 use Rattle.std.proofs.lemmas.Bool.{lt-ltb, ltb-false}
 use Rattle.std.proofs.lemmas.Slice.Eq.{bytes_eq-Decides}
 use Rattle.serde_json.specs.Data.{Data, string, array, object, Items, Members, no_members}
@@ -7,13 +7,9 @@ use Rattle.serde_json.specs.View.{items_of}
 use Rattle.plan_base.specs.declared.span.Span.{Span}
 use Rattle.plan_json.specs.declared.member.Member.{Member}
 use Rattle.plan_json.specs.declared.member.Member.TheVariants as key
-use Rattle.plan_json.specs.declared.fault.JsonFault.{JsonFault}
-use Rattle.plan_json.specs.Reading.{result_map, result_and_then, read_each}
-use Rattle.plan_json.specs.Object.{value_of, member_of, object_in}
+use Rattle.plan_json.specs.Reading.{read_each}
+use Rattle.plan_json.specs.Object.{value_of, object_in}
 use Rattle.plan_json.specs.Text.{text_in}
-use Rattle.plan_json.specs.Moment.{moment_in}
-use Rattle.plan_json.specs.List.{list_in}
-use Rattle.request_model.specs.declared.fault.GroupFault.{GroupFault}
 use Rattle.request_model.specs.declared.request.ConfigDoc.{ConfigDoc}
 use Rattle.request_model.specs.declared.request.Location.{Location}
 use Rattle.request_model.specs.declared.request.Cadence.{Cadence}
@@ -21,14 +17,13 @@ use Rattle.request_model.specs.declared.request.When.{When}
 use Rattle.request_model.specs.declared.request.When.TheVariants as when
 use Rattle.request_model.specs.declared.request.RequestDoc.{RequestDoc}
 use Rattle.request_model.specs.declared.read.configuration.Typed.{Typed}
-use Rattle.request_model.specs.Fault.{in_group}
 use Rattle.request_model.specs.Reading.{◌>>=◌, number_in, if_there, or_default}
-use Rattle.request_model.specs.Configuration.{exposure_in, typed_in, are_of_type, of_one_type, configurations_of}
+use Rattle.request_model.specs.Configuration.{exposure_in, typed_in, are_of_type, of_one_type}
 use Rattle.request_model.specs.Location.{location_of}
-use Rattle.request_model.specs.When.{cadence_of, window_in, windows_of, when_of}
-use Rattle.request_model.specs.Request.{request_of, request_in}
-use Rattle.request_model.specs.Written.{whole, list_data, and_member, and_text, and_times, target_data, exposure_data, configuration_data, location_data, cadence_data, window_data, request_data}
-use Rattle.request_model.specs.Ranges.{IsText, IsExposure, IsConfiguration, IsLocation, IsCadence, IsWindow, AreWindows, IsWhen, IsRequest}
+use Rattle.request_model.specs.When.{cadence_of, window_in, when_of}
+use Rattle.request_model.specs.Request.{request_in}
+use Rattle.request_model.specs.Written.{whole, list_data, and_member, and_text, and_times, exposure_data, configuration_data, location_data, cadence_data, window_data, request_data}
+use Rattle.request_model.specs.Ranges.{IsText, IsExposure, IsConfiguration, IsLocation, IsCadence, IsWindow, IsWhen, IsRequest}
 use Rattle.request_model.proofs.Back.{number_back, text_back, moment_back, each_back, each_back_from, list_back, exposure_back}
 
 -- a configuration with its instrument type

@@ -1,5 +1,5 @@
 -- The document of a group, as it is written: each object's members, which a writer puts in byte order.
-use Rattle.std.specs.Prelude.{ℕ, nat_lt, if◌then◌else◌, List, [], ◌∷◌, map, codes, Option, Some, None, Result}
+use Rattle.std.specs.Prelude.{ℕ, nat_lt, if◌then◌else◌, List, map, codes, Option, Some, None, Result}
 use Rattle.serde_json.specs.Data.{Data, number, string, array, object, unsigned, Members, no_members, put}
 use Rattle.serde_json.specs.View.{items_of}
 use Rattle.serde_json.specs.Written.{compact_text}
