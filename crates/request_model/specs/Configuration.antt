@@ -11,7 +11,6 @@ use Rattle.plan_json.specs.List.{list_in}
 use Rattle.request_model.specs.declared.fault.GroupFault.{GroupFault}
 use Rattle.request_model.specs.declared.fault.GroupFault.TheVariants.{MixedInstruments}
 use Rattle.request_model.specs.declared.request.Exposure.{Exposure}
-use Rattle.request_model.specs.declared.request.ConfigDoc.{ConfigDoc}
 use Rattle.request_model.specs.declared.read.configuration.Typed.{Typed}
 use Rattle.request_model.specs.declared.read.configuration.OfOneType.{OfOneType}
 use Rattle.request_model.specs.Fault.{in_group}

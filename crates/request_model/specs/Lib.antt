@@ -5,3 +5,6 @@ pub mod Location
 pub mod When
 pub mod Request
 pub mod Group
+pub mod Written
+pub mod Ranges
+pub mod Laws

@@ -1,5 +1,5 @@
 -- How members are read one after another: the first fault is the answer.
-use Rattle.std.specs.Prelude.{ℕ, ◌+◌, List, [], ◌∷◌, is_some, if◌then◌else◌, pos, unsigned_abs, Option, Some, None, Result, Ok, Err}
+use Rattle.std.specs.Prelude.{ℕ, ◌+◌, List, [], ◌∷◌, is_some, if◌then◌else◌, pos, unsigned_abs, Option, Some, None, Result, Ok}
 use Rattle.serde_json.specs.Data.{Data, Members}
 use Rattle.plan_json.specs.declared.member.Member.{Member}
 use Rattle.plan_json.specs.declared.fault.JsonFault.{JsonFault}

@@ -1,5 +1,5 @@
 -- A request.
-use Rattle.std.specs.Prelude.{ℕ, List, Result, Ok}
+use Rattle.std.specs.Prelude.{ℕ, Result, Ok}
 use Rattle.serde_json.specs.Data.{Data, Members}
 use Rattle.plan_json.specs.declared.member.Member.TheVariants.{Location, AcceptabilityThreshold, Fade, Requests}
 use Rattle.plan_json.specs.Object.{member_of, object_in}

@@ -3,12 +3,16 @@
 
 mod fault;
 mod group;
+mod laws;
 mod read;
 mod request;
 #[cfg(test)]
 mod tests;
+mod write;
 
 pub use fault::GroupFault;
 pub use group::{GroupDoc, ObsKind};
+pub use laws::groups_are_read_back;
 pub use read::read_group;
 pub use request::{Cadence, ConfigDoc, Exposure, Location, RequestDoc, When};
+pub use write::write_group;

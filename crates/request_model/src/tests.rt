@@ -5,6 +5,7 @@ mod edges;
 mod faults;
 mod order;
 mod values;
+mod written;
 
 use crate::{GroupDoc, GroupFault, read_group};
 use plan_json::parse_object;

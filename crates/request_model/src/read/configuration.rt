@@ -5,7 +5,7 @@ ghost use Rattle.plan_json.specs.declared.fault.JsonFault.TheVariants as json;
 ghost use Rattle.plan_json.specs.Reading.{read_each};
 ghost use Rattle.plan_json.specs.Shown.{members_of, elements_of, element_of, named_by};
 ghost use Rattle.plan_json.specs.declared.member.Member.TheVariants.{InstrumentConfigs, Configurations};
-ghost use Rattle.request_model.specs.Configuration.{exposure_of, exposure_in, typed_of, typed_in, are_of_type, of_one_type, configurations_of};
+ghost use Rattle.request_model.specs.Configuration.{exposure_in, typed_of, typed_in, are_of_type, of_one_type, configurations_of};
 ghost use Rattle.request_model.specs.declared.fault.GroupFault.TheVariants.{NoMemory};
 
 use crate::fault::GroupFault;

@@ -1,0 +1,73 @@
+-- Which groups have a document: their texts, numbers and counts are in the ranges in which they are read.
+use Rattle.std.specs.Prelude.{◌≡◌, ℕ, ◌<◌, ◌≤◌, List, length, All, IfSome, true}
+use Rattle.plan_base.specs.declared.span.Span.{Span}
+use Rattle.plan_json.specs.Moment.{last_moment}
+use Rattle.request_model.specs.declared.group.GroupDoc.{GroupDoc}
+use Rattle.request_model.specs.declared.request.Exposure.{Exposure}
+use Rattle.request_model.specs.declared.request.ConfigDoc.{ConfigDoc}
+use Rattle.request_model.specs.declared.request.Location.{Location}
+use Rattle.request_model.specs.declared.request.Cadence.{Cadence}
+use Rattle.request_model.specs.declared.request.When.{When}
+use Rattle.request_model.specs.declared.request.When.TheVariants as when
+use Rattle.request_model.specs.declared.request.RequestDoc.{RequestDoc}
+use Rattle.request_model.specs.Group.{is_shape}
+
+-- the number lies in the range
+pub record IsBetween (least most n : ℕ) : Type 0 where
+  pub low : least ≤ n
+  pub high : n ≤ most
+
+-- the text has 1 to 128 bytes
+abbrev pub IsText : List ℕ → Type 0
+IsText s = IsBetween 1 128 (length s)
+
+pub record IsExposure (e : Exposure) : Type 0 where
+  pub time : IsBetween 1 86400000 e.ms
+  pub number : IsBetween 1 10000 e.count
+
+pub record IsConfiguration (c : ConfigDoc) : Type 0 where
+  pub name : IsText c.target
+  pub count : IsBetween 1 16 (length c.exposures)
+  pub each : All IsExposure c.exposures
+
+pub record IsLocation (l : Location) : Type 0 where
+  pub of_class : IsText l.class
+  pub at_site : IfSome l.site IsText
+  pub in_enclosure : IfSome l.enclosure IsText
+  pub on_telescope : IfSome l.telescope IsText
+
+pub record IsCadence (c : Cadence) : Type 0 where
+  pub first : c.start.0 ≤ last_moment
+  pub last : c.end.0 ≤ last_moment
+  pub apart : c.period ≤ 15552000
+  pub round : c.jitter ≤ 15552000
+
+-- the window has a second
+pub record IsWindow (w : Span) : Type 0 where
+  pub order : w.from.0 < w.to.0
+  pub last : w.to.0 ≤ last_moment
+
+pub record AreWindows (ws : List Span) : Type 0 where
+  pub count : IsBetween 1 32 (length ws)
+  pub each : All IsWindow ws
+
+abbrev pub IsWhen : When → Type 0
+IsWhen (when.Cadence c) = IsCadence c
+IsWhen (when.Windows ws) = AreWindows ws
+
+pub record IsRequest (r : RequestDoc) : Type 0 where
+  pub place : IsLocation r.location
+  pub times : IsWhen r.when
+  pub type : IsText r.instrument
+  pub count : IsBetween 1 16 (length r.configurations)
+  pub each : All IsConfiguration r.configurations
+  pub least : r.threshold ≤ 100
+  pub lost : r.fade ≤ 1000
+
+pub record IsGroup (g : GroupDoc) : Type 0 where
+  pub title : IsText g.name
+  pub payer : IsText g.proposal
+  pub share : IsBetween 500 2000 g.ipp
+  pub rank : IsBetween 1 100 g.priority
+  pub shape : is_shape g.op (length g.requests) ≡ true
+  pub each : All IsRequest g.requests

@@ -1,0 +1,9 @@
+// Groups written as documents.
+
+mod configuration;
+mod group;
+mod members;
+mod request;
+mod times;
+
+pub use group::write_group;
