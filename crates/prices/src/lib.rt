@@ -8,6 +8,8 @@ mod round;
 mod steps;
 mod taken;
 mod taking;
+#[cfg(test)]
+mod tests;
 mod zeros;
 
 pub use bound::lagrangian;
