@@ -1,0 +1,6 @@
+pub mod Demanding
+pub mod Greatest
+pub mod Rounding
+pub mod Setting
+pub mod Summing
+pub mod Walking

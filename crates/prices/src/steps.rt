@@ -1,0 +1,25 @@
+// How far prices move in a round.
+
+ghost use Rattle.std.specs.Prelude.{◌≡◌, ◌<◌, pos};
+ghost use Rattle.plan_base.specs.Round.{step_of, quota_step};
+
+/// The seconds in an hour: a quota is counted in seconds, and its price moves by the step of an hour.
+const HOUR: u64 = 3600;
+
+/// The subgradient step of a lane's round, both counted from 0, the lane below 8 and the round below 256: the greatest
+/// value of a request, halved for each lower lane and shared by the rounds up to this one, rounded down, but at least 1.
+pub fn step_of(lane: u32, round: u32, vmax: u32) -> i64
+    requires lane { lane < 8 }
+    requires round { round < 256 }
+    ensures { result ≡ pos (step_of lane round vmax) }
+{
+    let shares = 2u32.pow(lane) * (round + 1);
+    i64::from((vmax / shares).max(1))
+}
+
+/// The step of quota prices that goes with a step.
+pub(crate) fn quota_step(step: u64) -> u64
+    ensures { result ≡ quota_step step }
+{
+    (step / HOUR).max(1)
+}
