@@ -21,7 +21,8 @@ use Rattle.interval_solver.specs.declared.offer.Offer.{Offer}
 use Rattle.interval_solver.specs.Tables.{row}
 use Rattle.interval_solver.specs.Offers.{IsOffer, offer_worth}
 use Rattle.interval_solver.specs.Listings.{start_in, AreAdded, AreAllRuns, IsOfFirst, IsStartOf, IsToldBy, IsStartAt, IsListing}
-use Rattle.interval_solver.proofs.Here.{IsHere, element_at}
+use Rattle.std.specs.Prelude.{HoldsAt}
+use Rattle.interval_solver.proofs.Here.{IsHere, request_here}
 
 below_or_at : (a b : ℕ) → a < b + 1 → (a < b) ⊎ (a ≡ b)
 below_or_at a b h = grind arith
@@ -234,3 +235,10 @@ module _ (s : Parts) (t n : ℕ) (runs : List Run) (run : Run) (place : ℕ) (q 
 pub ok_then : {T E : Type 0} (r : Result T E) (A B : Type 0) → (A → B) → OnOk r A → OnOk r B
 ok_then (Ok x) A B f a = f a
 ok_then (Err e) A B f a = a
+
+-- the request with the number r stands at its place
+pub found_here : (s : Parts) (n r : ℕ) (q : RequestPart) → IsOrderly s → IsKnown s r → n ≡ place_of s r → HoldsAt (λ x. x.request ≡ q) (listed s) n → IsHere s n q
+found_here s n r q orderly known at here = request_here s n q orderly (subst (λ (m : ℕ). m < length (listed s)) (sym at) known) here
+
+pub found_number : (s : Parts) (n r : ℕ) (q : RequestPart) → IsKnown s r → n ≡ place_of s r → IsHere s n q → r ≡ q.request.0
+found_number s n r q known at here = same_number s r q.request.0 known here.known (sym at ∙ sym here.at)

@@ -1,6 +1,6 @@
 // The possible starts of one telescope, by slice.
 
-ghost use Rattle.std.specs.Prelude.{◌≡◌, ◌+◌, ◌<◌, ◌≤◌, ℕ, [], length, AllPairs, IfOk, OnOk};
+ghost use Rattle.std.specs.Prelude.{◌≡◌, ◌+◌, ◌<◌, ◌≤◌, ℕ, [], length, HoldsAt, IfOk, OnOk};
 ghost use Rattle.plan_base.specs.Starts.{IsPossibleStart};
 ghost use Rattle.snapshot_starts.specs.Runs.{AreAllStarts};
 ghost use Rattle.interval_solver.specs.Tables.{row};
@@ -27,7 +27,7 @@ pub(crate) fn rows_of(
     let mut rows = empty_rows(alloc, snapshot.parts().slices as usize)?;
     let runs = starts.runs();
     for place in 0..runs.len() {
-        list_run(snapshot, telescope, runs, place, &mut rows)?;
+        list_run(snapshot, telescope, runs, place, runs[place], &mut rows)?;
     }
     Ok(rows)
 }
@@ -44,20 +44,21 @@ fn empty_rows(alloc: Global, count: usize) -> Result<Vec<ListOf<Start>>, AllocEr
     Ok(rows)
 }
 
-/// Adds the starts of the run at a place, if it is one of the telescope.
+/// Adds the starts of the run, which is the one at a place, if it is one of the telescope.
 fn list_run(
     snapshot: &Snapshot,
     telescope: TelescopeNo,
     runs: &[Run],
     place: usize,
+    run: Run,
     rows: &mut Vec<ListOf<Start>>,
 ) -> Result<(), AllocError>
     requires runs { AreAllRuns snapshot.now runs.now }
     requires place { place < length runs.now }
+    requires run { HoldsAt (λ x. x ≡ run) runs.now place }
     requires listing { IsListing snapshot.now telescope.0 (IsOfFirst runs.now place) rows.old.items }
     ensures { OnOk result (IsListing snapshot.now telescope.0 (IsOfFirst runs.now (place + 1)) rows.new.items) }
 {
-    let run = runs[place];
     if run.telescope.0 != telescope.0 {
         return Ok(());
     }
