@@ -1,5 +1,5 @@
 -- Rows to whose ends starts of an offer are added.
-use Rattle.std.proofs.Common.{◌≡◌, ◌≢◌, ℕ, ◌+◌, ◌<◌, ◌≤◌, ◌⊎◌, inl, inr, List, [], ◌∷◌, ◌++◌, length, slice_index_or, slice_set, refl, sym, ◌∙◌, ap, get_or-set_other, get_or-set_same, length-set, arith}
+use Rattle.std.proofs.Common.{◌≡◌, ◌≢◌, ℕ, ◌+◌, ◌<◌, ◌≤◌, ◌⊎◌, inl, inr, List, [], ◌∷◌, ◌++◌, length, slice_set, refl, sym, ◌∙◌, ap, get_or-set_other, get_or-set_same, length-set, arith}
 use Rattle.interval_solver.specs.declared.start.Start.{Start}
 use Rattle.interval_solver.specs.declared.offer.Offer.{Offer}
 use Rattle.interval_solver.specs.Tables.{row}

@@ -1,12 +1,12 @@
 -- What the loops over a table keep.
-use Rattle.std.proofs.Common.{◌≡◌, ◌≢◌, ℕ, ◌+◌, ◌-◌, ◌*◌, ◌<◌, ◌≤◌, ◌⊎◌, inl, inr, ℤ, pos, ◌+ℤ◌, ◌-ℤ◌, ◌≤ℤ◌, List, [], length, slice_index_or, slice_set, All, Contains, refl, sym, ◌∙◌, ap, subst, below_more, get_or-set_other, get_or-set_same, length-set, arith}
+use Rattle.std.proofs.Common.{◌≡◌, ◌≢◌, ℕ, ◌+◌, ◌-◌, ◌*◌, ◌<◌, ◌≤◌, ◌⊎◌, inl, inr, ℤ, pos, ◌+ℤ◌, ◌-ℤ◌, ◌≤ℤ◌, List, [], length, slice_index_or, slice_set, All, Contains, sym, ◌∙◌, ap, subst, get_or-set_other, get_or-set_same, length-set, arith}
 use Rattle.std.proofs.lemmas.Int.{ints}
 use Rattle.std.proofs.lemmas.List.{get_or_default}
-use Rattle.std.proofs.lemmas.List.Elements.{Contains-get_or, All-contains}
+use Rattle.std.proofs.lemmas.List.Elements.{Contains-get_or}
 use Rattle.plan_base.specs.Verdict.{IsPriceInRange}
 use Rattle.plan_base.proofs.Limits.{price_in_range}
 use Rattle.interval_solver.specs.declared.start.Start.{Start}
-use Rattle.interval_solver.specs.Tables.{IsWeight, IsEntry, entry, row, start_weight, gain, IsFitting, DoRowsFit, IsGreatestAt, IsRecursion}
+use Rattle.interval_solver.specs.Tables.{IsWeight, IsEntry, entry, row, start_weight, gain, IsFitting, DoRowsFit, IsGreatestAt}
 
 -- a worth less a price in its range
 difference_between : (w : ℕ) (c : ℤ) → w ≤ 288000000 → IsPriceInRange c → IsWeight (pos w -ℤ c)

@@ -1,5 +1,5 @@
 -- From the starts of a run to the possible starts of a telescope.
-use Rattle.std.proofs.Common.{◌≡◌, ℕ, ◌+◌, ◌-◌, ◌<◌, ◌≤◌, ◌⊎◌, inl, inr, max, min, List, [], ◌∷◌, ◌++◌, length, slice_index_or, map, Result, Ok, Err, OnOk, All, AllPairs, Contains, refl, sym, ◌∙◌, ap, subst, arith}
+use Rattle.std.proofs.Common.{◌≡◌, ℕ, ◌+◌, ◌-◌, ◌<◌, ◌≤◌, ◌⊎◌, inl, inr, List, [], ◌∷◌, ◌++◌, length, slice_index_or, map, Result, Ok, Err, OnOk, All, AllPairs, Contains, refl, sym, ◌∙◌, ap, subst, arith}
 use Rattle.std.proofs.lemmas.List.{get_or_default}
 use Rattle.std.proofs.lemmas.List.Elements.{All-contains, Contains-append_left, Contains-append_right, Contains-append_cases}
 use Rattle.plan_base.specs.declared.parts.Parts.{Parts}
@@ -9,17 +9,17 @@ use Rattle.plan_base.specs.declared.claim.Placement.{Placement}
 use Rattle.plan_base.specs.declared.span.Span.{Span}
 use Rattle.plan_base.specs.Requests.{Listed, listed, place_of, IsKnown, request_value, fade_of, windows_of}
 use Rattle.plan_base.specs.Snapshot.{IsOrderly}
-use Rattle.plan_base.specs.Starts.{slices_for, size_of, least_of, earliest_slice, faded, worth_at, IsPossibleStart, IsAllStarts}
+use Rattle.plan_base.specs.Starts.{slices_for, size_of, least_of, earliest_slice, faded, IsPossibleStart}
 use Rattle.plan_base.proofs.Sizes.{start_size_above}
 use Rattle.plan_base.proofs.Known.{known_as}
 use Rattle.plan_base.proofs.Orders.{contains_first, contains_cases}
 use Rattle.snapshot_starts.specs.declared.run.Run.{Run}
-use Rattle.snapshot_starts.specs.Runs.{start_at, starts_of_run, starts_of, IsStartBefore, IsRunBefore, AreRuns, AreAllStarts}
+use Rattle.snapshot_starts.specs.Runs.{start_at, starts_of_run, starts_of, IsRunBefore, AreRuns, AreAllStarts}
 use Rattle.snapshot_starts.proofs.InRuns.{pairs_append, IsIn, in_run, from_run, in_starts, from_starts}
 use Rattle.interval_solver.specs.declared.start.Start.{Start}
 use Rattle.interval_solver.specs.declared.offer.Offer.{Offer}
 use Rattle.interval_solver.specs.Tables.{row}
-use Rattle.interval_solver.specs.Offers.{IsOffer, offer_worth}
+use Rattle.interval_solver.specs.Offers.{IsOffer}
 use Rattle.interval_solver.specs.Listings.{start_in, AreAdded, AreAllRuns, IsOfFirst, IsStartOf, IsToldBy, IsStartAt, IsListing}
 use Rattle.std.specs.Prelude.{HoldsAt}
 use Rattle.interval_solver.proofs.Here.{IsHere, request_here}
@@ -217,17 +217,18 @@ module _ (s : Parts) (t n : ℕ) (runs : List Run) (run : Run) (place : ℕ) (q 
           let begins : s.first.0 ≤ p.slice.0 = start.possible.begins in
           let slice_is : s.first.0 + (p.slice.0 - s.first.0) ≡ p.slice.0 = omega arith in
           let from : run.first.0 ≤ p.slice.0 = is_in.from in
-          let to : p.slice.0 < run.first.0 + run.count = is_in.to in
-          (start_in o s.first.0 (p.slice.0 - s.first.0),
+          let to : p.slice.0 < run.first.0 + run.count = is_in.to in (
+            start_in o s.first.0 (p.slice.0 - s.first.0),
             subst (λ (xs : List Start). Contains xs (start_in o s.first.0 (p.slice.0 - s.first.0))) (sym (added.added (p.slice.0 - s.first.0) (row_below p start.possible) (omega arith) (omega arith)))
                 (Contains-append_right (row old (p.slice.0 - s.first.0)) (start_in o s.first.0 (p.slice.0 - s.first.0) ∷ []) _ (contains_first (start_in o s.first.0 (p.slice.0 - s.first.0)) [])),
-            told_by s place q o p (p.slice.0 - s.first.0) here offer (ap (λ (r : RequestNo). r.0) is_in.request ∙ same) (sym slice_is))
+            told_by s place q o p (p.slice.0 - s.first.0) here offer (ap (λ (r : RequestNo). r.0) is_in.request ∙ same) (sym slice_is),
+          )
     ];
     rising = λ i. elim (outside_or_within (s.first.0 + i) run.first.0 (run.first.0 + run.count)) [
       | inl out ↦ subst (AllPairs (λ a b. a.request.0 < b.request.0)) (sym (added.kept i out)) (before.rising i)
       | inr (from, to) ↦ subst (AllPairs (λ a b. a.request.0 < b.request.0)) (sym (added.added i (within_rows i to) from to))
-      (pairs_append (λ a b. a.request.0 < b.request.0) (row old i) (start_in o s.first.0 i ∷ []) (before.rising i) (λ j k d m k_below. absurd (omega arith))
-      (λ a b ca cb. subst (λ (y : Start). a.request.0 < y.request.0) (sym (contains_one (start_in o s.first.0 i) b cb)) (lower_request i a from to ca)))
+          (pairs_append (λ a b. a.request.0 < b.request.0) (row old i) (start_in o s.first.0 i ∷ []) (before.rising i) (λ j k d m k_below. absurd (omega arith))
+          (λ a b ca cb. subst (λ (y : Start). a.request.0 < y.request.0) (sym (contains_one (start_in o s.first.0 i) b cb)) (lower_request i a from to ca)))
     ];
   }
 

@@ -1,9 +1,6 @@
 -- A table over the listing of a telescope's starts has its bests.
-use Rattle.std.proofs.Common.{◌≡◌, ◌≢◌, ℕ, suc, ◌+◌, ◌-◌, ◌<◌, ◌≤◌, ◌⊎◌, inl, inr, ℤ, pos, ◌+ℤ◌, ◌-ℤ◌, ◌≤ℤ◌, List, length, slice_index_or, All, AllPairs, Contains, refl, sym, ◌∙◌, ap, subst, arith}
-use Rattle.std.proofs.lemmas.Int.{ints}
-use Rattle.std.proofs.lemmas.List.{get_or_default}
+use Rattle.std.proofs.Common.{◌≡◌, ◌≢◌, ℕ, suc, ◌+◌, ◌-◌, ◌<◌, ◌≤◌, ◌⊎◌, inl, inr, ℤ, pos, ◌+ℤ◌, ◌-ℤ◌, ◌≤ℤ◌, List, length, slice_index_or, sym, ◌∙◌, ap, subst, arith}
 use Rattle.plan_base.specs.declared.parts.Parts.{Parts}
-use Rattle.plan_base.specs.declared.number.RequestNo.{RequestNo}
 use Rattle.plan_base.specs.declared.claim.Placement.{Placement}
 use Rattle.plan_base.specs.Requests.{listed, place_of}
 use Rattle.plan_base.specs.Snapshot.{IsOrderly}
@@ -11,10 +8,10 @@ use Rattle.plan_base.specs.Starts.{size_of, worth_at, IsPossibleStart}
 use Rattle.plan_base.specs.Bound.{weight, IsBest}
 use Rattle.plan_base.proofs.Sizes.{start_size_above}
 use Rattle.plan_base.proofs.Limits.{worth_at_most}
-use Rattle.plan_base.proofs.Tables.{IsStartOn, slice_after, horizon_end, IsTable, table_best}
+use Rattle.plan_base.proofs.Tables.{slice_after, horizon_end, IsTable, table_best}
 use Rattle.interval_solver.specs.declared.start.Start.{Start}
-use Rattle.interval_solver.specs.Tables.{entry, row, start_weight, gain, IsFitting, DoRowsFit, IsGreatestAt, IsRecursion}
-use Rattle.interval_solver.specs.Listings.{IsStartOf, IsToldBy, IsStartAt, IsListing}
+use Rattle.interval_solver.specs.Tables.{entry, start_weight, gain, DoRowsFit, IsGreatestAt, IsRecursion}
+use Rattle.interval_solver.specs.Listings.{IsToldBy, IsListing}
 
 module _ (s : Parts) (t : ℕ) (rows : List (List Start)) (orderly : IsOrderly s) (listing : IsListing s t (IsPossibleStart s) rows) where
   -- each start ends after it begins, and within the rows

@@ -6,5 +6,7 @@ mod rows;
 mod solver;
 mod start;
 mod table;
+#[cfg(test)]
+mod tests;
 
 pub use solver::Solver;

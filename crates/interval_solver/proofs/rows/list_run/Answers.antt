@@ -1,12 +1,10 @@
-use Rattle.std.proofs.Common.{rules, arith, ◌≡◌, ◌+◌, ◌<◌, ◌≤◌, ℕ, List, length, slice_index_or, sym, ◌∙◌, ap, subst}
+use Rattle.std.proofs.Common.{arith, ◌≡◌, ◌+◌, ◌<◌, ◌≤◌, ℕ, length, ◌∙◌, ap, subst}
 use Rattle.plan_base.specs.declared.parts.Parts.{Parts}
-use Rattle.plan_base.specs.declared.claim.Placement.{Placement}
 use Rattle.plan_base.specs.Requests.{IsKnown}
 use Rattle.interval_solver.specs.Offers.{IsOffer}
-use Rattle.interval_solver.specs.Listings.{AreAdded, IsOfFirst, IsStartOf, IsListing}
+use Rattle.interval_solver.specs.Listings.{AreAdded, IsOfFirst, IsListing}
 use Rattle.interval_solver.proofs.Here.{IsHere}
-use Rattle.interval_solver.proofs.Listed.{run_possible, run_within, listing_stays, listing_more, found_here, found_number, ok_then}
-use Rattle.snapshot_starts.proofs.InRuns.{IsIn}
+use Rattle.interval_solver.proofs.Listed.{run_within, listing_stays, listing_more, found_here, found_number, ok_then}
 use Rattle.interval_solver.proofs.rows.list_run.Goals as goal
 
 pub returns-then-run-telescope : goal.returns-then-run-telescope

@@ -1,10 +1,7 @@
-use Rattle.std.proofs.Common.{rules, arith, ◌≡◌, ◌+◌, ◌≤◌, ℕ, ℤ, w64, List, length, sym, ◌∙◌, ap, subst}
+use Rattle.std.proofs.Common.{rules, arith, ◌≡◌, ◌+◌, ◌≤◌, ℕ, ℤ, to_z, of_z, w64, List, length, sym, ◌∙◌, ap, subst}
 use Rattle.std.proofs.lemmas.Int.{to_z-of_z}
-use Rattle.plan_base.specs.declared.parts.Parts.{Parts}
 use Rattle.plan_base.specs.Requests.{listed}
 use Rattle.plan_base.specs.Bound.{IsBest}
-use Rattle.plan_base.specs.Verdict.{IsPriceInRange}
-use Rattle.std.specs.Prelude.{All}
 use Rattle.interval_solver.specs.declared.start.Start.{Start}
 use Rattle.interval_solver.specs.Solving.{Solving}
 use Rattle.interval_solver.specs.Tables.{entry, DoRowsFit, IsRecursion}
@@ -39,5 +36,5 @@ returns-clause-best c =
     let best : IsBest c.self.inside.snapshot.now c.args.prices.now.0 c.self.inside.telescope.0 c.self.inside.snapshot.now.first.0 (entry c.fill_table.new.table 0)
     = first_best c.self.inside.snapshot.now c.self.inside.telescope.0 c.self.inside.rows.items c.parts.ensures.orderly c.self.invariant.listing c.args.prices.now.0 c.fill_table.new.table recursion
     in
-    subst (λ (b : Solving). IsBest b.snapshot c.args.prices.now.0 b.telescope b.snapshot.first.0 _) c.self.view_is
+    subst (λ (b : Solving). IsBest b.snapshot c.args.prices.now.0 b.telescope b.snapshot.first.0 (to_z w64 (of_z w64 c.fill_table.result))) c.self.view_is
     (subst (λ (b : ℤ). IsBest c.self.inside.snapshot.now c.args.prices.now.0 c.self.inside.telescope.0 c.self.inside.snapshot.now.first.0 b) (sym (to_z-of_z w64 c.fill_table.result fit ∙ c.fill_table.ensures.first)) best)
