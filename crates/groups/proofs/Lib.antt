@@ -2,9 +2,11 @@ pub mod Chosen
 pub mod Footed
 pub mod Growing
 pub mod Keeping
+pub mod NetRanges
 pub mod Opens
 pub mod Rebated
 pub mod Rooms
 pub mod Runs
 pub mod Shares
+pub mod Starting
 pub mod Told

@@ -68,7 +68,7 @@ fn first_slot(parts: &Parts, placement: Placement) -> usize
 }
 
 /// How many slices of this length so many seconds take, the last one perhaps in part.
-fn slices_for(len: u32, seconds: u32) -> u32
+pub(crate) fn slices_for(len: u32, seconds: u32) -> u32
     requires least { 60 ≤ len }
     requires most { len ≤ 3600 }
     requires seconds { seconds ≤ 86400 }

@@ -7,6 +7,8 @@ mod plan;
 mod rebates;
 mod sums;
 mod tables;
+#[cfg(test)]
+mod tests;
 
 pub use nets::net;
 pub use plan::PlanBuild;

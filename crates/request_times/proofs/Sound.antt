@@ -1,9 +1,9 @@
 -- The counted centres are those below the end, and the windows of a cadence are sound.
-use Rattle.std.proofs.Common.{◌≡◌, ℕ, ◌+◌, ◌*◌, ◌-◌, ◌<◌, ◌≤◌, ◌⊎◌, inl, inr, ◌↔◌, Bool, true, false, cond, List, [], ◌∷◌, length, map, filter, get_or, All, Contains, Result, Ok, Err, sym, ◌∙◌, ap, subst, refl, arith}
+use Rattle.std.proofs.Common.{◌≡◌, ℕ, ◌+◌, ◌*◌, ◌-◌, ◌<◌, ◌≤◌, ◌⊎◌, inl, inr, Bool, true, false, cond, List, [], ◌∷◌, length, map, filter, get_or, All, Contains, Result, Ok, Err, subst, refl, arith}
 use Rattle.std.specs.Prelude.{nat_le}
 use Rattle.std.specs.List.{range_with_len}
 use Rattle.std.specs.List.Sorted.{IsNonDecreasingBy}
-use Rattle.std.proofs.lemmas.Bool.{leb-true, ltb-true}
+use Rattle.std.proofs.lemmas.Bool.{leb-true}
 use Rattle.std.proofs.lemmas.Nat.{mul-le}
 use Rattle.std.proofs.lemmas.Grind.{common_steps, div_ceil_times}
 use Rattle.std.proofs.lemmas.List.Elements.{All-filter, All-map, filter_passes}
@@ -14,7 +14,7 @@ use Rattle.plan_base.proofs.Lists.{contains_filter}
 use Rattle.request_model.specs.declared.request.Cadence.{Cadence}
 use Rattle.request_times.specs.declared.fault.TimeFault.{TimeFault}
 use Rattle.request_times.specs.declared.fault.TimeFault.TheVariants.{BadCadence, TooManyWindows}
-use Rattle.request_times.specs.Cadence.{centre, centre_count, window, is_long, windows_of, is_cadence, if_any, expansion}
+use Rattle.request_times.specs.Cadence.{centre, centre_count, window, is_long, windows_of, is_cadence, if_any}
 use Rattle.request_times.specs.Laws.{IsInside, IsSound, WindowsAreSound, CentresAreCounted}
 
 -- centres

@@ -1,5 +1,5 @@
 -- What holds of the windows of every cadence.
-use Rattle.std.specs.Prelude.{◌≡◌, ◌≢◌, ℕ, ◌+◌, ◌≤◌, ◌<◌, ◌⊎◌, ◌↔◌, List, [], All, Contains, Ok}
+use Rattle.std.specs.Prelude.{◌≡◌, ℕ, ◌+◌, ◌≤◌, ◌<◌, ◌⊎◌, ◌↔◌, List, All, Contains, Ok}
 use Rattle.std.specs.List.Sorted.{IsNonDecreasingBy}
 use Rattle.plan_base.specs.declared.span.Span.{Span}
 use Rattle.request_model.specs.declared.request.Cadence.{Cadence}

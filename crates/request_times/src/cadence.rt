@@ -1,6 +1,6 @@
 // The windows of a cadence.
 
-ghost use Rattle.std.specs.Prelude.{◌≡◌, ◌≢◌, ◌+◌, ◌<◌, ◌≤◌, ◌^◌, IfOk, IfErr, Ok, Err};
+ghost use Rattle.std.specs.Prelude.{◌≡◌, ◌≢◌, ◌+◌, ◌<◌, ◌≤◌, ◌^◌, true, IfOk, IfErr, Ok, Err};
 ghost use Rattle.request_times.specs.declared.fault.TimeFault.TheVariants.{NoMemory};
 ghost use Rattle.request_times.specs.Cadence.{centre, centre_count, window, is_long, windows_of, is_cadence, expansion, IsInRange};
 
@@ -16,12 +16,13 @@ const MOST_CENTRES: u64 = 256;
 /// the jitter before it, cut at start and end, and dropped where what is left is shorter than the request. Fails with
 /// [`TimeFault::BadCadence`] where period or jitter is 0 or the start isn't before the end; then with
 /// [`TimeFault::TooManyWindows`] where there are more than 256 centres; then with [`TimeFault::BadCadence`] where no
-/// window is left; and for want of memory.
+/// window is left; and for want of memory, where there are windows to make.
 pub fn expand_cadence(alloc: Global, cadence: Cadence, seconds: u32) -> Result<Vec<Span>, TimeFault>
     requires range { IsInRange cadence }
     requires seconds { seconds ≤ 86400 }
     ensures value { IfOk result (λ windows. expansion cadence seconds ≡ Ok windows.items) }
     ensures fault { IfErr result (λ e. e ≢ NoMemory → expansion cadence seconds ≡ Err e) }
+    ensures memory { IfErr result (λ e. e ≡ NoMemory → (is_cadence cadence ≡ true) × (centre_count cadence ≤ 256)) }
 {
     if !is_cadence(cadence) {
         return Err(TimeFault::BadCadence);

@@ -6,6 +6,8 @@ mod duration;
 mod fault;
 mod instrument;
 mod laws;
+#[cfg(test)]
+mod tests;
 
 pub use cadence::expand_cadence;
 pub use duration::seconds_of;

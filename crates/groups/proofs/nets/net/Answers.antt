@@ -1,4 +1,4 @@
-use Rattle.std.proofs.Common.{◌≡◌, ◌<◌, pos, length, sym, ◌∙◌, arith}
+use Rattle.std.proofs.Common.{◌≡◌, pos, length, sym, ◌∙◌, arith}
 use Rattle.std.proofs.lemmas.List.{length-map, ext_get_or}
 use Rattle.plan_base.specs.Requests.{listed}
 use Rattle.groups.specs.Prices.{net_prices}

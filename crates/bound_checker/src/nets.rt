@@ -1,0 +1,149 @@
+// The net prices of a group's requests, and sums of them.
+
+ghost use Rattle.std.specs.Prelude.{◌≡◌, ◌⊎◌, ◌+◌, ◌*◌, ◌<◌, ◌≤◌, pos, ◌≤ℤ◌, length, map, take, drop, slice_index_or, All};
+ghost use Rattle.plan_base.specs.Requests.{listed, IsKnown, place_of, members};
+ghost use Rattle.plan_base.specs.Bound.{net_price};
+ghost use Rattle.plan_base.specs.Verdict.{IsPriceInRange};
+ghost use Rattle.bound_checker.specs.Nets.{IsNets, IsNetInRange, net_list, price_of, positive, positive_sum, net_sum, IsGreatestNet};
+
+use plan_base::{Prices, QuotaPrices, RequestNo, RequestPart, Snapshot};
+
+/// The requests of a group with their prices, and the price of a second of the group's quota.
+#[derive(Clone, Copy)]
+pub(crate) struct Nets<'a> {
+    pub requests: &'a [RequestPart],
+    pub prices: &'a [i64],
+    pub quota_price: u32,
+}
+
+/// A number that a loop changes.
+#[derive(Clone, Copy)]
+struct Sum {
+    value: i64,
+}
+
+/// The net prices of the group at a place.
+pub(crate) fn nets_of<'a>(
+    snapshot: &'a Snapshot,
+    group: usize,
+    prices: &'a Prices,
+    quota_prices: &QuotaPrices,
+) -> Nets<'a>
+    requires group { group < length snapshot.now.groups }
+    requires count { length prices.now.0 ≡ length (listed snapshot.now) }
+    requires range { All IsPriceInRange prices.now.0 }
+    requires quota_range { All (λ u. u ≤ 200000) quota_prices.now.0 }
+    ensures valid { IsNets result }
+    ensures value { net_list result ≡ map (net_price snapshot.now prices.now.0 quota_prices.now.0) (members snapshot.now group) }
+{
+    let part = &snapshot.parts().groups.as_slice()[group];
+    let requests = part.requests.as_slice();
+    let first = known_place(snapshot, requests[0].request);
+    Nets {
+        requests,
+        prices: prices_from(prices, first, requests.len()),
+        quota_price: price_of(quota_prices.0.as_slice(), part.quota),
+    }
+}
+
+/// So many prices from a place on.
+fn prices_from(prices: &Prices, first: usize, count: usize) -> &[i64]
+    requires { first + count ≤ length prices.now.0 }
+    ensures { result.now ≡ take count (drop first prices.now.0) }
+{
+    let prices = prices.0.as_slice();
+    &prices[first..first + count]
+}
+
+/// The place of a request that the snapshot has.
+fn known_place(snapshot: &Snapshot, request: RequestNo) -> usize
+    requires { IsKnown snapshot.now request.0 }
+    ensures { result ≡ place_of snapshot.now request.0 }
+{
+    match snapshot.place_of(request) {
+        Some(place) => place,
+        None => unreachable!(),
+    }
+}
+
+/// The price of a second of a quota: 0 past the end of the list, or where no quota is named.
+pub(crate) fn price_of(quota_prices: &[u32], quota: Option<u16>) -> u32
+    requires { All (λ u. u ≤ 200000) quota_prices.now }
+    ensures value { result ≡ price_of quota_prices.now quota }
+    ensures most { result ≤ 200000 }
+{
+    match quota {
+        Some(quota) => quota_prices.get(usize::from(quota)).copied().unwrap_or(0),
+        None => 0,
+    }
+}
+
+/// The net price of the request at a place in the group.
+fn net_at(nets: &Nets, place: usize) -> i64
+    requires valid { IsNets nets.now }
+    requires place { place < length nets.now.requests.now }
+    ensures value { result ≡ slice_index_or (net_list nets.now) place (pos 0) }
+    ensures range { IsNetInRange result }
+{
+    nets.prices[place] - cost_of(nets.quota_price, nets.requests[place].seconds)
+}
+
+/// What so many seconds cost at a price.
+fn cost_of(quota_price: u32, seconds: u32) -> i64
+    requires price { quota_price ≤ 200000 }
+    requires seconds { seconds ≤ 86400 }
+    ensures { result ≡ pos (quota_price * seconds) }
+{
+    i64::from(quota_price) * i64::from(seconds)
+}
+
+/// The sum of all net prices.
+pub(crate) fn net_sum(nets: &Nets) -> i64
+    requires { IsNets nets.now }
+    ensures { result ≡ net_sum (net_list nets.now) }
+{
+    let mut sum = Sum { value: 0 };
+    for place in 0..nets.requests.len() {
+        sum.value += net_at(nets, place);
+    }
+    sum.value
+}
+
+/// The sum of the net prices that are above 0.
+pub(crate) fn positive_sum(nets: &Nets) -> i64
+    requires { IsNets nets.now }
+    ensures { result ≡ positive_sum (net_list nets.now) }
+{
+    let mut sum = Sum { value: 0 };
+    for place in 0..nets.requests.len() {
+        sum.value += positive(net_at(nets, place));
+    }
+    sum.value
+}
+
+/// The greatest net price, or 0 where none is above 0.
+pub(crate) fn greatest_net(nets: &Nets) -> i64
+    requires { IsNets nets.now }
+    ensures { IsGreatestNet (net_list nets.now) result }
+{
+    let mut greatest = Sum { value: 0 };
+    for place in 0..nets.requests.len() {
+        greatest.value = larger(greatest.value, net_at(nets, place));
+    }
+    greatest.value
+}
+
+/// The number where it is above 0, else 0.
+pub(crate) fn positive(net: i64) -> i64
+    ensures { result ≡ positive net }
+{
+    if net > 0 { net } else { 0 }
+}
+
+fn larger(a: i64, b: i64) -> i64
+    ensures first { a ≤ℤ result }
+    ensures second { b ≤ℤ result }
+    ensures one { (result ≡ a) ⊎ (result ≡ b) }
+{
+    if b > a { b } else { a }
+}

@@ -1,0 +1,360 @@
+// The greatest surpluses of small snapshots, worked out by hand.
+
+ghost use Rattle.std.specs.Prelude.{◌≡◌, ◌↔◌, IsTrue, true, All};
+ghost use Rattle.plan_base.specs.Verdict.{IsPriceInRange};
+
+use crate::best_of;
+use plan_base::{
+    GroupNo, GroupPart, ListOf, Op, Parts, Prices, RequestNo, RequestPart, Sec, SiteNo, Sky,
+    SliceNo, Snapshot, Span, TargetNo, TelescopeNo, TelescopePart,
+};
+use std::alloc::{AllocError, Global};
+use std::process::Abort;
+use std::test::Fail;
+
+/// A request on telescope 0, with two windows, of which an empty one is left out, and a target, if it has one.
+#[derive(Clone, Copy)]
+struct Wish {
+    seconds: u32,
+    value: u32,
+    fade: u16,
+    windows: [(u64, u64); 2],
+    target: Option<u16>,
+}
+
+/// A list of one.
+fn only<T: Drop>(alloc: Global, item: T) -> Result<ListOf<T>, AllocError> {
+    let mut list = ListOf::new(alloc);
+    list.push(item)?;
+    Ok(list)
+}
+
+/// The spans that aren't empty.
+fn spans(alloc: Global, ends: &[(u64, u64)]) -> Result<ListOf<Span>, AllocError> {
+    let mut spans = ListOf::new(alloc);
+    for (from, to) in ends {
+        if *from < *to {
+            spans.push(Span {
+                from: Sec(*from),
+                to: Sec(*to),
+            })?;
+        }
+    }
+    Ok(spans)
+}
+
+fn targets(alloc: Global, target: Option<u16>) -> Result<ListOf<TargetNo>, AllocError> {
+    match target {
+        Some(target) => only(alloc, TargetNo(target)),
+        None => Ok(ListOf::new(alloc)),
+    }
+}
+
+fn request(alloc: Global, number: u32, wish: &Wish) -> Result<RequestPart, AllocError> {
+    Ok(RequestPart {
+        request: RequestNo(number),
+        seconds: wish.seconds,
+        value: wish.value,
+        windows: spans(alloc, wish.windows.as_slice())?,
+        telescopes: only(alloc, TelescopeNo(0))?,
+        targets: targets(alloc, wish.target)?,
+        fade: wish.fade,
+    })
+}
+
+/// The groups of the wishes, numbered from 1 on, with the requests of the same numbers.
+fn groups(alloc: Global, wishes: &[Wish]) -> Result<ListOf<GroupPart>, AllocError> {
+    let mut groups = ListOf::new(alloc);
+    let mut number = 0u32;
+    for wish in wishes {
+        number = number.saturating_add(1);
+        groups.push(GroupPart {
+            group: GroupNo(number),
+            op: Op::Single,
+            requests: only(alloc, request(alloc, number, wish)?)?,
+            quota: None,
+        })?;
+    }
+    Ok(groups)
+}
+
+/// Skies of targets 1 and 2 at site 0.
+fn skies(alloc: Global) -> Result<ListOf<Sky>, AllocError> {
+    let mut skies = ListOf::new(alloc);
+    skies.push(Sky {
+        target: TargetNo(1),
+        site: SiteNo(0),
+        spans: spans(alloc, [(0, 1_250)].as_slice())?,
+    })?;
+    skies.push(Sky {
+        target: TargetNo(2),
+        site: SiteNo(0),
+        spans: spans(alloc, [(0, 600), (900, 3_600)].as_slice())?,
+    })?;
+    Ok(skies)
+}
+
+/// Twelve slices of 300 seconds from slice 0 on, telescope 0 with these usable spans, and a request for each wish.
+fn parts(alloc: Global, usable: &[(u64, u64)], wishes: &[Wish]) -> Result<Parts, AllocError> {
+    let telescope = TelescopePart {
+        site: SiteNo(0),
+        usable: spans(alloc, usable)?,
+    };
+    Ok(Parts {
+        version: 0,
+        len: 300,
+        first: SliceNo(0),
+        slices: 12,
+        telescopes: only(alloc, telescope)?,
+        skies: skies(alloc)?,
+        groups: groups(alloc, wishes)?,
+        quotas: ListOf::new(alloc),
+    })
+}
+
+fn snapshot(alloc: Global, parts: Parts) -> Result<Snapshot, Fail> {
+    if !parts.is_in_ranges() {
+        return Err(Fail::new("a number is out of its range"));
+    }
+    Ok(Snapshot::build(alloc, parts)?)
+}
+
+fn is_in_range(price: i64) -> bool
+    ensures { IsTrue result ↔ IsPriceInRange price }
+{
+    -1_000_000_000_000 <= price && price <= 1_000_000_000_000
+}
+
+/// Whether all prices are in their range.
+fn are_in_range(prices: &[i64]) -> bool
+    ensures { result ≡ true → All IsPriceInRange prices.now }
+{
+    for price in prices {
+        if !is_in_range(*price) {
+            return false;
+        }
+    }
+    true
+}
+
+/// The best of telescope 0.
+fn best(alloc: Global, snapshot: &Snapshot, prices: &[i64]) -> Result<i64, Fail> {
+    let _ = snapshot.parts();
+    let prices = Prices(ListOf::from_vec(Vec::from_slice(alloc, prices)?));
+    if snapshot.parts().telescopes.is_empty()
+        || prices.0.len() != snapshot.requests()
+        || !are_in_range(prices.0.as_slice())
+    {
+        return Err(Fail::new("the prices don't fit"));
+    }
+    Ok(best_of(alloc, snapshot, TelescopeNo(0), &prices)?)
+}
+
+/// A request alone on telescope 0, and the best there at a price.
+#[derive(Clone, Copy)]
+struct Case {
+    usable: [(u64, u64); 2],
+    wish: Wish,
+    price: i64,
+    best: i64,
+}
+
+const ALL_DAY: [(u64, u64); 2] = [(0, 3_600), (0, 0)];
+
+/// 300 seconds at any time.
+const SHORT: Wish = Wish {
+    seconds: 300,
+    value: 50_000,
+    fade: 0,
+    windows: ALL_DAY,
+    target: None,
+};
+
+const FREE: Case = Case {
+    usable: ALL_DAY,
+    wish: SHORT,
+    price: 0,
+    best: 600_000,
+};
+
+/// Asserts the best of each case.
+fn assert_bests(rt: &impl Abort, alloc: Global, cases: &[Case]) -> Result<(), Fail> {
+    for case in cases {
+        let parts = parts(alloc, case.usable.as_slice(), [case.wish].as_slice())?;
+        let snapshot = snapshot(alloc, parts)?;
+        assert_eq!(rt; best(alloc, &snapshot, [case.price].as_slice())?, case.best);
+    }
+    Ok(())
+}
+
+#[test]
+fn each_slice_gives_the_value_less_the_price(rt: HostRuntime) -> Result<(), Fail> {
+    let half = Case {
+        price: 25_000,
+        best: 300_000,
+        ..FREE
+    };
+    let dear = Case {
+        price: 50_000,
+        best: 0,
+        ..FREE
+    };
+    let lowest = Case {
+        price: -1_000_000_000_000,
+        best: 12_000_000_600_000,
+        ..FREE
+    };
+    let highest = Case {
+        price: 1_000_000_000_000,
+        best: 0,
+        ..FREE
+    };
+    assert_bests(
+        &rt,
+        rt.alloc(),
+        [FREE, half, dear, lowest, highest].as_slice(),
+    )
+}
+
+#[test]
+fn a_start_lies_inside_one_window(rt: HostRuntime) -> Result<(), Fail> {
+    let touching = Wish {
+        windows: [(450, 900), (0, 450)],
+        ..SHORT
+    };
+    let overlapping = Wish {
+        windows: [(300, 900), (0, 600)],
+        ..SHORT
+    };
+    let short = Wish {
+        windows: [(0, 299), (301, 900)],
+        ..SHORT
+    };
+    let none = Wish {
+        windows: [(0, 0), (0, 0)],
+        ..SHORT
+    };
+    let cases = [
+        Case {
+            wish: touching,
+            best: 100_000,
+            ..FREE
+        },
+        Case {
+            wish: overlapping,
+            best: 150_000,
+            ..FREE
+        },
+        Case {
+            wish: short,
+            best: 50_000,
+            ..FREE
+        },
+        Case {
+            wish: none,
+            best: 0,
+            ..FREE
+        },
+    ];
+    assert_bests(&rt, rt.alloc(), cases.as_slice())
+}
+
+#[test]
+fn each_second_of_a_start_is_usable(rt: HostRuntime) -> Result<(), Fail> {
+    let cases = [
+        Case {
+            usable: [(0, 1_199), (0, 0)],
+            best: 150_000,
+            ..FREE
+        },
+        Case {
+            usable: [(1, 1_200), (0, 0)],
+            best: 150_000,
+            ..FREE
+        },
+        Case {
+            usable: [(0, 450), (451, 900)],
+            best: 100_000,
+            ..FREE
+        },
+        Case {
+            usable: [(0, 0), (0, 0)],
+            best: 0,
+            ..FREE
+        },
+    ];
+    assert_bests(&rt, rt.alloc(), cases.as_slice())
+}
+
+#[test]
+fn a_start_lies_in_the_sky_of_its_target(rt: HostRuntime) -> Result<(), Fail> {
+    let first = Wish {
+        target: Some(1),
+        ..SHORT
+    };
+    let second = Wish {
+        target: Some(2),
+        ..SHORT
+    };
+    let unseen = Wish {
+        target: Some(3),
+        ..SHORT
+    };
+    let cases = [
+        Case {
+            wish: first,
+            best: 200_000,
+            ..FREE
+        },
+        Case {
+            wish: second,
+            best: 550_000,
+            ..FREE
+        },
+        Case {
+            wish: unseen,
+            best: 0,
+            ..FREE
+        },
+    ];
+    assert_bests(&rt, rt.alloc(), cases.as_slice())
+}
+
+#[test]
+fn a_start_takes_its_slices_and_fades(rt: HostRuntime) -> Result<(), Fail> {
+    let long = Wish {
+        seconds: 301,
+        ..SHORT
+    };
+    let fading = Wish { fade: 100, ..SHORT };
+    let late = Wish {
+        fade: 100,
+        windows: [(900, 3_600), (600, 900)],
+        ..SHORT
+    };
+    let cases = [
+        Case {
+            wish: long,
+            best: 300_000,
+            ..FREE
+        },
+        Case {
+            wish: fading,
+            best: 275_002,
+            ..FREE
+        },
+        Case {
+            wish: fading,
+            usable: [(900, 3_600), (0, 0)],
+            price: 30_833,
+            best: 4_167,
+        },
+        Case {
+            wish: late,
+            price: 44_999,
+            best: 5_002,
+            ..FREE
+        },
+    ];
+    assert_bests(&rt, rt.alloc(), cases.as_slice())
+}

@@ -1,0 +1,6 @@
+// The calls on small snapshots, with answers that were worked out by hand.
+
+mod desk;
+mod nets;
+mod rebates;
+mod walk;

@@ -1,0 +1,10 @@
+// Groups read from documents.
+
+mod configuration;
+mod group;
+mod location;
+mod members;
+mod request;
+mod when;
+
+pub use group::read_group;

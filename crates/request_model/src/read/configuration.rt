@@ -1,0 +1,154 @@
+// What is taken of one target, and of which instrument type the configurations of a request are.
+
+ghost use Rattle.std.specs.Prelude.{◌≡◌, ◌≢◌, ◌<◌, length, map, IfOk, IfErr, Ok, Err};
+ghost use Rattle.plan_json.specs.declared.fault.JsonFault.TheVariants as json;
+ghost use Rattle.plan_json.specs.Reading.{read_each};
+ghost use Rattle.plan_json.specs.Shown.{members_of, elements_of, element_of, named_by};
+ghost use Rattle.plan_json.specs.declared.member.Member.TheVariants.{InstrumentConfigs, Configurations};
+ghost use Rattle.request_model.specs.Configuration.{exposure_of, exposure_in, typed_of, typed_in, are_of_type, of_one_type, configurations_of};
+ghost use Rattle.request_model.specs.declared.fault.GroupFault.TheVariants.{NoMemory};
+
+use crate::fault::GroupFault;
+use crate::read::members::number;
+use crate::request::{ConfigDoc, Exposure};
+use plan_base::{ListOf, Name};
+use plan_json::{Doc, DocList, JsonFault, Member};
+use std::alloc::{AllocError, Global};
+
+/// The longest exposure, in milliseconds: a day.
+const MOST_MS: u32 = 86_400_000;
+
+/// The most exposures of one length.
+const MOST_EXPOSURES: u32 = 10_000;
+
+/// The most exposures of a configuration, and configurations of a request.
+const MOST_CONFIGURATIONS: u32 = 16;
+
+/// A configuration, with its instrument type.
+#[derive(Drop)]
+pub(crate) struct Typed {
+    pub instrument: Name,
+    pub configuration: ConfigDoc,
+}
+
+/// Configurations of one instrument type.
+#[derive(Drop)]
+pub(crate) struct OfOneType {
+    pub instrument: Name,
+    pub configurations: ListOf<ConfigDoc>,
+}
+
+/// The exposures at that place.
+fn read_exposure(list: &DocList, index: u32) -> Result<Exposure, JsonFault>
+    requires member { named_by list.now ≡ InstrumentConfigs }
+    requires within { index < length (elements_of list.now) }
+    ensures { result ≡ exposure_in (element_of list.now index) }
+{
+    let doc = list.object(index)?;
+    let ms = number(&doc, Member::ExposureTimeMs, 1, MOST_MS)?;
+    let count = number(&doc, Member::ExposureCount, 1, MOST_EXPOSURES)?;
+    Ok(Exposure { ms, count })
+}
+
+fn read_exposures(alloc: Global, list: &DocList) -> Result<ListOf<Exposure>, JsonFault>
+    requires { named_by list.now ≡ InstrumentConfigs }
+    ensures value { IfOk result (λ all. read_each exposure_in (elements_of list.now) ≡ Ok all) }
+    ensures fault { IfErr result
+        (λ e. e ≢ json.NoMemory → read_each exposure_in (elements_of list.now) ≡ Err e) }
+{
+    let mut all = ListOf::new(alloc);
+    for index in 0..list.count() {
+        all.push(read_exposure(list, index)?)?;
+    }
+    Ok(all)
+}
+
+fn read_typed(alloc: Global, doc: &Doc) -> Result<Typed, JsonFault>
+    ensures value { IfOk result (λ typed. typed_of (members_of doc.now) ≡ Ok typed) }
+    ensures fault { IfErr result (λ e. e ≢ json.NoMemory → typed_of (members_of doc.now) ≡ Err e) }
+{
+    let instrument = doc.text(alloc, Member::InstrumentType)?;
+    let sky = doc.object(Member::Target)?;
+    let target = sky.text(alloc, Member::Name)?;
+    let list = doc.list(Member::InstrumentConfigs, 1, MOST_CONFIGURATIONS)?;
+    let exposures = read_exposures(alloc, &list)?;
+    Ok(Typed {
+        instrument,
+        configuration: ConfigDoc { target, exposures },
+    })
+}
+
+/// The configuration at that place.
+fn read_typed_at(alloc: Global, list: &DocList, index: u32) -> Result<Typed, JsonFault>
+    requires member { named_by list.now ≡ Configurations }
+    requires within { index < length (elements_of list.now) }
+    ensures value { IfOk result (λ typed. typed_in (element_of list.now index) ≡ Ok typed) }
+    ensures fault { IfErr result
+        (λ e. e ≢ json.NoMemory → typed_in (element_of list.now index) ≡ Err e) }
+{
+    read_typed(alloc, &list.object(index)?)
+}
+
+/// The configurations that all elements are.
+fn read_all_typed(alloc: Global, list: &DocList) -> Result<ListOf<Typed>, JsonFault>
+    requires { named_by list.now ≡ Configurations }
+    ensures value { IfOk result (λ all. read_each typed_in (elements_of list.now) ≡ Ok all) }
+    ensures fault { IfErr result
+        (λ e. e ≢ json.NoMemory → read_each typed_in (elements_of list.now) ≡ Err e) }
+{
+    let mut all = ListOf::new(alloc);
+    for index in 0..list.count() {
+        all.push(read_typed_at(alloc, list, index)?)?;
+    }
+    Ok(all)
+}
+
+fn are_of_type(typed: &[Typed], instrument: &Name) -> bool
+    ensures { result ≡ are_of_type instrument.now typed.now }
+{
+    typed.iter().all(|one| one.instrument == *instrument)
+}
+
+fn without_types(alloc: Global, typed: Vec<Typed>) -> Result<Vec<ConfigDoc>, AllocError>
+    ensures { IfOk result (λ all. all.items ≡ map (λ one. one.configuration) typed.items) }
+{
+    typed
+        .into_iter()
+        .map(|one| one.configuration)
+        .collect(alloc)
+}
+
+/// The configurations of the request at that place, if all are of the first one's instrument type.
+#[tactic(auto, using(crate::proofs::Types::of_first))]
+fn of_one_type(alloc: Global, index: u32, typed: Vec<Typed>) -> Result<OfOneType, GroupFault>
+    ensures value { IfOk result (λ all. of_one_type index typed.items ≡ Ok all) }
+    ensures fault { IfErr result (λ e. e ≢ NoMemory → of_one_type index typed.items ≡ Err e) }
+{
+    let [first, ..] = typed.as_slice() else {
+        return Err(GroupFault::MixedInstruments { index });
+    };
+    if !are_of_type(&typed, &first.instrument) {
+        return Err(GroupFault::MixedInstruments { index });
+    }
+    let instrument = first.instrument.copy(alloc)?;
+    let configurations = without_types(alloc, typed)?;
+    Ok(OfOneType {
+        instrument,
+        configurations: ListOf::from_vec(configurations),
+    })
+}
+
+/// The configurations of the request at that place, all of one instrument type.
+pub(crate) fn read_configurations(
+    alloc: Global,
+    doc: &Doc,
+    index: u32,
+) -> Result<OfOneType, GroupFault>
+    ensures value { IfOk result (λ all. configurations_of index (members_of doc.now) ≡ Ok all) }
+    ensures fault { IfErr result
+        (λ e. e ≢ NoMemory → configurations_of index (members_of doc.now) ≡ Err e) }
+{
+    let list = doc.list(Member::Configurations, 1, MOST_CONFIGURATIONS)?;
+    let typed = read_all_typed(alloc, &list)?;
+    of_one_type(alloc, index, typed.into_vec())
+}
