@@ -119,7 +119,7 @@ struct Case {
     best: i64,
 }
 
-fn case(wishes: [Wish; 2], prices: [i64; 2], best: i64) -> Case {
+fn with_best(wishes: [Wish; 2], prices: [i64; 2], best: i64) -> Case {
     Case {
         wishes,
         prices,
@@ -136,7 +136,7 @@ fn check<R: Threads + Sync + Abort>(rt: &R, alloc: Global, cases: &[Case]) -> Re
     Ok(())
 }
 
-fn wish(seconds: u32, value: u32, fade: u16) -> Wish {
+fn wish_for(seconds: u32, value: u32, fade: u16) -> Wish {
     Wish {
         seconds,
         value,
@@ -146,17 +146,17 @@ fn wish(seconds: u32, value: u32, fade: u16) -> Wish {
 
 #[test]
 fn bests_of_two_requests_in_three_minutes(rt: HostRuntime) -> Result<(), Fail> {
-    let minute = wish(60, 100, 0);
-    let long = wish(120, 100, 0);
-    let short = wish(60, 60, 0);
-    let fading = wish(60, 1000, 100);
+    let minute = wish_for(60, 100, 0);
+    let long = wish_for(120, 100, 0);
+    let short = wish_for(60, 60, 0);
+    let fading = wish_for(60, 1000, 100);
     let cases = [
-        case([minute, minute], [40, 40], 180),
-        case([minute, minute], [100, 200], 0),
-        case([long, short], [0, 0], 180),
-        case([long, short], [0, 15], 145),
-        case([minute, fading], [90, 850], 210),
-        case([minute, fading], [-20, 850], 390),
+        with_best([minute, minute], [40, 40], 180),
+        with_best([minute, minute], [100, 200], 0),
+        with_best([long, short], [0, 0], 180),
+        with_best([long, short], [0, 15], 145),
+        with_best([minute, fading], [90, 850], 210),
+        with_best([minute, fading], [-20, 850], 390),
     ];
     check(&rt, rt.alloc(), &cases)
 }
