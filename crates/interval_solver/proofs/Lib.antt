@@ -1,0 +1,5 @@
+pub mod Here
+pub mod Filling
+pub mod Adding
+pub mod Listed
+pub mod Tabled

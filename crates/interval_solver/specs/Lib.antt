@@ -1,0 +1,4 @@
+pub mod Offers
+pub mod Tables
+pub mod Listings
+pub mod Solving

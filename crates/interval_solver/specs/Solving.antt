@@ -1,0 +1,16 @@
+-- What contracts see of a solver, and what it keeps.
+use Rattle.std.specs.Prelude.{◌≡◌, ℕ, ◌+◌, ℤ, List, length}
+use Rattle.plan_base.specs.declared.parts.Parts.{Parts}
+use Rattle.plan_base.specs.Starts.{IsPossibleStart}
+use Rattle.interval_solver.specs.declared.start.Start.{Start}
+use Rattle.interval_solver.specs.Listings.{IsListing}
+
+-- a telescope of a snapshot
+pub record Solving : Type 0 where
+  pub snapshot : Parts
+  pub telescope : ℕ
+
+-- the rows have the telescope's possible starts, and there is an entry for each slice and one after them
+pub record IsReady (s : Parts) (t : ℕ) (rows : List (List Start)) (table : List ℤ) : Type 0 where
+  pub listing : IsListing s t (IsPossibleStart s) rows
+  pub entries : length table ≡ s.slices + 1
