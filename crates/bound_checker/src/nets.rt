@@ -23,7 +23,12 @@ struct Sum {
 }
 
 /// The net prices of the group at a place.
-pub(crate) fn nets_of<'a>(snapshot: &'a Snapshot, group: usize, prices: &'a Prices, quota_prices: &QuotaPrices) -> Nets<'a>
+pub(crate) fn nets_of<'a>(
+    snapshot: &'a Snapshot,
+    group: usize,
+    prices: &'a Prices,
+    quota_prices: &QuotaPrices,
+) -> Nets<'a>
     requires group { group < length snapshot.now.groups }
     requires count { length prices.now.0 ≡ length (listed snapshot.now) }
     requires range { All IsPriceInRange prices.now.0 }

@@ -12,7 +12,12 @@ use plan_base::{Op, Prices, QuotaPrices, Snapshot};
 /// A net price is a request's price less its seconds times the price of the quota that its group names, if it names
 /// one. There is one price for each request, from -10^12 to 10^12, and no quota price is above 200,000; what is missing
 /// in the list of quota prices stands for 0. It takes no memory, and time for the requests of the group.
-pub fn rebate_of(snapshot: &Snapshot, group: usize, prices: &Prices, quota_prices: &QuotaPrices) -> i64
+pub fn rebate_of(
+    snapshot: &Snapshot,
+    group: usize,
+    prices: &Prices,
+    quota_prices: &QuotaPrices,
+) -> i64
     requires group { group < length snapshot.now.groups }
     requires count { length prices.now.0 ≡ length (listed snapshot.now) }
     requires range { All IsPriceInRange prices.now.0 }
