@@ -553,14 +553,19 @@ fn a_quota_costs_its_price(rt: HostRuntime) -> Result<(), Fail> {
     assert_pairs(&rt, rt.alloc(), pairs.as_slice())
 }
 
-#[test]
-fn a_single_gives_its_price(rt: HostRuntime) -> Result<(), Fail> {
-    let alloc = rt.alloc();
-    let snapshot = snapshot(alloc, parts(alloc, ALL_DAY.as_slice(), [SHORT].as_slice())?)?;
+/// Asserts the rebate and the bound of one request at half its value.
+fn assert_single(rt: &impl Abort, alloc: Global) -> Result<(), Fail> {
+    let parts = parts(alloc, ALL_DAY.as_slice(), [SHORT].as_slice())?;
+    let snapshot = snapshot(alloc, parts)?;
     let prices = Prices(only(alloc, 25_000)?);
     let quota_prices = quota_prices(alloc, None)?;
     let (rebate, bound) = rebate_and_bound(alloc, &snapshot, &prices, &quota_prices)?;
-    assert_eq!(&rt; rebate, 25_000);
-    assert_eq!(&rt; bound, 325_000);
+    assert_eq!(rt; rebate, 25_000);
+    assert_eq!(rt; bound, 325_000);
     Ok(())
+}
+
+#[test]
+fn a_single_gives_its_price(rt: HostRuntime) -> Result<(), Fail> {
+    assert_single(&rt, rt.alloc())
 }
