@@ -1,7 +1,10 @@
+pub mod Claims
 pub mod Listings
 pub mod Nets
 pub mod Offers
+pub mod Reasons
 pub mod Sights
+pub mod Slots
 pub mod Stretches
 pub mod Summed
 pub mod Tables

@@ -3,7 +3,13 @@
 
 mod best;
 mod bound;
+mod kinds;
+mod known;
 mod nets;
+mod overlap;
+mod possible;
+mod quotas;
+mod ranges;
 mod rebate;
 mod sight;
 mod starts;
@@ -11,8 +17,13 @@ mod stretches;
 mod table;
 #[cfg(test)]
 mod tests;
+mod value;
+mod verdict;
+#[cfg(test)]
+mod verdict_tests;
 mod worth;
 
 pub use best::best_of;
 pub use bound::bound_of;
 pub use rebate::rebate_of;
+pub use verdict::check;

@@ -98,7 +98,7 @@ pub(crate) fn find_views(
 }
 
 /// The place of the target's sky at a site, if it has one there.
-fn find_sky(skies: &[Sky], target: TargetNo, site: SiteNo) -> Option<usize>
+pub(crate) fn find_sky(skies: &[Sky], target: TargetNo, site: SiteNo) -> Option<usize>
     requires { AllPairs StandsBelow skies.now }
     ensures { MatchOption result ((v : ℕ) → ¬ (IsSkyAt skies.now target site v)) (IsSkyAt skies.now target site) }
 {

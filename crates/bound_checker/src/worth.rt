@@ -55,7 +55,7 @@ pub(crate) fn weight_at(offer: &Offer, slice: u64) -> i64
 }
 
 /// The value after so many slices of delay: never below 1.
-fn faded(value: u64, fade: u64, delay: u64) -> u64
+pub(crate) fn faded(value: u64, fade: u64, delay: u64) -> u64
     requires value { value ≤ 288000000 }
     requires fade { fade ≤ 1000 }
     ensures value { result ≡ faded value fade delay }
@@ -67,7 +67,7 @@ fn faded(value: u64, fade: u64, delay: u64) -> u64
 }
 
 /// How many slices so many seconds take, the last one perhaps in part.
-fn slices_for(len: u64, seconds: u64) -> u64
+pub(crate) fn slices_for(len: u64, seconds: u64) -> u64
     requires least { 60 ≤ len }
     requires most { len ≤ 3600 }
     requires seconds { IsMoment seconds }
@@ -77,7 +77,7 @@ fn slices_for(len: u64, seconds: u64) -> u64
 }
 
 /// The first second of the window that begins first, or 0 where there is none.
-fn least_from(windows: &[Span]) -> u64
+pub(crate) fn least_from(windows: &[Span]) -> u64
     requires moments { All (λ w. IsMoment w.from.0) windows.now }
     ensures least { result ≡ least_of (map (λ w. w.from.0) windows.now) }
     ensures moment { IsMoment result }

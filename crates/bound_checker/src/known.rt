@@ -1,0 +1,86 @@
+// Whether the requests of a plan are known, and each placed once.
+
+ghost use Rattle.std.specs.Prelude.{◌≡◌, ◌<◌, IsTrue, MatchOption, IfOk, replicate, false, true, length, slice_index_or, ◌↔◌, ◌⊎◌, ℕ};
+ghost use Rattle.plan_base.specs.Requests.{listed, place_of, group_of, IsKnown};
+ghost use Rattle.plan_base.specs.Feasible.{IsEachOnce};
+ghost use Rattle.plan_base.specs.Verdict.{IsFirst, IsUnknownAt, HasEarlier};
+ghost use Rattle.bound_checker.specs.Claims.{IsEachKnown, IsRequestOf, IsRequestInRanges};
+
+use plan_base::{Placement, RequestNo, RequestPart, Snapshot};
+use std::alloc::{AllocError, Global};
+
+/// The first placement of a request that the snapshot doesn't have.
+pub(crate) fn first_unknown(snapshot: &Snapshot, plan: &[Placement]) -> Option<usize>
+    ensures { MatchOption result (IsEachKnown snapshot.now plan.now) (IsFirst (IsUnknownAt snapshot.now plan.now)) }
+{
+    for (index, placement) in plan.iter().enumerate() {
+        if !is_known(snapshot, placement.request) {
+            return Some(index);
+        }
+    }
+    None
+}
+
+fn is_known(snapshot: &Snapshot, request: RequestNo) -> bool
+    ensures { IsTrue result ↔ IsKnown snapshot.now request.0 }
+{
+    snapshot.place_of(request).is_some()
+}
+
+/// The first placement whose request was placed before it. Fails only for want of memory.
+pub(crate) fn first_twice(
+    alloc: Global,
+    snapshot: &Snapshot,
+    plan: &[Placement],
+) -> Result<Option<usize>, AllocError>
+    requires { IsEachKnown snapshot.now plan.now }
+    ensures { IfOk result (λ first. MatchOption first (IsEachOnce plan.now) (IsFirst (HasEarlier (λ p q. p.request ≡ q.request) plan.now))) }
+{
+    let mut placed = no_flags(alloc, snapshot.requests())?;
+    for (index, placement) in plan.iter().enumerate() {
+        let place = known_place(snapshot, placement.request);
+        if placed[place] {
+            return Ok(Some(index));
+        }
+        placed[place] = true;
+    }
+    Ok(None)
+}
+
+/// The place of a request that the snapshot has.
+pub(crate) fn known_place(snapshot: &Snapshot, request: RequestNo) -> usize
+    requires { IsKnown snapshot.now request.0 }
+    ensures value { result ≡ place_of snapshot.now request.0 }
+    ensures within { result < length (listed snapshot.now) }
+{
+    match snapshot.place_of(request) {
+        Some(place) => place,
+        None => unreachable!(),
+    }
+}
+
+/// The place of the group of a request that the snapshot has.
+pub(crate) fn known_group(snapshot: &Snapshot, request: RequestNo) -> usize
+    requires { IsKnown snapshot.now request.0 }
+    ensures value { result ≡ group_of snapshot.now request.0 }
+    ensures within { result < length snapshot.now.groups }
+{
+    snapshot.group_at(known_place(snapshot, request))
+}
+
+/// A request that the snapshot has.
+pub(crate) fn request_of(snapshot: &Snapshot, request: RequestNo) -> &RequestPart
+    requires { IsKnown snapshot.now request.0 }
+    ensures is { IsRequestOf snapshot.now request.0 result.now }
+    ensures ranges { IsRequestInRanges (length snapshot.now.telescopes) result.now }
+{
+    let _ = snapshot.parts();
+    snapshot.request_at(known_place(snapshot, request))
+}
+
+/// So many flags that aren't set. Fails only for want of memory.
+pub(crate) fn no_flags(alloc: Global, count: usize) -> Result<Vec<bool>, AllocError>
+    ensures { IfOk result (λ flags. flags.items ≡ replicate count false) }
+{
+    vec![in alloc; false; count]
+}
