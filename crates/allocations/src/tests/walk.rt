@@ -11,8 +11,11 @@ use std::alloc::Global;
 use std::process::Abort;
 use std::test::Fail;
 
-/// The calls of the walk.
-const CALLS: u32 = 10_000;
+/// The steps of the walk. One that wants to charge an account without the seconds makes no call.
+const STEPS: u32 = 11_600;
+
+/// How many steps make a call at least.
+const LEAST_CALLS: u32 = 10_000;
 
 /// Numbers that look random, each from the one before.
 #[derive(Drop)]
@@ -36,13 +39,14 @@ impl Draws {
     }
 }
 
-/// The ledger and the plain program, with the keys of the accounts.
+/// The ledger and the plain program, with the keys of the accounts, and how many steps made no call.
 #[derive(Drop)]
 struct Walk {
     desk: Desk,
     plain: Plain,
     keys: Vec<Key>,
     draws: Draws,
+    skipped: u32,
 }
 
 /// Asserts that an account is as the plain program sums it up.
@@ -198,6 +202,7 @@ fn charge_step(rt: &impl Abort, walk: &mut Walk) -> Result<(), Fail>
     let spot = walk.draws.below(SPOTS.len());
     let seconds = walk.draws.seconds(300);
     if !walk.plain.is_granted(spot) || seconds > walk.plain.available(spot, 0) {
+        walk.skipped = walk.skipped.saturating_add(1);
         return Ok(());
     }
     let group = walk.desk.calls;
@@ -290,14 +295,16 @@ fn calls_answer_as_the_plain_program(rt: HostRuntime) -> Result<(), Fail> {
         plain: Plain::new(alloc, &SPOTS),
         keys: keys(alloc)?,
         draws: Draws { seed: 1 },
+        skipped: 0,
     };
-    for call in 0..CALLS {
+    for number in 0..STEPS {
         step(&rt, alloc, &mut walk)?;
-        check_spot(&rt, &walk, call as usize % SPOTS.len());
-        if call % 100 == 0 {
+        check_spot(&rt, &walk, number as usize % SPOTS.len());
+        if number % 100 == 0 {
             check_all(&rt, &walk);
         }
     }
     check_all(&rt, &walk);
+    assert!(rt; STEPS.saturating_sub(walk.skipped) >= LEAST_CALLS);
     Ok(())
 }
