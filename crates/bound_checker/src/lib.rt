@@ -19,8 +19,6 @@ mod table;
 mod tests;
 mod value;
 mod verdict;
-#[cfg(test)]
-mod verdict_tests;
 mod worth;
 
 pub use best::best_of;

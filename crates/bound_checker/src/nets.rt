@@ -1,12 +1,13 @@
 // The net prices of a group's requests, and sums of them.
 
 ghost use Rattle.std.specs.Prelude.{◌≡◌, ◌⊎◌, ◌+◌, ◌*◌, ◌<◌, ◌≤◌, pos, ◌≤ℤ◌, length, map, take, drop, slice_index_or, All};
-ghost use Rattle.plan_base.specs.Requests.{listed, IsKnown, place_of, members};
+ghost use Rattle.plan_base.specs.Requests.{listed, members};
 ghost use Rattle.plan_base.specs.Bound.{net_price};
 ghost use Rattle.plan_base.specs.Verdict.{IsPriceInRange};
 ghost use Rattle.bound_checker.specs.Nets.{IsNets, IsNetInRange, net_list, price_of, positive, positive_sum, net_sum, IsGreatestNet};
 
-use plan_base::{Prices, QuotaPrices, RequestNo, RequestPart, Snapshot};
+use crate::known::known_place;
+use plan_base::{Prices, QuotaPrices, RequestPart, Snapshot};
 
 /// The requests of a group with their prices, and the price of a second of the group's quota.
 #[derive(Clone, Copy)]
@@ -53,17 +54,6 @@ fn prices_from(prices: &Prices, first: usize, count: usize) -> &[i64]
 {
     let prices = prices.0.as_slice();
     &prices[first..first + count]
-}
-
-/// The place of a request that the snapshot has.
-fn known_place(snapshot: &Snapshot, request: RequestNo) -> usize
-    requires { IsKnown snapshot.now request.0 }
-    ensures { result ≡ place_of snapshot.now request.0 }
-{
-    match snapshot.place_of(request) {
-        Some(place) => place,
-        None => unreachable!(),
-    }
 }
 
 /// The price of a second of a quota: 0 past the end of the list, or where no quota is named.

@@ -13,7 +13,9 @@ use std::test::Fail;
 
 mod bests;
 mod bounds;
+mod desks;
 mod lists;
+mod verdicts;
 
 /// A request on telescope 0, with two windows, of which an empty one is left out, and a target, if it has one.
 #[derive(Clone, Copy)]
