@@ -38,7 +38,7 @@ pub(crate) fn first_twice(
 {
     let mut placed = no_flags(alloc, snapshot.requests())?;
     for (index, placement) in plan.iter().enumerate() {
-        let place = known_place(snapshot, placement.request);
+        let place = snapshot.known_place(placement.request);
         if placed[place] {
             return Ok(Some(index));
         }
@@ -47,25 +47,13 @@ pub(crate) fn first_twice(
     Ok(None)
 }
 
-/// The place of a request that the snapshot has.
-pub(crate) fn known_place(snapshot: &Snapshot, request: RequestNo) -> usize
-    requires { IsKnown snapshot.now request.0 }
-    ensures value { result ≡ place_of snapshot.now request.0 }
-    ensures within { result < length (listed snapshot.now) }
-{
-    match snapshot.place_of(request) {
-        Some(place) => place,
-        None => unreachable!(),
-    }
-}
-
 /// The place of the group of a request that the snapshot has.
 pub(crate) fn known_group(snapshot: &Snapshot, request: RequestNo) -> usize
     requires { IsKnown snapshot.now request.0 }
     ensures value { result ≡ group_of snapshot.now request.0 }
     ensures within { result < length snapshot.now.groups }
 {
-    snapshot.group_at(known_place(snapshot, request))
+    snapshot.group_at(snapshot.known_place(request))
 }
 
 /// A request that the snapshot has.
@@ -75,7 +63,7 @@ pub(crate) fn request_of(snapshot: &Snapshot, request: RequestNo) -> &RequestPar
     ensures ranges { IsRequestInRanges (length snapshot.now.telescopes) result.now }
 {
     let _ = snapshot.parts();
-    snapshot.request_at(known_place(snapshot, request))
+    snapshot.request_at(snapshot.known_place(request))
 }
 
 /// So many flags that aren't set. Fails only for want of memory.

@@ -6,7 +6,6 @@ ghost use Rattle.plan_base.specs.Bound.{net_price};
 ghost use Rattle.plan_base.specs.Verdict.{IsPriceInRange};
 ghost use Rattle.bound_checker.specs.Nets.{IsNets, IsNetInRange, net_list, price_of, positive, positive_sum, net_sum, IsGreatestNet};
 
-use crate::known::known_place;
 use plan_base::{Prices, QuotaPrices, RequestPart, Snapshot};
 
 /// The requests of a group with their prices, and the price of a second of the group's quota.
@@ -39,7 +38,7 @@ pub(crate) fn nets_of<'a>(
 {
     let part = &snapshot.parts().groups.as_slice()[group];
     let requests = part.requests.as_slice();
-    let first = known_place(snapshot, requests[0].request);
+    let first = snapshot.known_place(requests[0].request);
     Nets {
         requests,
         prices: prices_from(prices, first, requests.len()),

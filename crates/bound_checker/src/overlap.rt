@@ -7,8 +7,7 @@ ghost use Rattle.plan_base.specs.Verdict.{IsFirst, HasEarlier};
 ghost use Rattle.bound_checker.specs.Slots.{first_slot, end_slot, AreSlots};
 
 use crate::known::{no_flags, request_of};
-use crate::worth::slices_for;
-use plan_base::{Placement, Snapshot};
+use plan_base::{Placement, Snapshot, slices_for};
 use std::alloc::{AllocError, Global};
 
 /// The slots of a placement: slot `t * slices + i` is slice `i` of the horizon on telescope `t`.

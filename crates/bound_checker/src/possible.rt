@@ -11,9 +11,9 @@ ghost use Rattle.bound_checker.specs.Claims.{IsEachKnown, CanObserve};
 
 use crate::known::request_of;
 use crate::sight::find_sky;
-use crate::worth::slices_for;
 use plan_base::{
     Parts, Placement, RequestPart, Sec, SiteNo, SliceNo, Snapshot, Span, TargetNo, TelescopeNo,
+    slices_for,
 };
 
 /// The first placement that isn't a possible start.

@@ -6,8 +6,7 @@ ghost use Rattle.plan_base.specs.Starts.{worth_at, value_of_plan};
 ghost use Rattle.bound_checker.specs.Claims.{IsEachKnown};
 
 use crate::known::request_of;
-use crate::worth::{faded, least_from, slices_for};
-use plan_base::{Placement, Snapshot};
+use plan_base::{Placement, Snapshot, faded, least_from, slices_for};
 
 /// What a plan of at most 1,024 placements is worth.
 pub(crate) fn value_of(snapshot: &Snapshot, plan: &[Placement]) -> u64

@@ -1,11 +1,10 @@
 // What a placement takes up of what the placements of a plan share.
 
 ghost use Rattle.std.specs.Prelude.{◌≡◌, ◌<◌, ◌≤◌};
-ghost use Rattle.plan_base.specs.Requests.{IsKnown, place_of};
-ghost use Rattle.plan_base.specs.Starts.{IsPossibleStart, slices_for};
+ghost use Rattle.plan_base.specs.Starts.{IsPossibleStart};
 ghost use Rattle.groups.specs.Footprints.{IsFootprint, first_slot};
 
-use plan_base::{Op, Parts, Placement, RequestNo, Snapshot};
+use plan_base::{Op, Parts, Placement, Snapshot, slices_for};
 
 /// What a placement takes up: its request, a place in its group, seconds of its group's quota, and slots. Slot
 /// `t * slices + i` is slice `i` of the horizon on telescope `t`.
@@ -30,30 +29,19 @@ pub(crate) fn footprint_of(snapshot: &Snapshot, placement: Placement) -> Footpri
     ensures { IsFootprint snapshot.now placement result }
 {
     let parts = snapshot.parts();
-    let place = known_place(snapshot, placement.request);
+    let place = snapshot.known_place(placement.request);
     let group = snapshot.group_at(place);
     let part = &parts.groups.as_slice()[group];
-    let seconds = snapshot.request_at(place).seconds;
+    let seconds = u64::from(snapshot.request_at(place).seconds);
     let from = first_slot(parts, placement);
     Footprint {
         place,
         group,
         op: part.op,
         quota: part.quota,
-        seconds: u64::from(seconds),
+        seconds,
         from,
-        to: from + slices_for(parts.len, seconds) as usize,
-    }
-}
-
-/// The place of a request that the snapshot has.
-pub(crate) fn known_place(snapshot: &Snapshot, request: RequestNo) -> usize
-    requires { IsKnown snapshot.now request.0 }
-    ensures { result ≡ place_of snapshot.now request.0 }
-{
-    match snapshot.place_of(request) {
-        Some(place) => place,
-        None => unreachable!(),
+        to: from + slices_for(u64::from(parts.len), seconds) as usize,
     }
 }
 
@@ -65,14 +53,4 @@ fn first_slot(parts: &Parts, placement: Placement) -> usize
 {
     let slice = placement.slice.0 - parts.first.0;
     usize::from(placement.telescope.0) * parts.slices as usize + slice as usize
-}
-
-/// How many slices of this length so many seconds take, the last one perhaps in part.
-pub(crate) fn slices_for(len: u32, seconds: u32) -> u32
-    requires least { 60 ≤ len }
-    requires most { len ≤ 3600 }
-    requires seconds { seconds ≤ 86400 }
-    ensures { result ≡ slices_for len seconds }
-{
-    (seconds + len - 1) / len
 }

@@ -7,7 +7,6 @@ ghost use Rattle.plan_base.specs.Bound.{price, IsRebate};
 ghost use Rattle.plan_base.specs.Round.{is_taken};
 ghost use Rattle.groups.specs.Prices.{IsNetInRange, group_prices, is_first_greatest, IsGroupRun};
 
-use crate::footprint::known_place;
 use crate::sums::{greatest_price, positive, positive_sum, price_sum};
 use plan_base::{Op, Prices, Snapshot};
 
@@ -101,5 +100,5 @@ fn first_place(snapshot: &Snapshot, group: usize) -> usize
     let requests = snapshot.parts().groups.as_slice()[group]
         .requests
         .as_slice();
-    known_place(snapshot, requests[0].request)
+    snapshot.known_place(requests[0].request)
 }

@@ -1,11 +1,10 @@
 // What a request offers at each slice.
 
-ghost use Rattle.std.specs.Prelude.{◌≡◌, ◌≤◌, map, fold, min, All};
+ghost use Rattle.std.specs.Prelude.{◌≡◌, ◌≤◌, All};
 ghost use Rattle.plan_base.specs.Snapshot.{IsMoment};
-ghost use Rattle.plan_base.specs.Starts.{slices_for, least_of, faded};
 ghost use Rattle.interval_solver.specs.Offers.{IsOfferRange, IsOffer, offer_worth};
 
-use plan_base::{RequestNo, RequestPart, Span};
+use plan_base::{RequestNo, RequestPart, faded, least_from, slices_for};
 
 /// What a request gives, and how many slices it takes for it.
 #[derive(Clone, Copy, Debug)]
@@ -53,51 +52,4 @@ pub(crate) fn worth_at(offer: &Offer, slice: u64) -> u32
 {
     let delay = slice.saturating_sub(offer.earliest);
     faded(offer.value, offer.fade, delay) as u32
-}
-
-/// The value after so many slices of delay: never below 1.
-fn faded(value: u64, fade: u64, delay: u64) -> u64
-    requires value { value ≤ 288000000 }
-    requires fade { fade ≤ 1000 }
-    ensures value { result ≡ faded value fade delay }
-    ensures most { result ≤ 288000000 }
-{
-    value
-        .saturating_sub(value * fade * delay.min(1000) / 1000)
-        .max(1)
-}
-
-/// How many slices so many seconds take, the last one perhaps in part.
-fn slices_for(len: u64, seconds: u64) -> u64
-    requires least { 60 ≤ len }
-    requires most { len ≤ 3600 }
-    requires seconds { IsMoment seconds }
-    ensures value { result ≡ slices_for len seconds }
-    ensures most { result ≤ seconds }
-{
-    (seconds + len - 1) / len
-}
-
-/// The first second of the window that begins first, or 0 where there is none.
-fn least_from(windows: &[Span]) -> u64
-    requires moments { All (λ w. IsMoment w.from.0) windows.now }
-    ensures least { result ≡ least_of (map (λ w. w.from.0) windows.now) }
-    ensures moment { IsMoment result }
-{
-    match windows {
-        [] => 0,
-        [first, rest @ ..] => least_after(first.from.0, rest),
-    }
-}
-
-/// The least of a moment and the first seconds of windows.
-fn least_after(first: u64, windows: &[Span]) -> u64
-    ensures least { result ≡ fold min first (map (λ w. w.from.0) windows.now) }
-    ensures most { result ≤ first }
-{
-    let mut least = first;
-    for window in windows {
-        least = least.min(window.from.0);
-    }
-    least
 }

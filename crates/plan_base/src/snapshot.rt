@@ -77,6 +77,18 @@ impl Snapshot {
         search_rows(self.rows.as_slice(), request).ok()
     }
 
+    /// The place among all of a request that is one of them.
+    pub fn known_place(&self, request: RequestNo) -> usize
+        requires { IsKnown self.now request.0 }
+        ensures value { result ≡ place_of self.now request.0 }
+        ensures within { result < length (listed self.now) }
+    {
+        match self.place_of(request) {
+            Some(place) => place,
+            None => unreachable!(),
+        }
+    }
+
     /// The place of the group of the request at a place.
     pub fn group_at(&self, place: usize) -> usize
         requires { place < length (listed self.now) }

@@ -2,22 +2,11 @@
 
 ghost use Rattle.std.specs.Prelude.{◌≡◌, ◌+◌, ◌*◌, ◌≤◌, ◌<◌, ◌↔◌, IsTrue, Any, All};
 ghost use Rattle.plan_base.specs.Snapshot.{IsSortedApart, IsInRanges};
-ghost use Rattle.plan_base.specs.Starts.{slices_for};
 ghost use Rattle.plan_base.specs.BySpans.{HasAll};
 ghost use Rattle.snapshot_starts.specs.Skies.{SkiesRise, IsSkyOf};
 
 use crate::sky::sky_of;
 use plan_base::{Sec, SiteNo, Sky, SliceNo, Span, TargetNo};
-
-/// How many slices of this length so many seconds take, the last one perhaps in part.
-pub(crate) fn slices_for(len: u32, seconds: u32) -> u32
-    requires least { 60 ≤ len }
-    requires most { len ≤ 3600 }
-    requires seconds { seconds ≤ 86400 }
-    ensures { result ≡ slices_for len seconds }
-{
-    (seconds + len - 1) / len
-}
 
 /// The seconds of an observation that begins with a slice.
 pub(crate) fn times_of(len: u32, seconds: u32, slice: SliceNo) -> Span

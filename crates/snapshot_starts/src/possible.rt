@@ -6,11 +6,11 @@ ghost use Rattle.plan_base.specs.Starts.{IsPossibleStart};
 ghost use Rattle.snapshot_starts.specs.Pairs.{IsTimely, IsOpen, CanStart};
 ghost use Rattle.plan_base.specs.BySpans.{HasAll, IsVisibleThrough};
 
-use crate::observation::{is_visible, lies_in_any, lies_in_sorted, slices_for, times_of};
+use crate::observation::{is_visible, lies_in_any, lies_in_sorted, times_of};
 use crate::telescope::{is_able, telescope_at};
 use plan_base::{
     Parts, Placement, RequestPart, SiteNo, SliceNo, Snapshot, Span, TargetNo, TelescopeNo,
-    TelescopePart,
+    TelescopePart, slices_for,
 };
 
 /// Whether the placement is a possible start: its request is one of the snapshot, on one of its telescopes, within the
@@ -55,7 +55,7 @@ fn is_timely(parts: &Parts, request: &RequestPart, slice: SliceNo) -> bool
     requires seconds { request.now.seconds ≤ 86400 }
     ensures { IsTrue result ↔ IsTimely parts.now request.now slice.0 }
 {
-    let size = u64::from(slices_for(parts.len, request.seconds));
+    let size = slices_for(u64::from(parts.len), u64::from(request.seconds));
     let last = u64::from(parts.first.0) + u64::from(parts.slices);
     parts.first.0 <= slice.0
         && u64::from(slice.0) + size <= last

@@ -7,11 +7,12 @@ ghost use Rattle.interval_set.specs.Spans.{has};
 ghost use Rattle.snapshot_starts.specs.Slices.{AreSlices, AreSlicesIn, IsHorizonFor};
 ghost use Rattle.snapshot_starts.specs.Pairs.{IsTimely, IsOpen, CanStart};
 
-use crate::observation::slices_for;
 use crate::sky::sky_of;
 use crate::telescope::{is_able, telescope_at};
 use interval_set::Spans;
-use plan_base::{Parts, RequestPart, Sec, SiteNo, Span, TargetNo, TelescopeNo, TelescopePart};
+use plan_base::{
+    Parts, RequestPart, Sec, SiteNo, Span, TargetNo, TelescopeNo, TelescopePart, slices_for,
+};
 use std::alloc::{AllocError, Global};
 
 /// The slices at which an observation begins that lies inside the span.
@@ -75,7 +76,7 @@ fn horizon_for(parts: &Parts, seconds: u32) -> Span
     requires seconds { seconds ≤ 86400 }
     ensures { IsHorizonFor parts.now seconds result }
 {
-    let size = u64::from(slices_for(parts.len, seconds));
+    let size = slices_for(u64::from(parts.len), u64::from(seconds));
     let first = u64::from(parts.first.0);
     let past = first + u64::from(parts.slices) + 1;
     Span {

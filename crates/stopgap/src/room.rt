@@ -2,10 +2,9 @@
 
 ghost use Rattle.std.specs.Prelude.{◌≡◌, ℕ, ◌+◌, ◌*◌, ◌≤◌, ◌<◌, ◌↔◌, length, MatchOption};
 ghost use Rattle.plan_base.specs.Snapshot.{IsInRanges, IsMoment};
-ghost use Rattle.plan_base.specs.Starts.{slices_for};
 ghost use Rattle.stopgap.specs.Timeline.{IsTimely, IsRoomOf, HasRoom, IsTakenAfter};
 
-use plan_base::{Parts, RequestPart};
+use plan_base::{Parts, RequestPart, slices_for};
 
 /// Slices, counted from the horizon's first, from `begin` to the one before `end`, in which an observation of `size`
 /// slices may lie.
@@ -14,16 +13,6 @@ pub struct Room {
     pub begin: usize,
     pub end: usize,
     pub size: usize,
-}
-
-/// How many slices of `len` seconds that many seconds take, the last one perhaps in part.
-fn slices_of(seconds: u64, len: u32) -> u64
-    requires len { 0 < len }
-    requires seconds { IsMoment seconds }
-    ensures { result ≡ slices_for len seconds }
-{
-    let len = u64::from(len);
-    (seconds + len - 1) / len
 }
 
 /// How many slices from the horizon's first are such that an observation of `seconds` which begins in them ends by the
@@ -50,8 +39,9 @@ pub fn room_of(parts: &Parts, request: &RequestPart) -> Room
 {
     let window = request.windows.as_slice()[0];
     let seconds = u64::from(request.seconds);
-    let size = slices_of(seconds, parts.len);
-    let begin = slices_of(window.from.0, parts.len).saturating_sub(u64::from(parts.first.0));
+    let len = u64::from(parts.len);
+    let size = slices_for(len, seconds);
+    let begin = slices_for(len, window.from.0).saturating_sub(u64::from(parts.first.0));
     let timely = timely_slices(parts, seconds, window.to.0);
     let end = if timely == 0 {
         0

@@ -4,10 +4,9 @@ ghost use Rattle.std.specs.Prelude.{◌≡◌, ◌+◌, ◌*◌, ◌≤◌, ◌�
 ghost use Rattle.plan_base.specs.Starts.{slices_for, IsPossibleStart};
 ghost use Rattle.plan_base.specs.BySpans.{HasAll, usable_of};
 
-use crate::footprint::slices_for;
 use plan_base::{
     GroupNo, GroupPart, ListOf, Op, Parts, Placement, RequestNo, RequestPart, Sec, SiteNo, SliceNo,
-    Snapshot, Span, TelescopeNo, TelescopePart,
+    Snapshot, Span, TelescopeNo, TelescopePart, slices_for,
 };
 use std::alloc::{AllocError, Global};
 use std::process::Abort;
@@ -176,9 +175,9 @@ fn is_within_horizon(parts: &Parts, request: &RequestPart, slice: SliceNo) -> bo
     ensures begins { IsTrue result → parts.now.first.0 ≤ slice.0 }
     ensures ends { IsTrue result → slice.0 + slices_for parts.now.len request.now.seconds ≤ parts.now.first.0 + parts.now.slices }
 {
-    let size = slices_for(parts.len, request.seconds);
+    let size = slices_for(u64::from(parts.len), u64::from(request.seconds));
     let end = u64::from(parts.first.0) + u64::from(parts.slices);
-    parts.first.0 <= slice.0 && u64::from(slice.0) + u64::from(size) <= end
+    parts.first.0 <= slice.0 && u64::from(slice.0) + size <= end
 }
 
 /// Whether one usable span of the telescope has all seconds from one up to the one before another.

@@ -11,4 +11,4 @@ known_place-requires c =
 pub returns : goal.returns
 returns c =
     let first = first_request c.args.snapshot.now _ c.args.group _ _ c.index-requests-0.result c.parts.ensures.orderly (c.as_slice.ensures ∙ ap (λ (s : Parts). s.groups) c.parts.ensures.value) c.requires c.as_slice-requests.ensures in
-    subst (λ (a : ℕ). IsGroupRun c.args.snapshot.now c.args.group a) (sym c.known_place.ensures) first.1
+    subst (λ (a : ℕ). IsGroupRun c.args.snapshot.now c.args.group a) (sym c.known_place.ensures.value) first.1
