@@ -21,7 +21,7 @@ pub record IsMostOf (xs : List Start) (g : Start → ℤ) (i : ℕ) (least most 
   pub each : (k : ℕ) (d : Start) → k < i → g (slice_index_or xs k d) ≤ℤ most
   pub reached : (most ≡ least) ⊎ ((x : Start) × Contains xs x × (most ≡ g x))
 
-below_or_at : (k i : ℕ) → k < i + 1 → (k < i) ⊎ (k ≡ i)
+pub below_or_at : (k i : ℕ) → k < i + 1 → (k < i) ⊎ (k ≡ i)
 below_or_at k i h = grind arith
 
 pub most_more : (xs : List Start) (g : Start → ℤ) (i : ℕ) (least most next gained : ℤ) (x : Start)

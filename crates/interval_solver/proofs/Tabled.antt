@@ -1,5 +1,5 @@
 -- A table over the listing of a telescope's starts has its bests.
-use Rattle.std.proofs.Common.{◌≡◌, ◌≢◌, ℕ, suc, ◌+◌, ◌-◌, ◌<◌, ◌≤◌, ◌⊎◌, inl, inr, ℤ, pos, ◌+ℤ◌, ◌-ℤ◌, ◌≤ℤ◌, List, length, slice_index_or, sym, ◌∙◌, ap, subst, arith}
+use Rattle.std.proofs.Common.{◌≡◌, ℕ, suc, ◌+◌, ◌-◌, ◌<◌, ◌≤◌, inl, inr, ℤ, pos, ◌+ℤ◌, ◌-ℤ◌, ◌≤ℤ◌, List, length, slice_index_or, sym, ◌∙◌, ap, subst, arith}
 use Rattle.plan_base.specs.declared.parts.Parts.{Parts}
 use Rattle.plan_base.specs.declared.claim.Placement.{Placement}
 use Rattle.plan_base.specs.Requests.{listed, place_of}
@@ -36,7 +36,7 @@ module _ (s : Parts) (t : ℕ) (rows : List (List Start)) (orderly : IsOrderly s
 
     module _ (table : List ℤ) (recursion : IsRecursion rows prices table) where
       -- the best from slice k on
-      abbrev from_slice : ℕ → ℤ
+      abbrev pub from_slice : ℕ → ℤ
       from_slice k = entry table (k - s.first.0)
 
       here : (k : ℕ) → s.first.0 ≤ k → k < horizon_end s → IsGreatestAt rows prices table (k - s.first.0)
@@ -48,7 +48,7 @@ module _ (s : Parts) (t : ℕ) (rows : List (List Start)) (orderly : IsOrderly s
       after_same : (p : Placement) (x : Start) → IsToldBy s p x → entry table (slice_after s p - s.first.0) ≡ entry table x.after
       after_same p x told = let after : s.first.0 + x.after ≡ p.slice.0 + size_of s p.request.0 = told.after in ap (entry table) (omega arith)
 
-      gain_is : (p : Placement) (x : Start) → IsToldBy s p x → gain prices table x ≡ weight s prices p +ℤ entry table (slice_after s p - s.first.0)
+      pub gain_is : (p : Placement) (x : Start) → IsToldBy s p x → gain prices table x ≡ weight s prices p +ℤ entry table (slice_after s p - s.first.0)
       gain_is p x told = ap (λ (w : ℤ). w +ℤ entry table x.after) (weight_is p x told) ∙ ap (λ (b : ℤ). weight s prices p +ℤ b) (sym (after_same p x told))
 
       pub is_table : IsTable s prices t from_slice

@@ -1,4 +1,5 @@
 pub mod Offers
 pub mod Tables
 pub mod Listings
+pub mod Uses
 pub mod Solving

@@ -47,3 +47,11 @@ pub record IsGreatestAt (rows : List (List Start)) (prices table : List ℤ) (k 
 pub record IsRecursion (rows : List (List Start)) (prices table : List ℤ) : Type 0 where
   pub at_end : entry table (length rows) ≡ pos 0
   pub each : (k : ℕ) → k < length rows → IsGreatestAt rows prices table k
+
+-- x is the first start in a row that gives the number b
+pub record IsFirstTight (prices table : List ℤ) (b : ℤ) (xs : List Start) (x : Start) : Type 0 where
+  pub place : ℕ
+  pub within : place < length xs
+  pub at : slice_index_or xs place x ≡ x
+  pub gives : gain prices table x ≡ b
+  pub first : (k : ℕ) → k < place → ¬ (gain prices table (slice_index_or xs k x) ≡ b)

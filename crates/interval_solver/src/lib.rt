@@ -1,4 +1,4 @@
-// The best of one telescope at prices.
+// The best of one telescope at prices, and what it starts to reach it.
 #![tactic(auto)]
 
 mod offer;
@@ -8,5 +8,7 @@ mod start;
 mod table;
 #[cfg(test)]
 mod tests;
+mod uses;
+mod walk;
 
 pub use solver::Solver;

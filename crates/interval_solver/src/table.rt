@@ -22,6 +22,7 @@ pub(crate) fn fill_table(rows: &[ListOf<Start>], prices: &[i64], table: &mut [i6
     requires fit { DoRowsFit (length prices.now) rows.now }
     requires range { All IsPriceInRange prices.now }
     ensures count { length table.new ≡ length table.old }
+    ensures entries { All IsEntry table.new }
     ensures recursion { IsRecursion rows.now prices.now table.new }
     ensures first { result ≡ entry table.new 0 }
 {
@@ -53,7 +54,7 @@ fn row_best(row: &[Start], prices: &[i64], table: &[i64], least: i64) -> i64
 }
 
 /// What a start gives: its worth less its request's price, and the greatest surplus from the slice after its last on.
-fn gain_of(start: Start, prices: &[i64], table: &[i64]) -> i64
+pub(crate) fn gain_of(start: Start, prices: &[i64], table: &[i64]) -> i64
     requires worth { start.worth ≤ 288000000 }
     requires place { start.place < length prices.now }
     requires after { start.after < length table.now }
