@@ -1,45 +1,79 @@
-// Bests of small desks, worked out by hand.
+// Small desks of two telescopes, and what their solvers answer.
 
 ghost use Rattle.std.specs.Prelude.{◌≡◌, true, IsTrue, ◌↔◌, All};
 ghost use Rattle.plan_base.specs.Verdict.{IsPriceInRange};
 
 use crate::Solver;
 use plan_base::{
-    GroupNo, GroupPart, ListOf, Op, Parts, Prices, RequestNo, RequestPart, Sec, SiteNo, SliceNo,
-    Snapshot, Span, TelescopeNo, TelescopePart,
+    GroupNo, GroupPart, ListOf, Op, Parts, Placement, Prices, RequestNo, RequestPart, Sec, SiteNo,
+    SliceNo, Snapshot, Span, TelescopeNo, TelescopePart,
 };
-use snapshot_starts::starts;
 use std::alloc::{AllocError, Global};
 use std::process::Abort;
 use std::test::Fail;
-use std::thread::Threads;
 
-/// A request on the one telescope of a desk: how long it takes, and what it is worth.
+mod lists;
+mod rows;
+
+/// A request: its windows, of which an empty one is left out, and which of the telescopes can take it.
 #[derive(Clone, Copy)]
 struct Wish {
     seconds: u32,
     value: u32,
     fade: u16,
+    windows: [(u64, u64); 2],
+    telescopes: [bool; 2],
 }
 
-fn list_of<T: Copy + Drop>(alloc: Global, items: &[T]) -> Result<ListOf<T>, AllocError> {
-    Ok(ListOf::from_vec(Vec::from_slice(alloc, items)?))
+/// A horizon, and when each telescope is usable; an empty span is left out.
+#[derive(Clone, Copy)]
+struct Desk {
+    len: u32,
+    first: u32,
+    slices: u32,
+    usable: [[(u64, u64); 2]; 2],
 }
 
-/// The three minutes for which the telescope is usable.
-const NIGHT: [Span; 1] = [Span {
-    from: Sec(0),
-    to: Sec(180),
-}];
+/// What a solver answers at prices.
+#[derive(Drop)]
+struct Answer {
+    best: i64,
+    starts: Vec<Placement>,
+    /// How often each request starts.
+    uses: Vec<u32>,
+}
 
-fn group_of(alloc: Global, number: u32, wish: Wish) -> Result<GroupPart, AllocError> {
+fn spans(alloc: Global, ends: &[(u64, u64)]) -> Result<ListOf<Span>, AllocError> {
+    let mut spans = ListOf::new(alloc);
+    for (from, to) in ends {
+        if *from < *to {
+            spans.push(Span {
+                from: Sec(*from),
+                to: Sec(*to),
+            })?;
+        }
+    }
+    Ok(spans)
+}
+
+fn telescopes_of(alloc: Global, wish: &Wish) -> Result<ListOf<TelescopeNo>, AllocError> {
+    let mut telescopes = ListOf::new(alloc);
+    for (number, can) in [0u16, 1].iter().zip(wish.telescopes.iter()) {
+        if *can {
+            telescopes.push(TelescopeNo(*number))?;
+        }
+    }
+    Ok(telescopes)
+}
+
+fn group(alloc: Global, number: u32, wish: &Wish) -> Result<GroupPart, AllocError> {
     let mut requests = ListOf::new(alloc);
     requests.push(RequestPart {
         request: RequestNo(number),
         seconds: wish.seconds,
         value: wish.value,
-        windows: list_of(alloc, &NIGHT)?,
-        telescopes: list_of(alloc, &[TelescopeNo(0)])?,
+        windows: spans(alloc, wish.windows.as_slice())?,
+        telescopes: telescopes_of(alloc, wish)?,
         targets: ListOf::new(alloc),
         fade: wish.fade,
     })?;
@@ -51,30 +85,42 @@ fn group_of(alloc: Global, number: u32, wish: Wish) -> Result<GroupPart, AllocEr
     })
 }
 
-fn parts_of(alloc: Global, wishes: [Wish; 2]) -> Result<Parts, AllocError> {
-    let mut telescopes = ListOf::new(alloc);
-    telescopes.push(TelescopePart {
-        site: SiteNo(0),
-        usable: list_of(alloc, &NIGHT)?,
-    })?;
+/// The groups of the wishes, numbered from 1 on, with the requests of the same numbers.
+fn groups(alloc: Global, wishes: &[Wish]) -> Result<ListOf<GroupPart>, AllocError> {
     let mut groups = ListOf::new(alloc);
-    groups.push(group_of(alloc, 1, wishes[0])?)?;
-    groups.push(group_of(alloc, 2, wishes[1])?)?;
+    let mut number = 0u32;
+    for wish in wishes {
+        number = number.saturating_add(1);
+        groups.push(group(alloc, number, wish)?)?;
+    }
+    Ok(groups)
+}
+
+fn parts(alloc: Global, desk: &Desk, wishes: &[Wish]) -> Result<Parts, AllocError> {
+    let mut telescopes = ListOf::new(alloc);
+    for usable in desk.usable.as_slice() {
+        telescopes.push(TelescopePart {
+            site: SiteNo(0),
+            usable: spans(alloc, usable.as_slice())?,
+        })?;
+    }
     Ok(Parts {
         version: 0,
-        len: 60,
-        first: SliceNo(0),
-        slices: 3,
+        len: desk.len,
+        first: SliceNo(desk.first),
+        slices: desk.slices,
         telescopes,
         skies: ListOf::new(alloc),
-        groups,
+        groups: groups(alloc, wishes)?,
         quotas: ListOf::new(alloc),
     })
 }
 
-fn snapshot_of(rt: &impl Abort, alloc: Global, wishes: [Wish; 2]) -> Result<Snapshot, Fail> {
-    let parts = parts_of(alloc, wishes)?;
-    assert!(rt; parts.is_in_ranges());
+fn snapshot(alloc: Global, desk: &Desk, wishes: &[Wish]) -> Result<Snapshot, Fail> {
+    let parts = parts(alloc, desk, wishes)?;
+    if !parts.is_in_ranges() {
+        return Err(Fail::new("a number is out of its range"));
+    }
     Ok(Snapshot::build(alloc, parts)?)
 }
 
@@ -96,67 +142,54 @@ fn are_in_range(prices: &[i64]) -> bool
     true
 }
 
-/// The best of the telescope at prices.
-fn best_of<R: Threads + Sync>(
-    rt: &R,
+/// What the solver of the snapshot answers at prices.
+fn ask(
     alloc: Global,
     snapshot: &Snapshot,
-    prices: &Prices,
-) -> Result<i64, Fail> {
-    let list = starts(rt, alloc, snapshot)?;
-    let mut solver = Solver::new(alloc, TelescopeNo(0), snapshot, &list)?;
+    solver: &mut Solver<'_>,
+    prices: &[i64],
+) -> Result<Answer, Fail>
+    requires { solver.old.snapshot ≡ snapshot.now }
+    ensures { solver.new.snapshot ≡ solver.old.snapshot }
+{
+    let prices = Prices(ListOf::from_vec(Vec::from_slice(alloc, prices)?));
     if prices.0.len() != snapshot.requests() || !are_in_range(prices.0.as_slice()) {
         return Err(Fail::new("the prices don't fit"));
     }
-    Ok(solver.solve(prices))
-}
-
-/// Two requests, their prices, and the best.
-#[derive(Clone, Copy)]
-struct Case {
-    wishes: [Wish; 2],
-    prices: [i64; 2],
-    best: i64,
-}
-
-fn with_best(wishes: [Wish; 2], prices: [i64; 2], best: i64) -> Case {
-    Case {
-        wishes,
-        prices,
+    let best = solver.solve(&prices);
+    Ok(Answer {
         best,
-    }
+        starts: Vec::from_slice(alloc, solver.chosen())?,
+        uses: uses(alloc, snapshot, solver)?,
+    })
 }
 
-fn check<R: Threads + Sync + Abort>(rt: &R, alloc: Global, cases: &[Case]) -> Result<(), Fail> {
-    for case in cases {
-        let snapshot = snapshot_of(rt, alloc, case.wishes)?;
-        let prices = Prices(list_of(alloc, &case.prices)?);
-        assert_eq!(rt; best_of(rt, alloc, &snapshot, &prices)?, case.best);
-    }
+/// Asserts what the solver of the snapshot answers at prices.
+fn assert_answer(
+    rt: &impl Abort,
+    alloc: Global,
+    snapshot: &Snapshot,
+    solver: &mut Solver<'_>,
+    prices: &[i64],
+    expected: &Answer,
+) -> Result<(), Fail>
+    requires { solver.old.snapshot ≡ snapshot.now }
+    ensures { solver.new.snapshot ≡ solver.old.snapshot }
+{
+    let answer = ask(alloc, snapshot, solver, prices)?;
+    assert_eq!(rt; answer.best, expected.best);
+    assert_eq!(rt; answer.starts, expected.starts);
+    assert_eq!(rt; answer.uses, expected.uses);
     Ok(())
 }
 
-fn wish_for(seconds: u32, value: u32, fade: u16) -> Wish {
-    Wish {
-        seconds,
-        value,
-        fade,
+/// How often each request starts.
+fn uses(alloc: Global, snapshot: &Snapshot, solver: &Solver<'_>) -> Result<Vec<u32>, AllocError>
+    requires { solver.now.snapshot ≡ snapshot.now }
+{
+    let mut uses = Vec::new(alloc);
+    for member in 0..snapshot.requests() {
+        uses.push(solver.uses(member))?;
     }
-}
-
-#[test]
-fn bests_of_two_requests_in_three_minutes(rt: HostRuntime) -> Result<(), Fail> {
-    let minute = wish_for(60, 100, 0);
-    let long = wish_for(120, 100, 0);
-    let short = wish_for(60, 60, 0);
-    let fading = wish_for(60, 1000, 100);
-    let cases = [
-        with_best([minute, minute], [40, 40], 180),
-        with_best([minute, minute], [100, 200], 0),
-        with_best([long, short], [0, 0], 180),
-        with_best([long, short], [0, 15], 145),
-        with_best([minute, fading], [90, 850], 210),
-        with_best([minute, fading], [-20, 850], 390),
-    ];
-    check(&rt, rt.alloc(), &cases)
+    Ok(uses)
 }
