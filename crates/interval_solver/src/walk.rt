@@ -14,8 +14,8 @@ use crate::table::gain_of;
 use crate::uses::Uses;
 use plan_base::{ListOf, Placement, SliceNo, Snapshot, TelescopeNo};
 
-/// Writes down what the telescope starts, in place of what it started before: from the first slice on nothing where the
-/// table stays the same, and else the lowest request by which it reaches the table's number.
+/// Writes down what the telescope starts, in place of what it started before: from the first slice on, nothing where the
+/// next entry is the same, and else the lowest request that gives the entry.
 pub(crate) fn walk(
     snapshot: &Snapshot,
     telescope: TelescopeNo,
@@ -49,7 +49,7 @@ pub(crate) fn walk(
     }
 }
 
-/// The first slice, from one on, where the table changes before the next, or that of its last entry.
+/// The first slice, from one on, whose entry isn't that of the next, or the place of the last entry.
 fn busy_slice(table: &[i64], from: usize) -> usize
     requires { from < length table.now }
     ensures from { from ≤ result }
