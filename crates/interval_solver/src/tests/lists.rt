@@ -47,17 +47,17 @@ impl Random {
     /// A span that begins at a second or up to 99 later.
     fn span_from(&mut self, second: u64) -> (u64, u64) {
         let from = second.saturating_add(u64::from(self.below(100)));
-        let seconds = self.below(300).saturating_add(1);
+        let seconds = self.below(300).saturating_add(150);
         (from, from.saturating_add(u64::from(seconds)))
     }
 
     fn wish(&mut self) -> Wish {
         Wish {
-            seconds: self.below(150).saturating_add(1),
+            seconds: self.below(130).saturating_add(1),
             value: self.below(4).saturating_add(1).saturating_mul(10),
             fade: [0, 0, 100, 250][self.below(4) as usize],
             windows: [self.span_from(150), self.span_from(400)],
-            telescopes: [self.below(4) > 0, self.below(2) > 0],
+            telescopes: [self.below(4) > 0, self.below(3) > 0],
         }
     }
 
