@@ -1,0 +1,215 @@
+// Small snapshots that are drawn at random. Most of their moments lie at an edge of a slice, or a second beside it.
+
+use plan_base::{
+    GroupNo, GroupPart, ListOf, Op, Parts, RequestNo, RequestPart, Sec, SiteNo, Sky, SliceNo,
+    Snapshot, Span, TargetNo, TelescopeNo, TelescopePart,
+};
+use std::alloc::{AllocError, Global};
+use std::process::Abort;
+use std::test::Fail;
+
+/// Telescopes are at these sites.
+const SITES: u16 = 2;
+
+/// Targets below this number may have a sky.
+const TARGETS: u16 = 3;
+
+/// There are at most so many groups of at most two requests, which are numbered below four times as many.
+const GROUPS: u16 = 3;
+
+/// Numbers that look random, each from the one before, for snapshots of one length of slices.
+#[derive(Drop)]
+pub struct Draws {
+    seed: u64,
+    len: u32,
+}
+
+impl Draws {
+    pub fn new(seed: u64) -> Self {
+        Draws { seed, len: 60 }
+    }
+
+    /// A number below `count`, 0 where that is 0.
+    fn below(&mut self, count: u16) -> u16 {
+        self.seed = self
+            .seed
+            .wrapping_mul(6_364_136_223_846_793_005)
+            .wrapping_add(1_442_695_040_888_963_407);
+        let drawn = (self.seed >> 48) as u16;
+        drawn.checked_rem(count).unwrap_or(0)
+    }
+
+    /// A number from 1 to `most`.
+    fn up_to(&mut self, most: u16) -> u16 {
+        self.below(most).saturating_add(1)
+    }
+
+    /// As many seconds as some slices have, at most `slices`, or one less or more.
+    fn seconds(&mut self, slices: u16) -> u32 {
+        let whole = self.len.saturating_mul(u32::from(self.up_to(slices)));
+        whole
+            .saturating_add(u32::from(self.below(3)))
+            .saturating_sub(1)
+    }
+
+    /// A span that begins at a second and lasts about as long as some slices, at most `slices`.
+    fn span(&mut self, from: u64, slices: u16) -> Span {
+        Span {
+            from: Sec(from),
+            to: Sec(from.saturating_add(u64::from(self.seconds(slices)))),
+        }
+    }
+
+    /// How long the gap between two spans is.
+    fn gap(&mut self) -> u64 {
+        if self.below(2) == 0 {
+            1
+        } else {
+            u64::from(self.seconds(2))
+        }
+    }
+
+    /// Up to three spans, sorted with gaps between them.
+    fn apart(&mut self, alloc: Global) -> Result<ListOf<Span>, AllocError> {
+        let mut spans = ListOf::new(alloc);
+        let mut from = self.gap().saturating_sub(1);
+        for _ in 0..self.below(4) {
+            let span = self.span(from, 12);
+            from = span.to.0.saturating_add(self.gap());
+            spans.push(span)?;
+        }
+        Ok(spans)
+    }
+
+    /// A window, after one that ends at `before`: it touches that, overlaps it, or begins anywhere.
+    fn window(&mut self, before: u64) -> Span {
+        let from = match self.below(4) {
+            0 => before,
+            1 => before.saturating_sub(u64::from(self.seconds(2))),
+            _ => u64::from(self.seconds(5)),
+        };
+        self.span(from, 10)
+    }
+
+    fn windows(&mut self, alloc: Global) -> Result<ListOf<Span>, AllocError> {
+        let mut windows = ListOf::new(alloc);
+        let mut before = 0;
+        for _ in 0..self.up_to(3) {
+            let window = self.window(before);
+            before = window.to.0;
+            windows.push(window)?;
+        }
+        Ok(windows)
+    }
+
+    fn telescopes(
+        &mut self,
+        alloc: Global,
+        count: u16,
+    ) -> Result<ListOf<TelescopePart>, AllocError> {
+        let mut telescopes = ListOf::new(alloc);
+        for _ in 0..count {
+            telescopes.push(TelescopePart {
+                site: SiteNo(self.below(SITES)),
+                usable: self.apart(alloc)?,
+            })?;
+        }
+        Ok(telescopes)
+    }
+
+    /// Skies of some targets at some sites.
+    fn skies(&mut self, alloc: Global) -> Result<ListOf<Sky>, AllocError> {
+        let mut skies = ListOf::new(alloc);
+        for pair in 0..TARGETS.saturating_mul(SITES) {
+            if 0 < self.below(5) {
+                skies.push(Sky {
+                    target: TargetNo(pair / SITES),
+                    site: SiteNo(pair % SITES),
+                    spans: self.apart(alloc)?,
+                })?;
+            }
+        }
+        Ok(skies)
+    }
+
+    /// Some of so many telescopes, in rising order.
+    fn able(&mut self, alloc: Global, telescopes: u16) -> Result<ListOf<TelescopeNo>, AllocError> {
+        let mut able = ListOf::new(alloc);
+        for number in 0..telescopes {
+            if 0 < self.below(4) {
+                able.push(TelescopeNo(number))?;
+            }
+        }
+        Ok(able)
+    }
+
+    /// Up to two targets in any order, perhaps of those that have no sky.
+    fn targets(&mut self, alloc: Global) -> Result<ListOf<TargetNo>, AllocError> {
+        let mut targets = ListOf::new(alloc);
+        for _ in 0..self.below(3) {
+            targets.push(TargetNo(self.below(TARGETS.saturating_add(1))))?;
+        }
+        Ok(targets)
+    }
+
+    /// One or two requests, numbered from `number` on, perhaps with a number left out before each.
+    fn requests(
+        &mut self,
+        alloc: Global,
+        number: u32,
+        telescopes: u16,
+    ) -> Result<ListOf<RequestPart>, AllocError> {
+        let mut requests = ListOf::new(alloc);
+        let mut next = number;
+        for _ in 0..self.up_to(2) {
+            let request = next.saturating_add(u32::from(self.below(2)));
+            next = request.saturating_add(1);
+            requests.push(RequestPart {
+                request: RequestNo(request),
+                seconds: self.seconds(3),
+                value: 1,
+                windows: self.windows(alloc)?,
+                telescopes: self.able(alloc, telescopes)?,
+                targets: self.targets(alloc)?,
+                fade: 0,
+            })?;
+        }
+        Ok(requests)
+    }
+
+    fn groups(&mut self, alloc: Global, telescopes: u16) -> Result<ListOf<GroupPart>, AllocError> {
+        let mut groups = ListOf::new(alloc);
+        for place in 0..self.up_to(GROUPS) {
+            let number = u32::from(place);
+            groups.push(GroupPart {
+                group: GroupNo(number),
+                op: Op::Many,
+                requests: self.requests(alloc, number.saturating_mul(4), telescopes)?,
+                quota: None,
+            })?;
+        }
+        Ok(groups)
+    }
+
+    fn parts(&mut self, alloc: Global) -> Result<Parts, AllocError> {
+        self.len = u32::from(self.below(8).saturating_add(60));
+        let count = self.up_to(3);
+        Ok(Parts {
+            version: 0,
+            len: self.len,
+            first: SliceNo(u32::from(self.below(4))),
+            slices: u32::from(self.up_to(12)),
+            telescopes: self.telescopes(alloc, count)?,
+            skies: self.skies(alloc)?,
+            groups: self.groups(alloc, count)?,
+            quotas: ListOf::new(alloc),
+        })
+    }
+
+    /// The next snapshot. Its request numbers lie below 12, its telescopes' below 3, and its horizon ends by slice 15.
+    pub fn snapshot(&mut self, rt: &impl Abort, alloc: Global) -> Result<Snapshot, Fail> {
+        let parts = self.parts(alloc)?;
+        assert!(rt; parts.is_in_ranges());
+        Ok(Snapshot::build(alloc, parts)?)
+    }
+}
