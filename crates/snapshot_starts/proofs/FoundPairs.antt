@@ -1,15 +1,14 @@
 -- The pairs of a snapshot, and the slices that are found for them.
-use Rattle.std.proofs.Common.{◌≡◌, ℕ, zero, suc, ◌+◌, ◌*◌, ◌<◌, ◌≤◌, ◌⊎◌, inl, inr, List, [], ◌∷◌, ◌++◌, length, map, take, slice_index_or, All, AllPairs, Contains, None, Ok, Err, Result, refl, sym, ◌∙◌, ap, subst, arith}
-use Rattle.std.specs.Prelude.{Any, flat_map, sum_by, IsTrue, ◌↔◌, HoldsAt, IfOk, MatchResult}
+use Rattle.std.proofs.Common.{◌≡◌, ℕ, ◌+◌, ◌*◌, ◌<◌, ◌≤◌, inl, inr, List, [], ◌∷◌, ◌++◌, length, map, take, slice_index_or, All, AllPairs, Contains, None, Ok, Err, Result, refl, sym, ◌∙◌, ap, subst, arith}
+use Rattle.std.specs.Prelude.{flat_map, sum_by, HoldsAt, IfOk, MatchResult}
 use Rattle.std.specs.List.{AllZip}
 use Rattle.std.specs.declared.vec.Vec.{Vec}
 use Rattle.std.specs.declared.alloc.Global.{Global}
 use Rattle.std.specs.declared.alloc.AllocError.{AllocError}
-use Rattle.std.proofs.lemmas.Bool.{false≢true}
 use Rattle.std.proofs.lemmas.List.{take_more, append-nil, length-map}
-use Rattle.std.proofs.lemmas.List.Elements.{All-nil, All-cons, All-map, All-contains, Contains-get_or}
+use Rattle.std.proofs.lemmas.List.Elements.{All-nil, All-cons, All-contains, Contains-get_or}
 use Rattle.std.proofs.lemmas.List.Concat.{flat_map-append, length-flat_map}
-use Rattle.std.proofs.lemmas.List.Sums.{sum_by-le, sum_by-cons}
+use Rattle.std.proofs.lemmas.List.Sums.{sum_by-le}
 use Rattle.plan_base.specs.declared.parts.Parts.{Parts}
 use Rattle.plan_base.specs.declared.parts.RequestPart.{RequestPart}
 use Rattle.plan_base.specs.declared.fault.Counted.TheVariants.{Requests, Fits}
@@ -17,12 +16,11 @@ use Rattle.plan_base.specs.declared.number.RequestNo.{RequestNo}
 use Rattle.plan_base.specs.declared.number.TelescopeNo.{TelescopeNo}
 use Rattle.plan_base.specs.declared.span.Span.{Span}
 use Rattle.plan_base.specs.Requests.{Listed, listed, place_of, IsKnown, telescopes_of}
-use Rattle.plan_base.specs.Snapshot.{IsOrderly, IsSortedApart}
+use Rattle.plan_base.specs.Snapshot.{IsOrderly}
 use Rattle.plan_base.specs.Starts.{IsPossibleStart}
 use Rattle.plan_base.proofs.Lists.{contains_map, AllPairs-map}
 use Rattle.plan_base.proofs.Members.{contains_from_map}
-use Rattle.plan_base.proofs.Known.{IsListedAs, known_as, known_or_is}
-use Rattle.interval_set.specs.Spans.{has}
+use Rattle.plan_base.proofs.Known.{known_as, known_or_is}
 use Rattle.snapshot_starts.specs.declared.pair.Pair.{Pair}
 use Rattle.snapshot_starts.specs.declared.pair.PairSlices.{PairSlices}
 use Rattle.snapshot_starts.specs.Slices.{AreSlices}

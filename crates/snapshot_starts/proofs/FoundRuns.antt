@@ -1,16 +1,16 @@
 -- The runs of the slices that were found are those of all possible starts.
-use Rattle.std.proofs.Common.{◌≡◌, ℕ, zero, suc, ◌+◌, ◌-◌, ◌*◌, ◌^◌, ◌<◌, ◌≤◌, ◌⊎◌, inl, inr, true, List, [], ◌∷◌, ◌++◌, length, map, slice_index_or, All, AllPairs, Contains, refl, sym, ◌∙◌, ap, subst, arith}
-use Rattle.std.specs.Prelude.{Any, flat_map, sum_by, IsTrue}
+use Rattle.std.proofs.Common.{◌≡◌, ℕ, ◌+◌, ◌-◌, ◌^◌, ◌<◌, ◌≤◌, inl, inr, true, List, [], ◌∷◌, length, map, slice_index_or, All, AllPairs, Contains, refl, sym, ◌∙◌, ap, subst, arith}
+use Rattle.std.specs.Prelude.{sum_by, IsTrue}
 use Rattle.std.proofs.lemmas.Bool.Decides.{nat_tests}
 use Rattle.std.proofs.lemmas.List.{length-map}
-use Rattle.std.proofs.lemmas.List.Elements.{All-head, All-tail, All-contains, All-map, Contains-get_or}
+use Rattle.std.proofs.lemmas.List.Elements.{All-head, All-tail, All-contains}
 use Rattle.std.proofs.lemmas.List.Folds.{Any-from_list_any, list_any-from_Any}
 use Rattle.std.proofs.lemmas.List.Sums.{sum_by-cons, sum_by-append}
 use Rattle.plan_base.specs.declared.parts.Parts.{Parts}
 use Rattle.plan_base.specs.declared.span.Span.{Span}
 use Rattle.plan_base.specs.declared.claim.Placement.{Placement}
 use Rattle.plan_base.specs.Snapshot.{IsOrderly, IsSortedApart}
-use Rattle.plan_base.specs.Starts.{size_of, IsPossibleStart, IsAllStarts, IsStartCount}
+use Rattle.plan_base.specs.Starts.{size_of, IsPossibleStart, IsStartCount}
 use Rattle.plan_base.proofs.Sizes.{start_size_above}
 use Rattle.plan_base.proofs.Lists.{contains_map, AllPairs-map}
 use Rattle.plan_base.proofs.Members.{contains_from_map, pairs_from_map}

@@ -1,6 +1,6 @@
 -- The slices at which a request may start, narrowed down step by step.
-use Rattle.std.proofs.Common.{◌≡◌, ℕ, ◌+◌, ◌*◌, ◌<◌, ◌≤◌, Bool, true, false, List, [], ◌∷◌, length, slice_index_or, refl, sym, ◌∙◌, subst, below_more, arith}
-use Rattle.std.specs.Prelude.{◌||◌, IsTrue, ◌↔◌, All, Contains, HoldsAt}
+use Rattle.std.proofs.Common.{◌≡◌, ℕ, ◌+◌, ◌*◌, ◌<◌, ◌≤◌, Bool, false, List, [], ◌∷◌, length, slice_index_or, sym, ◌∙◌, subst, below_more, arith}
+use Rattle.std.specs.Prelude.{◌||◌, IsTrue, All, Contains, HoldsAt}
 use Rattle.std.proofs.lemmas.List.{get_or_default}
 use Rattle.plan_base.specs.declared.parts.Parts.{Parts}
 use Rattle.plan_base.specs.declared.parts.RequestPart.{RequestPart}

@@ -1,14 +1,12 @@
 -- When a telescope of a snapshot is open for a request.
-use Rattle.std.proofs.Common.{◌≡◌, ℕ, ◌+◌, ◌*◌, ◌<◌, ◌≤◌, List, [], ◌∷◌, length, map, slice_index_or, All, Contains, Bool, true, refl, sym, ◌∙◌, ap, subst, arith, Decides}
+use Rattle.std.proofs.Common.{◌≡◌, ℕ, ◌+◌, ◌*◌, ◌<◌, ◌≤◌, List, [], length, map, All, Contains, sym, ◌∙◌, ap, subst, arith, Decides}
 use Rattle.std.specs.Prelude.{◌↔◌, ◌==◌, HoldsAt}
 use Rattle.std.proofs.lemmas.List.{length-map, get_or-map, get_or_past}
-use Rattle.std.proofs.lemmas.List.Elements.{All-contains, Contains-get_or}
 use Rattle.std.proofs.lemmas.Bool.Decides.{Decides-eqb}
 use Rattle.plan_base.specs.declared.parts.Parts.{Parts}
 use Rattle.plan_base.specs.declared.parts.RequestPart.{RequestPart}
 use Rattle.plan_base.specs.declared.parts.TelescopePart.{TelescopePart}
 use Rattle.plan_base.specs.declared.number.TelescopeNo.{TelescopeNo}
-use Rattle.plan_base.specs.declared.number.TargetNo.{TargetNo}
 use Rattle.plan_base.specs.declared.span.Span.{Span}
 use Rattle.plan_base.specs.Snapshot.{IsSortedApart, IsOrderly}
 use Rattle.plan_base.specs.Starts.{site_of}

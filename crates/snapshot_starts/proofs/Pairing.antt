@@ -1,5 +1,5 @@
 -- When a request that a snapshot has may start.
-use Rattle.std.proofs.Common.{◌≡◌, ℕ, ◌+◌, ◌*◌, ◌<◌, ◌≤◌, List, [], ◌∷◌, length, slice_index_or, All, Contains, None, refl, sym, ◌∙◌, ap, subst, arith}
+use Rattle.std.proofs.Common.{◌≡◌, ℕ, ◌+◌, ◌*◌, ◌<◌, ◌≤◌, List, [], length, slice_index_or, All, Contains, None, sym, ◌∙◌, ap, subst, arith}
 use Rattle.std.specs.Prelude.{◌↔◌, HoldsAt}
 use Rattle.plan_base.specs.declared.parts.Parts.{Parts}
 use Rattle.plan_base.specs.declared.parts.RequestPart.{RequestPart}
@@ -9,11 +9,11 @@ use Rattle.plan_base.specs.declared.span.Span.{Span}
 use Rattle.plan_base.specs.declared.claim.Placement.{Placement}
 use Rattle.plan_base.specs.Requests.{Listed, listed, place_of, IsKnown, seconds_of, windows_of, telescopes_of, targets_of}
 use Rattle.plan_base.specs.Snapshot.{IsOrderly}
-use Rattle.plan_base.specs.Starts.{slices_for, size_of, site_of, IsPossibleStart}
+use Rattle.plan_base.specs.Starts.{slices_for, site_of, IsPossibleStart}
 use Rattle.plan_base.specs.BySpans.{HasAll, usable_of, IsVisibleThrough, IsPossibleBySpans}
-use Rattle.plan_base.proofs.Known.{IsListedAs, known_as, known_or_is}
+use Rattle.plan_base.proofs.Known.{known_as, known_or_is}
 use Rattle.plan_base.proofs.SpanStarts.{by_spans_from_possible, possible_from_by_spans}
-use Rattle.snapshot_starts.specs.Pairs.{IsTimely, CanStart}
+use Rattle.snapshot_starts.specs.Pairs.{CanStart}
 
 -- what is known of request r is what stands in q
 record IsPart (s : Parts) (r : ℕ) (q : RequestPart) : Type 0 where

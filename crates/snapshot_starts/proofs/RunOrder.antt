@@ -1,17 +1,17 @@
 -- Runs in order: the order of their starts, and that each is a greatest row.
-use Rattle.std.proofs.Common.{◌≡◌, ◌≢◌, ℕ, zero, suc, ◌+◌, ◌-◌, ◌<◌, ◌≤◌, ◌⊎◌, inl, inr, List, [], ◌∷◌, length, slice_index_or, All, AllPairs, Contains, refl, sym, ◌∙◌, ap, subst, arith}
-use Rattle.std.specs.Prelude.{Any, sum_by}
+use Rattle.std.proofs.Common.{◌≡◌, ◌≢◌, ℕ, suc, ◌+◌, ◌<◌, ◌≤◌, ◌⊎◌, inl, inr, List, [], ◌∷◌, length, slice_index_or, AllPairs, Contains, refl, sym, ◌∙◌, ap, subst, arith}
+use Rattle.std.specs.Prelude.{sum_by}
 use Rattle.std.proofs.lemmas.List.{get_or_default}
-use Rattle.std.proofs.lemmas.List.Elements.{All-contains, Contains-get_or}
+use Rattle.std.proofs.lemmas.List.Elements.{All-contains}
 use Rattle.std.proofs.lemmas.List.Concat.{length-flat_map}
 use Rattle.std.proofs.lemmas.List.Sums.{sum_by-cons}
 use Rattle.plan_base.specs.declared.claim.Placement.{Placement}
 use Rattle.plan_base.specs.declared.parts.Parts.{Parts}
-use Rattle.plan_base.specs.Starts.{IsPossibleStart, IsAllStarts}
+use Rattle.plan_base.specs.Starts.{IsPossibleStart}
 use Rattle.snapshot_starts.specs.declared.run.Run.{Run}
 use Rattle.snapshot_starts.specs.Runs.{start_at, starts_of_run, starts_of, IsStartBefore, IsRunBefore, IsGreatestRow, AreRuns, AreAllStarts}
 use Rattle.snapshot_starts.specs.Kept.{count_of, CanKeep}
-use Rattle.snapshot_starts.proofs.InRuns.{all_of, pairs_flat_map, IsIn, length_of_run, at_in_run, in_starts, from_starts, from_run, start_is}
+use Rattle.snapshot_starts.proofs.InRuns.{all_of, pairs_flat_map, IsIn, length_of_run, at_in_run, in_starts, from_starts, from_run}
 
 below_same_above : (i j : ℕ) → ((i < j) ⊎ (j < i)) ⊎ (i ≡ j)
 below_same_above i j = grind arith

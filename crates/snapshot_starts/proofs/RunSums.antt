@@ -1,6 +1,5 @@
 -- Where a start stands among those of runs.
-use Rattle.std.proofs.Common.{◌≡◌, ℕ, zero, suc, ◌+◌, ◌-◌, ◌^◌, ◌<◌, ◌≤◌, ◌⊎◌, inl, inr, List, [], ◌∷◌, length, take, slice_index_or, All, refl, sym, ◌∙◌, ap, subst, arith}
-use Rattle.std.specs.Prelude.{sum_by}
+use Rattle.std.proofs.Common.{◌≡◌, ℕ, zero, suc, ◌+◌, ◌-◌, ◌^◌, ◌<◌, ◌≤◌, inl, inr, List, [], ◌∷◌, length, take, slice_index_or, refl, sym, ◌∙◌, ap, subst, arith}
 use Rattle.std.specs.List.Sorted.{IsNonDecreasingBy}
 use Rattle.std.proofs.lemmas.Bool.{cases_lt}
 use Rattle.std.proofs.lemmas.List.{get_or_default, take_all, take_more, take-take}
@@ -9,7 +8,7 @@ use Rattle.std.proofs.lemmas.List.Sums.{sum_by-take-le, sum_by-append}
 use Rattle.plan_base.specs.declared.claim.Placement.{Placement}
 use Rattle.snapshot_starts.specs.declared.run.Run.{Run}
 use Rattle.snapshot_starts.specs.Runs.{start_at, starts_of_run, starts_of}
-use Rattle.snapshot_starts.specs.Kept.{count_of, CanKeep, AreSums, IsKept, IsCountUpTo}
+use Rattle.snapshot_starts.specs.Kept.{count_of, CanKeep, AreSums, IsCountUpTo}
 use Rattle.snapshot_starts.proofs.InRuns.{length_of_run, at_in_run}
 use Rattle.snapshot_starts.proofs.RunOrder.{length_of_starts}
 

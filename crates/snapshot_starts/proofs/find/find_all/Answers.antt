@@ -1,4 +1,4 @@
-use Rattle.std.proofs.Common.{◌≡◌, ◌∙◌}
+use Rattle.std.proofs.Common.{◌∙◌}
 use Rattle.std.proofs.lemmas.Result.{IfOk-weaker}
 use Rattle.snapshot_starts.proofs.FoundPairs.{are_found}
 use Rattle.snapshot_starts.proofs.find.find_all.Goals as goal

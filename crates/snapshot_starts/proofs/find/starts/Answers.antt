@@ -1,8 +1,6 @@
 use Rattle.std.proofs.Common.{◌≡◌, length, sym, ◌∙◌, ap, subst, arith, List}
 use Rattle.std.specs.Prelude.{sum_by}
-use Rattle.std.proofs.lemmas.Result.{IfOk-weaker}
 use Rattle.plan_base.specs.declared.claim.Placement.{Placement}
-use Rattle.snapshot_starts.specs.declared.run.Run.{Run}
 use Rattle.snapshot_starts.specs.declared.pair.PairSlices.{PairSlices}
 use Rattle.snapshot_starts.specs.Found.{AreFew, AreRunSpans, slice_count, runs_of}
 use Rattle.snapshot_starts.specs.Kept.{CanKeep}

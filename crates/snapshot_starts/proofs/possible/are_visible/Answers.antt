@@ -1,4 +1,4 @@
-use Rattle.std.proofs.Common.{◌≡◌, List, slice_index_or, below_more, refl, subst, sym, ◌∙◌, arith}
+use Rattle.std.proofs.Common.{List, slice_index_or, below_more, refl, subst, sym, ◌∙◌, arith}
 use Rattle.std.specs.Prelude.{HoldsAt}
 use Rattle.std.proofs.lemmas.Bool.{false≢true}
 use Rattle.std.proofs.lemmas.List.{get_or_default}

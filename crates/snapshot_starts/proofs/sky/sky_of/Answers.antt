@@ -1,7 +1,6 @@
-use Rattle.std.proofs.Common.{subst, sym, ◌∙◌, arith}
+use Rattle.std.proofs.Common.{subst, sym, ◌∙◌}
 use Rattle.std.proofs.lemmas.List.{get_or_default}
 use Rattle.std.proofs.lemmas.Bool.{false≢true}
-use Rattle.plan_base.specs.declared.parts.Sky.{Sky}
 use Rattle.snapshot_starts.specs.Skies.{IsSkyOf}
 use Rattle.snapshot_starts.proofs.Skies.{no_sky}
 use Rattle.snapshot_starts.proofs.sky.sky_of.Goals as goal

@@ -1,9 +1,8 @@
-use Rattle.std.proofs.Common.{◌≡◌, ◌+◌, ◌*◌, ◌≤◌, length, slice_index_or, take, List, ℕ, sym, ◌∙◌, ap, subst, arith}
+use Rattle.std.proofs.Common.{◌≡◌, ◌+◌, ◌*◌, slice_index_or, take, List, sym, subst, arith}
 use Rattle.std.proofs.lemmas.List.{get_or_default, take_all}
 use Rattle.std.proofs.lemmas.Result.{IfOk-weaker}
 use Rattle.plan_base.specs.declared.span.Span.{Span}
 use Rattle.plan_base.specs.BySpans.{HasAll}
-use Rattle.interval_set.specs.Spans.{has, IsSetOf}
 use Rattle.snapshot_starts.proofs.Begun.{nothing}
 use Rattle.snapshot_starts.proofs.Sets.{AreSlicesOf, slices_at, set_slices}
 use Rattle.snapshot_starts.proofs.slices.slices_in_any.Goals as goal

@@ -1,4 +1,4 @@
-use Rattle.std.proofs.Common.{◌+◌, ◌*◌, List, sym, subst}
+use Rattle.std.proofs.Common.{◌+◌, ◌*◌, List, subst}
 use Rattle.std.specs.Prelude.{Contains}
 use Rattle.std.proofs.lemmas.Result.{IfOk-weaker}
 use Rattle.plan_base.specs.declared.parts.Sky.{Sky}

@@ -1,4 +1,4 @@
-use Rattle.std.proofs.Common.{◌+◌, ◌*◌, ◌≤◌, length, List, sym, subst, arith}
+use Rattle.std.proofs.Common.{◌+◌, ◌*◌}
 use Rattle.plan_base.specs.BySpans.{IsVisibleThrough}
 use Rattle.snapshot_starts.proofs.Narrowing.{none_seen, more_seen, all_seen}
 use Rattle.snapshot_starts.proofs.slices.slices_under_all.Goals as goal

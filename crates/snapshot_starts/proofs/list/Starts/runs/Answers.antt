@@ -1,7 +1,6 @@
 use Rattle.std.proofs.Common.{sym, subst, List}
 use Rattle.plan_base.specs.declared.claim.Placement.{Placement}
-use Rattle.snapshot_starts.specs.declared.run.Run.{Run}
-use Rattle.snapshot_starts.specs.Runs.{AreRuns, starts_of}
+use Rattle.snapshot_starts.specs.Runs.{AreRuns}
 use Rattle.snapshot_starts.proofs.RunOrder.{are_runs}
 use Rattle.snapshot_starts.proofs.list.Starts.runs.Goals as goal
 
