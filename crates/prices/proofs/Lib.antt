@@ -1,5 +1,6 @@
 pub mod Demanding
 pub mod Greatest
+pub mod Playing
 pub mod Rounding
 pub mod Setting
 pub mod Summing

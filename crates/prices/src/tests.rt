@@ -5,6 +5,11 @@ ghost use Rattle.std.specs.Prelude.{◌<◌};
 use super::*;
 use std::test::Fail;
 
+mod desk;
+mod play;
+mod quotas;
+mod rounds;
+
 /// A lane, a round, the greatest value of a request, and the step.
 #[derive(Clone, Copy)]
 struct Step {
