@@ -1,14 +1,13 @@
 -- What is demanded of quotas, request by request.
-use Rattle.std.proofs.Common.{◌≡◌, ℕ, ◌+◌, ◌*◌, ◌^◌, ◌<◌, ◌≤◌, Bool, true, false, cond, ◌&&◌, ◌==◌, ℤ, List, [], ◌∷◌, length, map, filter, drop, slice_index_or, Option, Some, None, refl, sym, ◌∙◌, ap, subst, arith}
+use Rattle.std.proofs.Common.{◌≡◌, ℕ, ◌+◌, ◌*◌, ◌<◌, ◌≤◌, Bool, true, false, cond, ◌&&◌, ◌==◌, ℤ, List, [], ◌∷◌, length, map, filter, drop, slice_index_or, Option, Some, None, refl, sym, ◌∙◌, ap, subst, arith}
 use Rattle.std.specs.Prelude.{HoldsAt, sum_by}
-use Rattle.std.specs.Option.{ForSome}
 use Rattle.std.proofs.lemmas.List.{at_drop_more, at_drop_all, get_or-map}
 use Rattle.std.proofs.lemmas.List.Elements.{Contains-get_or}
 use Rattle.std.proofs.lemmas.List.Sums.{sum_by-cons}
 use Rattle.plan_base.specs.declared.parts.Parts.{Parts}
 use Rattle.plan_base.specs.declared.parts.GroupPart.{GroupPart}
 use Rattle.plan_base.specs.declared.parts.RequestPart.{RequestPart}
-use Rattle.plan_base.specs.Requests.{Listed, listed, place_of, IsKnown, group_of, quota_of}
+use Rattle.plan_base.specs.Requests.{Listed, listed, place_of, IsKnown, group_of}
 use Rattle.plan_base.specs.Snapshot.{IsOrderly}
 use Rattle.plan_base.specs.Feasible.{is_quota}
 use Rattle.plan_base.specs.Round.{is_taken, demand_of}

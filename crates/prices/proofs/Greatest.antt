@@ -1,6 +1,6 @@
 -- The first of the greatest prices is told from the others.
-use Rattle.std.proofs.Common.{◌≡◌, ◌≢◌, ℕ, ◌+◌, ◌-◌, ◌<◌, ◌≤◌, ◌⊎◌, inl, inr, Bool, true, false, ◌&&◌, ◌==◌, nat_lt, nat_le, int_lt, int_le, ℤ, pos, negsuc, List, length, take, drop, slice_index_or, refl, sym, ◌∙◌, ap, arith}
-use Rattle.std.specs.List.{list_all, IsFirstBest, AllPass}
+use Rattle.std.proofs.Common.{◌≡◌, ◌≢◌, ℕ, ◌+◌, ◌-◌, ◌<◌, ◌⊎◌, inl, inr, Bool, true, false, ◌&&◌, ◌==◌, nat_lt, nat_le, int_lt, int_le, ℤ, pos, negsuc, List, length, take, drop, slice_index_or, refl, sym, ◌∙◌, ap, arith}
+use Rattle.std.specs.List.{IsFirstBest, AllPass}
 use Rattle.std.proofs.lemmas.Bool.Decides.{nat_tests}
 use Rattle.std.proofs.lemmas.List.{get_or-take, get_or-drop, get_or_default, length-take, length-drop}
 use Rattle.std.proofs.lemmas.List.Folds.{list_all_at}

@@ -1,12 +1,12 @@
 -- From what is written place by place to all prices after a round.
-use Rattle.std.proofs.Common.{◌≡◌, ℕ, ◌+◌, ◌<◌, ◌≤◌, ◌⊎◌, inl, inr, Bool, false, ℤ, pos, ◌-ℤ◌, List, length, map, slice_index_or, Option, None, All, refl, sym, ◌∙◌, ap, subst, arith}
-use Rattle.std.specs.List.{range_with_len, enumerate_from}
+use Rattle.std.proofs.Common.{◌≡◌, ℕ, ◌<◌, ◌≤◌, ◌⊎◌, inl, inr, Bool, false, ℤ, pos, ◌-ℤ◌, List, length, map, slice_index_or, Option, None, All, sym, ◌∙◌, ap, subst, arith}
+use Rattle.std.specs.List.{enumerate_from}
 use Rattle.std.proofs.lemmas.Int.{ints}
-use Rattle.std.proofs.lemmas.List.{length-map, get_or-map, get_or_past, get_or_default, ext_get_or}
+use Rattle.std.proofs.lemmas.List.{length-map, get_or-map, get_or_past, ext_get_or}
 use Rattle.std.proofs.lemmas.List.FromFn.{length-map-range_with_len, get_or-map-range_with_len, length-enumerate_from, get_or-enumerate_from}
 use Rattle.plan_base.specs.declared.parts.Parts.{Parts}
 use Rattle.plan_base.specs.declared.claim.Placement.{Placement}
-use Rattle.plan_base.specs.Requests.{Listed, listed, place_of, known_or, IsKnown, seconds_of, quota_of}
+use Rattle.plan_base.specs.Requests.{Listed, listed, place_of, known_or, seconds_of}
 use Rattle.plan_base.specs.Snapshot.{IsOrderly}
 use Rattle.plan_base.specs.Bound.{price, charge, net_price}
 use Rattle.plan_base.specs.Verdict.{IsPriceInRange}

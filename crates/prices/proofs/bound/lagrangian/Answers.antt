@@ -1,6 +1,5 @@
-use Rattle.std.proofs.Common.{◌+◌, ◌≡◌, ◌^◌, ℤ, pos, ◌+ℤ◌, ◌≤ℤ◌, All, arith}
+use Rattle.std.proofs.Common.{arith}
 use Rattle.std.proofs.lemmas.Int.{ints}
-use Rattle.plan_base.specs.Sums.{total}
 use Rattle.prices.proofs.Summing.{parts_most}
 use Rattle.prices.proofs.bound.lagrangian.Goals as goal
 

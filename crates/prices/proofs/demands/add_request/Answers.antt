@@ -1,4 +1,4 @@
-use Rattle.std.proofs.Common.{◌≡◌, ℕ, ◌+◌, ◌^◌, ◌<◌, ◌≤◌, List, length, slice_index_or, ◌∙◌, sym, ap, rules, arith}
+use Rattle.std.proofs.Common.{◌≡◌, ℕ, ◌+◌, ◌<◌, ◌≤◌, length, slice_index_or, ◌∙◌, ap, arith}
 use Rattle.plan_base.specs.declared.parts.Parts.{Parts}
 use Rattle.groups.specs.Tables.{towards}
 use Rattle.groups.proofs.Footed.{seconds_listed}

@@ -1,12 +1,10 @@
-use Rattle.std.proofs.Common.{◌≡◌, ℕ, ◌+◌, ◌<◌, ◌≤◌, ℤ, pos, List, length, slice_index_or, false, unsigned_abs, ◌∙◌, sym, ap, subst, w64, arith}
+use Rattle.std.proofs.Common.{◌≡◌, ℕ, pos, slice_index_or, false, unsigned_abs, ◌∙◌, sym, ap, subst, w64, arith}
 use Rattle.std.proofs.lemmas.Int.{to_z-of_z}
 use Rattle.plan_base.specs.declared.parts.Parts.{Parts}
-use Rattle.plan_base.specs.Requests.{listed}
-use Rattle.plan_base.specs.Bound.{price, net_price}
+use Rattle.plan_base.specs.Bound.{net_price}
 use Rattle.plan_base.specs.Verdict.{IsPriceInRange}
-use Rattle.plan_base.specs.Round.{demand_of, moved_price, moved_quota_price}
+use Rattle.plan_base.specs.Round.{moved_price, moved_quota_price}
 use Rattle.prices.specs.Rounds.{prices_after}
-use Rattle.prices.specs.Takings.{AreTaken}
 use Rattle.prices.proofs.Rounding.{taken_net, stays_at, after_is, next_is, next_quota_is}
 use Rattle.prices.proofs.round.advance.Goals as goal
 use Rattle.prices.proofs.round.advance.Goals.{After-move_quota_prices}

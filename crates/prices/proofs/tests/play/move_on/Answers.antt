@@ -1,4 +1,4 @@
-use Rattle.std.proofs.Common.{◌≡◌, length, All, subst, rules, arith}
+use Rattle.std.proofs.Common.{◌≡◌, length, All, subst, rules}
 use Rattle.plan_base.specs.Requests.{listed}
 use Rattle.plan_base.specs.Bound.{net_price}
 use Rattle.prices.proofs.Playing.{IsSmall, small_stay}
