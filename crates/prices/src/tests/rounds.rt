@@ -3,15 +3,9 @@
 // steps of the rounds are 50000, 25000, 16666, 12500, 10000, 8333, 7142 and 6250.
 
 use super::desk::{Desk, ONE};
-use super::play::{Round, assert_rounds, round_of};
+use super::play::{assert_rounds, round_of};
 use plan_base::Op;
 use std::test::Fail;
-
-/// Two requests on one telescope, at any time.
-const TWO: Desk = Desk {
-    groups: &[(Op::Single, 1), (Op::Single, 1)],
-    ..ONE
-};
 
 #[test]
 fn one_request_takes_its_whole_value_as_price(rt: HostRuntime) -> Result<(), Fail> {
@@ -40,6 +34,10 @@ fn uses_are_counted_over_all_telescopes(rt: HostRuntime) -> Result<(), Fail> {
 
 #[test]
 fn two_requests_share_a_telescope(rt: HostRuntime) -> Result<(), Fail> {
+    let desk = Desk {
+        groups: &[(Op::Single, 1), (Op::Single, 1)],
+        ..ONE
+    };
     let rounds = [
         round_of(0, &[0, 0], &[600_000], &[0, 0], &[12, 0], 600_000),
         round_of(1, &[50_000, 0], &[600_000], &[50_000, 0], &[0, 12], 650_000),
@@ -100,7 +98,7 @@ fn two_requests_share_a_telescope(rt: HostRuntime) -> Result<(), Fail> {
             369_284,
         ),
     ];
-    assert_rounds(&rt, rt.alloc(), &TWO, &rounds)
+    assert_rounds(&rt, rt.alloc(), &desk, &rounds)
 }
 
 #[test]
