@@ -1,17 +1,15 @@
 -- What the stopgap claim of a desk's snapshot says of the desk.
-use Rattle.std.proofs.Common.{◌≡◌, ℕ, ◌≤◌, ℤ, pos, ◌≤ℤ◌, List, [], ◌∷◌, refl, subst, sym, arith, Some, None, Result, Ok, Err, IfSome, IfOk, MatchOption, All}
+use Rattle.std.proofs.Common.{◌≡◌, ℕ, ◌≤◌, ℤ, pos, ◌≤ℤ◌, List, [], refl, subst, sym, arith, Some, None, Result, Ok, Err, IfSome, IfOk, MatchOption}
 use Rattle.std.specs.declared.option.Option.{Option}
 use Rattle.std.specs.declared.alloc.AllocError.{AllocError}
 use Rattle.std.proofs.lemmas.Int.{ints}
 use Rattle.std.proofs.lemmas.List.Elements.{All-nil, All-cons}
 use Rattle.plan_base.specs.declared.parts.Parts.{Parts}
-use Rattle.plan_base.specs.declared.parts.GroupPart.{GroupPart}
 use Rattle.plan_base.specs.declared.claim.Claim.{Claim}
 use Rattle.plan_base.specs.declared.claim.Placement.{Placement}
-use Rattle.plan_base.specs.Snapshot.{IsSnapshot, IsOrderly}
+use Rattle.plan_base.specs.Snapshot.{IsOrderly}
 use Rattle.plan_base.specs.Starts.{value_of_plan}
 use Rattle.plan_base.specs.Feasible.{IsFeasible}
-use Rattle.plan_base.specs.Bound.{IsBound}
 use Rattle.plan_base.specs.Verdict.{IsCertified}
 use Rattle.plan_base.proofs.Duality.{duality}
 use Rattle.plan_base.proofs.Orderly.{orderly}
@@ -21,7 +19,7 @@ use Rattle.session.specs.declared.command.Submission.{Submission}
 use Rattle.session.specs.Commands.{IsOpening}
 use Rattle.session.specs.StateSeen.{StateSeen, IsState}
 use Rattle.session.specs.DeskSnapshot.{request_part, group_part, snapshot_of, IsSnapshotOf}
-use Rattle.session.specs.Session.{IsBoundedClaim, IsDeskClaim}
+use Rattle.session.specs.Session.{IsDeskClaim}
 use Rattle.session.proofs.DeskParts.{all_groups, length_groups, desk_in_ranges, desk_faultless}
 use Rattle.session.proofs.StartCounts.{few_starts}
 
@@ -56,7 +54,8 @@ at_opening s o claim h g v e stopgap certified =
       parts = parts;
       snapshot = (o, e, refl);
       few = λ n count. omega (arith, few_starts parts (desk_simple s o) known (omega (arith, length_groups 1 s.submissions)) n count);
-      bounded = record { certified = certified; given = certified.bound; greatest = within parts claim known certified; stopgap = stopgap };
+      bounded = record { certified = certified; given = certified.bound; greatest = within parts claim known certified };
+      stopgap = stopgap;
     }
 
 pub desk_claim : (s : StateSeen) (parts : Parts) (claim : Claim) → IsState s → s.version ≤ 524288 → IsSnapshotOf s parts → IsStopgap parts claim → IsCertified parts claim → IsDeskClaim s claim

@@ -1,10 +1,8 @@
 -- The lines that are done, what was written of them, and the lines that are left.
-use Rattle.std.proofs.Common.{◌≡◌, ℕ, zero, suc, ◌+◌, ◌-◌, ◌≤◌, ◌<◌, List, [], ◌∷◌, ◌++◌, length, drop, slice_get, Bool, true, false, cond, refl, sym, ◌∙◌, ap, subst, arith, inl, inr, Some, Result, Ok, Err}
+use Rattle.std.proofs.Common.{◌≡◌, ℕ, zero, suc, ◌+◌, ◌≤◌, ◌<◌, List, [], ◌∷◌, ◌++◌, length, drop, slice_get, Bool, true, false, cond, refl, sym, ◌∙◌, ap, subst, arith, inl, inr, Some, Result, Ok, Err}
 use Rattle.std.specs.declared.option.Option.{Option}
 use Rattle.std.specs.declared.alloc.AllocError.{AllocError}
-use Rattle.std.specs.List.{flat_map}
 use Rattle.std.proofs.Common.{append_assoc}
-use Rattle.plan_base.specs.declared.claim.Claim.{Claim}
 use Rattle.plan_io.specs.declared.lines.ScriptLine.{ScriptLine}
 use Rattle.plan_io.specs.declared.sink.PutAnswer.{PutAnswer}
 use Rattle.plan_io.specs.declared.sink.PutAnswer.TheVariants as put
@@ -15,7 +13,7 @@ use Rattle.session.specs.declared.entry.Refusal.{Refusal}
 use Rattle.session.specs.declared.entry.Reply.{Reply}
 use Rattle.session.specs.Commands.{command_of}
 use Rattle.session.specs.StateSeen.{StateSeen}
-use Rattle.session.specs.Step.{start, step_line, published}
+use Rattle.session.specs.Step.{start, IsStepReply, after_line}
 use Rattle.session.specs.History.{IsWhole}
 use Rattle.session.specs.Laws.{is_change}
 use Rattle.session.specs.Texts.{text_of_entry, text_of_history}
@@ -70,13 +68,13 @@ at_most_one : (b : Bool) → cond b 1 0 ≤ 1
 at_most_one true = omega arith
 at_most_one false = omega arith
 
-step_version : (s : StateSeen) (read : Result Command Refusal) → (step_line s read).state.version ≤ s.version + 1
-step_version s read =
-    let counts = step_counts s read in
-    omega (arith, counts, at_most_one (is_change (step_line s read).reply))
+step_version : (s : StateSeen) (read : Result Command Refusal) (reply : Reply) → IsStepReply s read reply → (after_line s read reply).version ≤ s.version + 1
+step_version s read reply h =
+    let counts = step_counts s read reply h in
+    omega (arith, counts, at_most_one (is_change reply))
 
 does_version : (s t : StateSeen) (n : ℕ) (read : Result Command Refusal) (es : List EventEntry) → DoesLine s n read es t → t.version ≤ s.version + 1
-does_version s t n read es (inl d) = subst (λ (u : StateSeen). u.version ≤ s.version + 1) (sym d.2) (step_version s read)
+does_version s t n read es (inl d) = subst (λ (u : StateSeen). u.version ≤ s.version + 1) (sym d.1.left) (step_version s read d.0 d.1.replied)
 does_version s t n read es (inr d) = let after : t.version ≡ s.version + 1 = ap (λ (u : StateSeen). u.version) d.1.3 in omega arith
 
 pub doing_more : (lines rest : List ScriptLine) (line : ScriptLine) (a b c : Option (List ℕ)) (done : ℕ) (s t : StateSeen)

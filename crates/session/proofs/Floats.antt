@@ -1,18 +1,19 @@
 -- No entry's text has a float.
-use Rattle.std.proofs.Common.{◌≡◌, ℕ, ℤ, pos, negsuc, List, [], ◌∷◌, ◌||◌, Bool, true, false, cond, length, map, codes, refl, ◌∙◌, ap, nat_eq}
-use Rattle.serde_json.specs.Data.{Data, Members, Items}
-use Rattle.serde_json.specs.Find.{of_integer, is_float}
+use Rattle.std.proofs.Common.{◌≡◌, ℕ, ℤ, pos, negsuc, List, [], ◌∷◌, ◌||◌, Bool, true, false, cond, length, map, refl, nat_eq}
+use Rattle.serde_json.specs.Data.{Data}
 use Rattle.serde_json.specs.View.{items_of}
-use Rattle.serde_json.specs.Written.{has_float, items_have_float, members_have_float}
+use Rattle.serde_json.specs.Written.{has_float, items_have_float}
 use Rattle.plan_base.specs.declared.claim.Claim.{Claim}
 use Rattle.plan_base.specs.declared.claim.Placement.{Placement}
+use Rattle.plan_base.specs.declared.verdict.Reason.{Reason}
+use Rattle.plan_base.specs.declared.verdict.Reason.TheVariants.{UnknownRequest, PlacedTwice, NotPossible, Overlap, OneofTwice, AndPartial, QuotaOver, PriceCount, PriceRange, QuotaPriceCount, QuotaPriceRange, ValueDiffers, BoundDiffers}
 use Rattle.plan_base.specs.declared.number.RequestNo.{RequestNo}
 use Rattle.session.specs.declared.entry.EventEntry.{EventEntry}
 use Rattle.session.specs.declared.entry.Refusal.{Refusal}
-use Rattle.session.specs.declared.entry.Refusal.TheVariants.{NotOpened, AlreadyOpened, Stale, TooManyStarts, NotBuilt}
+use Rattle.session.specs.declared.entry.Refusal.TheVariants.{NotOpened, AlreadyOpened, Stale, Rejected, TooManyStarts, NotBuilt}
 use Rattle.session.specs.declared.entry.Reply.{Reply}
 use Rattle.session.specs.declared.entry.Reply.TheVariants.{Opened, Submitted, Taken, Published, Refused}
-use Rattle.session.specs.Texts.{whole, placement_data, price_data, requests_data, placements_data, prices_data, quota_prices_data, plain_claim_data, quota_claim_data, claim_data, refusal_data, reply_data, data_of_entry}
+use Rattle.session.specs.Texts.{whole, placement_data, price_data, requests_data, placements_data, prices_data, quota_prices_data, plain_claim_data, quota_claim_data, claim_data, rejected_data, refusal_data, reply_data, data_of_entry}
 
 neither : (a b : Bool) → a ≡ false → b ≡ false → (a || b) ≡ false
 neither true b d e = cc
@@ -51,10 +52,26 @@ one_of_two false d e p q = q
 claim_whole : (c : Claim) → has_float (claim_data c) ≡ false
 claim_whole c = one_of_two (nat_eq (length c.quota_prices.0) 0) (plain_claim_data c) (quota_claim_data c) (plain_claim_whole c) (quota_claim_whole c)
 
+rejected_whole : (e : EventEntry) (r : Reason) → has_float (rejected_data e r) ≡ false
+rejected_whole e (UnknownRequest i) = refl
+rejected_whole e (PlacedTwice i) = refl
+rejected_whole e (NotPossible i) = refl
+rejected_whole e (Overlap i) = refl
+rejected_whole e (OneofTwice group) = refl
+rejected_whole e (AndPartial group) = refl
+rejected_whole e (QuotaOver quota seconds most) = refl
+rejected_whole e (PriceCount given wanted) = refl
+rejected_whole e (PriceRange i) = refl
+rejected_whole e (QuotaPriceCount given wanted) = refl
+rejected_whole e (QuotaPriceRange i) = refl
+rejected_whole e (ValueDiffers claimed found) = refl
+rejected_whole e (BoundDiffers claimed found) = refl
+
 refusal_whole : (e : EventEntry) (r : Refusal) → has_float (refusal_data e r) ≡ false
 refusal_whole e NotOpened = refl
 refusal_whole e AlreadyOpened = refl
 refusal_whole e (Stale asked newer) = refl
+refusal_whole e (Rejected reason) = rejected_whole e reason
 refusal_whole e (TooManyStarts count) = refl
 refusal_whole e NotBuilt = refl
 

@@ -1,3 +1,4 @@
+pub mod Elements
 pub mod Readings
 pub mod Floats
 pub mod Histories

@@ -1,8 +1,7 @@
 -- What is written of one line.
-use Rattle.std.proofs.Common.{◌≡◌, ℕ, ◌+◌, List, [], ◌∷◌, ◌++◌, refl, sym, ◌∙◌, ap, subst, arith, append-nil, inl, inr, Result, Ok, Err, IfOk, OnErr}
+use Rattle.std.proofs.Common.{◌≡◌, ℕ, ◌+◌, List, [], ◌∷◌, ◌++◌, refl, sym, ap, subst, append-nil, inl, inr, Result, Ok, Err, IfOk, OnErr}
 use Rattle.std.specs.declared.option.Option.{Option}
 use Rattle.std.specs.declared.alloc.AllocError.{AllocError}
-use Rattle.plan_base.specs.declared.claim.Claim.{Claim}
 use Rattle.plan_io.specs.declared.sink.PutAnswer.{PutAnswer}
 use Rattle.plan_io.specs.declared.sink.PutAnswer.TheVariants as put
 use Rattle.plan_io.specs.Sink.{Adds, Puts}
@@ -11,13 +10,12 @@ use Rattle.session.specs.declared.entry.EventEntry.{EventEntry}
 use Rattle.session.specs.declared.entry.Refusal.{Refusal}
 use Rattle.session.specs.declared.entry.Reply.{Reply}
 use Rattle.session.specs.declared.entry.Reply.TheVariants.{Taken}
-use Rattle.session.specs.declared.entry.What.{What}
 use Rattle.session.specs.declared.entry.What.TheVariants.{Line, Take}
 use Rattle.session.specs.StateSeen.{StateSeen}
-use Rattle.session.specs.Step.{step_line, published, IsPlanning}
+use Rattle.session.specs.Step.{published, IsPlanning}
 use Rattle.session.specs.Texts.{text_of_entry, text_of_history}
-use Rattle.session.specs.Session.{WritesFront, IsDeskClaim, step_entry, take_entry, publish_entry, DoesLine, BeginsLine, LineIs, PublishIs}
-use Rattle.session.proofs.Written.{adds_none, adds_twice, front_all, front_none, front_after, front_put}
+use Rattle.session.specs.Session.{WritesFront, IsStepDone, step_entry, take_entry, publish_entry, LineIs, PublishIs}
+use Rattle.session.proofs.Written.{adds_twice, front_all, front_none, front_after, front_put}
 
 -- the text of one entry
 one_text : (e : EventEntry) → text_of_history (e ∷ []) ≡ text_of_entry e
@@ -37,23 +35,23 @@ front_one a b e h = subst (λ (text : List ℕ). WritesFront a b text) (sym (one
 abbrev entry_with : ℕ → ℕ → Reply → EventEntry
 entry_with n v r = record { caller = 0; line = n; what = Line; version = v; reply = r }
 
-step_written : {S : Type 0} (written : S → Option (List ℕ)) (k k' : S) (s t : StateSeen) (n : ℕ) (read : Result Command Refusal) (result : Result PutAnswer AllocError)
-    → ¬ (IsPlanning s read) → t ≡ (step_line s read).state
-    → IfOk result (λ answer. Puts (written k) (written k') answer (text_of_entry (step_entry s n read))) → OnErr result (k' ≡ k)
+step_written : {S : Type 0} (written : S → Option (List ℕ)) (k k' : S) (s t : StateSeen) (n : ℕ) (r : Reply) (read : Result Command Refusal) (result : Result PutAnswer AllocError)
+    → IsStepDone s read r t
+    → IfOk result (λ answer. Puts (written k) (written k') answer (text_of_entry (step_entry s n r))) → OnErr result (k' ≡ k)
     → LineIs s t n read (written k) (written k') result
-step_written written k k' s t n read (Ok put.Done) differs state h g = (step_entry s n read ∷ [], inl (differs, refl, state), adds_one (written k) (written k') (step_entry s n read) h)
-step_written written k k' s t n read (Ok put.WriteFault) differs state h g =
-    (step_entry s n read ∷ [], inr (inr (t, inl (differs, refl, state))), front_one (written k) (written k') (step_entry s n read) (front_put (written k) (written k') (text_of_entry (step_entry s n read)) h))
-step_written written k k' s t n read (Err error) differs state h g =
+step_written written k k' s t n r read (Ok put.Done) d h g = (step_entry s n r ∷ [], inl (r, d, refl), adds_one (written k) (written k') (step_entry s n r) h)
+step_written written k k' s t n r read (Ok put.WriteFault) d h g =
+    (step_entry s n r ∷ [], inr (inr (t, inl (r, d, refl))), front_one (written k) (written k') (step_entry s n r) (front_put (written k) (written k') (text_of_entry (step_entry s n r)) h))
+step_written written k k' s t n r read (Err error) d h g =
     ([], inl refl, subst (λ (b : Option (List ℕ)). WritesFront (written k) b []) (sym (ap written g)) (front_none (written k) []))
 
 pub step_done : {S : Type 0} (written : S → Option (List ℕ)) (k k' : S) (s t : StateSeen) (n v : ℕ) (r : Reply) (read : Result Command Refusal) (result : Result PutAnswer AllocError)
-    → ¬ (IsPlanning s read) → v ≡ s.version → r ≡ (step_line s read).reply → t ≡ (step_line s read).state
+    → v ≡ s.version → IsStepDone s read r t
     → IfOk result (λ answer. Puts (written k) (written k') answer (text_of_entry (entry_with n v r))) → OnErr result (k' ≡ k)
     → LineIs s t n read (written k) (written k') result
-step_done written k k' s t n v r read result differs version reply state h g =
-    let same : entry_with n v r ≡ step_entry s n read = ap (λ (w : ℕ). entry_with n w r) version ∙ ap (λ (q : Reply). entry_with n s.version q) reply in
-    step_written written k k' s t n read result differs state (subst (λ (e : EventEntry). IfOk result (λ answer. Puts (written k) (written k') answer (text_of_entry e))) same h) g
+step_done written k k' s t n v r read result version d h g =
+    let same : entry_with n v r ≡ step_entry s n r = ap (λ (w : ℕ). entry_with n w r) version in
+    step_written written k k' s t n r read result d (subst (λ (e : EventEntry). IfOk result (λ answer. Puts (written k) (written k') answer (text_of_entry e))) same h) g
 
 -- ---- a plan
 

@@ -1,13 +1,10 @@
 -- The history of the lines that one caller has done, and one line more.
-use Rattle.std.proofs.Common.{◌≡◌, ℕ, zero, suc, ◌+◌, ◌-◌, ◌≤◌, ◌<◌, List, [], ◌∷◌, ◌++◌, length, slice_get, Bool, true, false, cond, nat_lt, refl, sym, ◌∙◌, ap, subst, arith, Option, Some, None, Result, Ok, Err, inl, inr, append_assoc, append-nil, fold}
+use Rattle.std.proofs.Common.{◌≡◌, ℕ, ◌+◌, ◌-◌, ◌≤◌, ◌<◌, List, [], ◌∷◌, ◌++◌, length, slice_get, refl, sym, ◌∙◌, ap, subst, arith, Some, None, Result, inl, inr, append_assoc, append-nil}
 use Rattle.std.specs.List.{last_or}
 use Rattle.plan_base.specs.declared.claim.Claim.{Claim}
 use Rattle.plan_base.specs.declared.parts.Parts.{Parts}
 use Rattle.plan_io.specs.declared.lines.ScriptLine.{ScriptLine}
 use Rattle.session.specs.declared.command.Command.{Command}
-use Rattle.session.specs.declared.command.Command.TheVariants.{Open, Submit, Plan}
-use Rattle.session.specs.declared.command.Opening.{Opening}
-use Rattle.session.specs.declared.command.Submission.{Submission}
 use Rattle.session.specs.declared.entry.EventEntry.{EventEntry}
 use Rattle.session.specs.declared.entry.Refusal.{Refusal}
 use Rattle.session.specs.declared.entry.Reply.{Reply}
@@ -16,16 +13,16 @@ use Rattle.session.specs.declared.entry.What.{What}
 use Rattle.session.specs.declared.entry.What.TheVariants.{Line, Take, Publish}
 use Rattle.session.specs.Commands.{command_of}
 use Rattle.session.specs.StateSeen.{StateSeen}
-use Rattle.session.specs.Step.{start, step_open, step_submit, step_line, published, IsPlanning}
+use Rattle.session.specs.Step.{start, published, IsPlanning, IsStepReply, after_line}
 use Rattle.session.specs.DeskSnapshot.{IsSnapshotOf}
-use Rattle.session.specs.History.{read_found, read_at, after_what, replay, Answers, AnswersPrefix, HasTaken, IsPublication, IsReply, IsEntry, EachAfter, IsLegal, IsWhole, Publishes}
-use Rattle.session.specs.Session.{IsBoundedClaim, IsBoundedHistory, IsSound, IsDeskClaim, step_entry, take_entry, publish_entry, DoesLine, BeginsLine}
+use Rattle.session.specs.History.{read_found, read_at, after_what, replay, Answers, HasTaken, IsPublication, IsReply, IsEntry, EachAfter, IsLegal, IsWhole, Publishes}
+use Rattle.session.specs.Session.{IsPublishedClaim, IsBoundedReply, IsSound, IsDeskClaim, IsStepDone, step_entry, take_entry, publish_entry, DoesLine, BeginsLine}
 use Rattle.session.proofs.Histories.{replay_more, each_more, each_none}
 use Rattle.session.proofs.Turns.{AreMine, mine_more, entries_mine, turns, turns_more, answers_more, last_more, one_caller, one_whole}
 
 -- a claim that is published after these entries is bounded
 abbrev pub IsBoundedEntry : List (List ScriptLine) → List EventEntry → EventEntry → Type 0
-IsBoundedEntry scripts before e = (claim : Claim) → e.reply ≡ Published claim → (s : Parts) × Publishes scripts before e s claim × IsBoundedClaim s claim
+IsBoundedEntry scripts before e = (claim : Claim) → e.reply ≡ Published claim → (s : Parts) × Publishes scripts before e s claim × IsPublishedClaim e.what s claim
 
 -- what is known of a history that leaves the state s, but for its order
 pub record Leaves (lines : List ScriptLine) (h : List EventEntry) (s : StateSeen) : Type 0 where
@@ -65,39 +62,28 @@ leaves_more lines h s t e mine l v r a b =
       bounded = each_more (IsBoundedEntry scripts) h e l.bounded b;
     }
 
--- no step publishes
-open_no_claim : (s : StateSeen) (o : Opening) (before : Option Opening) (claim : Claim) → (step_open s o before).reply ≡ Published claim → ⊥
-open_no_claim s o None claim e = cc
-open_no_claim s o (Some b) claim e = cc
-
-submit_no_claim : (s : StateSeen) (q : Submission) (before : Option Opening) (claim : Claim) → (step_submit s q before).reply ≡ Published claim → ⊥
-submit_no_claim s q None claim e = cc
-submit_no_claim s q (Some b) claim e = full_no_claim (nat_lt (length s.submissions) 512) refl e
-  where
-    full_no_claim : (t : Bool) → nat_lt (length s.submissions) 512 ≡ t → (step_submit s q (Some b)).reply ≡ Published claim → ⊥
-    full_no_claim true f g = let h = rw f at g in cc
-    full_no_claim false f g = let h = rw f at g in cc
-
-step_no_claim : (s : StateSeen) (read : Result Command Refusal) (claim : Claim) → (step_line s read).reply ≡ Published claim → ⊥
-step_no_claim s (Ok (Open o)) claim e = open_no_claim s o s.opening claim e
-step_no_claim s (Ok (Submit q)) claim e = submit_no_claim s q s.opening claim e
-step_no_claim s (Ok Plan) claim e = cc
-step_no_claim s (Err refusal) claim e = cc
-
 -- a step, over the replay and the line that is read
-abbrev IsStep : StateSeen → Reply → StateSeen → Result Command Refusal → Type 0
-IsStep s reply t read = ¬ (IsPlanning t read) × (reply ≡ (step_line t read).reply)
+abbrev IsStep : Reply → StateSeen → Result Command Refusal → Type 0
+IsStep reply t read = ¬ (IsPlanning t read) × IsStepReply t read reply
 
-leaves_step : (lines : List ScriptLine) (n : ℕ) (h : List EventEntry) (s : StateSeen) (line : ScriptLine) → Leaves lines h s → slice_get lines n ≡ Some line → ¬ (IsPlanning s (command_of line))
-    → Leaves lines (h ++ step_entry s (n + 1) (command_of line) ∷ []) (step_line s (command_of line)).state
-leaves_step lines n h s line l at differs =
+-- the claim of a step is sent and not planned
+sent_bounded : (lines : List ScriptLine) (n : ℕ) (h : List EventEntry) (s : StateSeen) (reply : Reply) → Leaves lines h s → IsBoundedReply s reply → IsBoundedEntry (lines ∷ []) h (step_entry s n reply)
+sent_bounded lines n h s reply l bounded claim e =
+    let known = bounded claim e in (
+      known.0,
+      record { reply = e; snapshot = subst (λ (t : StateSeen). IsSnapshotOf t known.0) (sym l.state) known.1 },
+      record { bounded = known.2; stopgap = λ planned. cc },
+    )
+
+leaves_step : (lines : List ScriptLine) (n : ℕ) (h : List EventEntry) (s t : StateSeen) (line : ScriptLine) (reply : Reply) → Leaves lines h s → slice_get lines n ≡ Some line → IsStepDone s (command_of line) reply t
+    → Leaves lines (h ++ step_entry s (n + 1) reply ∷ []) t
+leaves_step lines n h s t line reply l at d =
     let read = read_here lines n line at in
-    let reply : Reply = (step_line s (command_of line)).reply in
-    let here : IsStep s reply s (read_found (slice_get lines (n + 1 - 1))) = subst (λ (r : Result Command Refusal). IsStep s reply s r) (sym read) (differs, refl) in
-    leaves_more lines h s (step_line s (command_of line)).state (step_entry s (n + 1) (command_of line)) refl l refl
-    (subst (λ (t : StateSeen). IsStep s reply t (read_found (slice_get lines (n + 1 - 1)))) (sym l.state) here)
-    (ap (λ (r : Result Command Refusal). (step_line s r).state) read)
-    (λ claim e. absurd (step_no_claim s (command_of line) claim e))
+    let here : IsStep reply s (read_found (slice_get lines (n + 1 - 1))) = subst (λ (r : Result Command Refusal). IsStep reply s r) (sym read) (d.differs, d.replied) in
+    leaves_more lines h s t (step_entry s (n + 1) reply) refl l refl
+    (subst (λ (u : StateSeen). IsStep reply u (read_found (slice_get lines (n + 1 - 1)))) (sym l.state) here)
+    (ap (λ (r : Result Command Refusal). after_line s r reply) read ∙ sym d.left)
+    (sent_bounded lines (n + 1) h s reply l d.bounded)
 
 -- a Take
 abbrev IsTake : StateSeen → Result Command Refusal → Type 0
@@ -129,16 +115,16 @@ leaves_publish lines n h s claim l d =
     leaves_more lines before s (published s) (publish_entry s n claim) refl l refl
     (s.version, taken_last h s n l.mine, subst (λ (t : StateSeen). IsPublication t s.version (Published claim)) (sym l.state) here)
     refl
-    (λ other e. (d.parts, record { reply = e; snapshot = subst (λ (t : StateSeen). IsSnapshotOf t d.parts) (sym l.state) d.snapshot }, subst (λ (c : Claim). IsBoundedClaim d.parts c) (same_claim claim other e) d.bounded))
+    (λ other e. (d.parts, record { reply = e; snapshot = subst (λ (t : StateSeen). IsSnapshotOf t d.parts) (sym l.state) d.snapshot }, subst (λ (c : Claim). IsPublishedClaim Publish d.parts c) (same_claim claim other e) (record { bounded = d.bounded; stopgap = λ _. d.stopgap })))
 
 -- ---- one line more
 
-pub played_step : (lines : List ScriptLine) (n : ℕ) (h : List EventEntry) (s : StateSeen) (line : ScriptLine) → Played lines n h s → slice_get lines n ≡ Some line → ¬ (IsPlanning s (command_of line))
-    → Played lines (n + 1) (h ++ step_entry s (n + 1) (command_of line) ∷ []) (step_line s (command_of line)).state
-played_step lines n h s line p at differs =
-    let e : EventEntry = step_entry s (n + 1) (command_of line) in
+pub played_step : (lines : List ScriptLine) (n : ℕ) (h : List EventEntry) (s t : StateSeen) (line : ScriptLine) (reply : Reply) → Played lines n h s → slice_get lines n ≡ Some line → IsStepDone s (command_of line) reply t
+    → Played lines (n + 1) (h ++ step_entry s (n + 1) reply ∷ []) t
+played_step lines n h s t line reply p at d =
+    let e : EventEntry = step_entry s (n + 1) reply in
     record {
-      leaves = leaves_step lines n h s line p.leaves at differs;
+      leaves = leaves_step lines n h s t line reply p.leaves at d;
       answered = subst (λ (ts : List (ℕ × What)). Answers 1 ts (n + 1 + 1)) (sym (turns_more h (e ∷ []))) (answers_more 1 (n + 1) (n + 1 + 1) (turns h) ((n + 1, Line) ∷ []) p.answered (refl, refl));
     }
 
@@ -152,9 +138,7 @@ played_plan lines n h s line claim p at asks d =
     }
 
 pub played_line : (lines : List ScriptLine) (n : ℕ) (h : List EventEntry) (s t : StateSeen) (line : ScriptLine) (es : List EventEntry) → Played lines n h s → slice_get lines n ≡ Some line → DoesLine s (n + 1) (command_of line) es t → Played lines (n + 1) (h ++ es) t
-played_line lines n h s t line es p at (inl d) =
-    subst (λ (u : StateSeen). Played lines (n + 1) (h ++ es) u) (sym d.2)
-    (subst (λ (xs : List EventEntry). Played lines (n + 1) (h ++ xs) (step_line s (command_of line)).state) (sym d.1) (played_step lines n h s line p at d.0))
+played_line lines n h s t line es p at (inl d) = subst (λ (xs : List EventEntry). Played lines (n + 1) (h ++ xs) t) (sym d.2) (played_step lines n h s t line d.0 p at d.1)
 played_line lines n h s t line es p at (inr d) =
     subst (λ (u : StateSeen). Played lines (n + 1) (h ++ es) u) (sym d.1.3)
     (subst (λ (xs : List EventEntry). Played lines (n + 1) (h ++ xs) (published s)) (sym d.1.2) (played_plan lines n h s line d.1.0 p at d.0 d.1.1))

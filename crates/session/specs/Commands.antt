@@ -1,29 +1,19 @@
 -- What a line says: which bytes have one of the forms, and which command that is.
-use Rattle.std.specs.Prelude.{◌≡◌, ℕ, ◌+◌, ◌≤◌, ◌<◌, ◌&&◌, nat_le, nat_lt, bytes_eq, List, codes, if◌then◌else◌, Option, Some, None, Result, Ok, Err, option_map, option_and_then, ok_or}
+use Rattle.std.specs.Prelude.{ℕ, ◌+◌, ◌≤◌, ◌<◌, bytes_eq, List, codes, if◌then◌else◌, Option, Some, None, Result, Err, option_map, option_and_then, ok_or}
 use Rattle.std.specs.Str.{is_utf8}
 use Rattle.serde_json.specs.Data.{Data}
-use Rattle.serde_json.specs.Find.{get, as_str, as_number, as_u64}
+use Rattle.serde_json.specs.Find.{get, as_str}
 use Rattle.serde_json.specs.Read.{read}
 use Rattle.plan_io.specs.declared.lines.ScriptLine.{ScriptLine}
 use Rattle.plan_io.specs.declared.lines.ScriptLine.TheVariants.{Bytes, TooLong}
 use Rattle.session.specs.declared.command.Command.{Command}
-use Rattle.session.specs.declared.command.Command.TheVariants.{Open, Submit, Plan}
+use Rattle.session.specs.declared.command.Command.TheVariants.{Open, Submit, Plan, Publish}
 use Rattle.session.specs.declared.command.Opening.{Opening}
 use Rattle.session.specs.declared.command.Submission.{Submission}
 use Rattle.session.specs.declared.entry.Refusal.{Refusal}
 use Rattle.session.specs.declared.entry.Refusal.TheVariants.{NotBuilt}
-
--- the number, where it is one from least to most
-abbrev pub within : ℕ → ℕ → ℕ → Option ℕ
-within least most n = if nat_le least n && nat_le n most then Some n else None
-
--- the whole number that a value is, where it is one from least to most
-abbrev pub whole_of : ℕ → ℕ → Data → Option ℕ
-whole_of least most d = option_and_then (within least most) (option_and_then as_u64 (as_number d))
-
--- the whole number that the member holds, where it holds one from least to most
-abbrev pub whole_member : Data → List ℕ → ℕ → ℕ → Option ℕ
-whole_member d name least most = option_and_then (whole_of least most) (get name d)
+use Rattle.session.specs.Numbers.{whole_member}
+use Rattle.session.specs.Claims.{claim_of}
 
 -- the form `open`: `now` 0 to 253402300799, `slice` 60 to 3600, `horizon` 1 to 1440
 abbrev pub open_of : Data → Option Command
@@ -37,9 +27,15 @@ submit_of d =
     option_and_then (λ seconds. option_and_then (λ value. option_and_then (λ from. option_map (λ to. Submit (record { seconds = seconds; value = value; window = record { from = record { 0 = from }; to = record { 0 = to } } }))
     (whole_member d (codes "to") (from + 1) 253402300799)) (whole_member d (codes "from") 0 253402300799)) (whole_member d (codes "value") 1 288000000)) (whole_member d (codes "seconds") 1 86400)
 
+-- the form `publish`: `version` 0 to 524288, `claim` a claim
+abbrev pub publish_of : Data → Option Command
+publish_of d =
+    option_and_then (λ version. option_map (λ claim. Publish (record { version = version; claim = claim }))
+    (option_and_then claim_of (get (codes "claim") d))) (whole_member d (codes "version") 0 524288)
+
 -- the form of that name, where the members have it
 abbrev pub form_of : List ℕ → Data → Option Command
-form_of name d = if bytes_eq name (codes "open") then open_of d else (if bytes_eq name (codes "submit") then submit_of d else (if bytes_eq name (codes "plan") then Some Plan else None))
+form_of name d = if bytes_eq name (codes "open") then open_of d else (if bytes_eq name (codes "submit") then submit_of d else (if bytes_eq name (codes "plan") then Some Plan else (if bytes_eq name (codes "publish") then publish_of d else None)))
 
 -- the command of a value: an object whose member `do` names a form that the other members have
 abbrev pub command_of_data : Data → Option Command
@@ -75,8 +71,9 @@ pub record IsSubmission (q : Submission) : Type 0 where
   pub window : q.window.from.0 < q.window.to.0
   pub latest : q.window.to.0 ≤ 253402300799
 
--- the numbers of a command are in their ranges
+-- the numbers of a command that the desk keeps are in their ranges; a claim is left to the checker
 abbrev pub IsCommand : Command → Type 0
 IsCommand (Open o) = IsOpening o
 IsCommand (Submit q) = IsSubmission q
 IsCommand Plan = Unit {0}
+IsCommand (Publish order) = Unit {0}

@@ -1,5 +1,5 @@
 -- Histories: which are legal and which are whole for the callers' scripts, and the state that one leaves.
-use Rattle.std.specs.Prelude.{◌≡◌, ℕ, ◌+◌, ◌-◌, ◌≤◌, ◌<◌, ◌==◌, ◌⊎◌, List, [], ◌∷◌, ◌++◌, length, map, filter, fold, slice_get, slice_index_or, Option, Some, None, Result, Ok, Err}
+use Rattle.std.specs.Prelude.{◌≡◌, ℕ, ◌+◌, ◌-◌, ◌≤◌, ◌<◌, ◌==◌, ◌⊎◌, List, [], ◌∷◌, ◌++◌, length, map, filter, fold, slice_get, slice_index_or, Option, Some, None, Result, Err}
 use Rattle.std.specs.List.{last_or}
 use Rattle.plan_base.specs.declared.parts.Parts.{Parts}
 use Rattle.plan_base.specs.declared.claim.Claim.{Claim}
@@ -16,7 +16,7 @@ use Rattle.session.specs.declared.entry.What.{What}
 use Rattle.session.specs.declared.entry.What.TheVariants.{Line, Take, Publish}
 use Rattle.session.specs.Commands.{command_of}
 use Rattle.session.specs.StateSeen.{StateSeen}
-use Rattle.session.specs.Step.{start, step_line, published, IsPlanning}
+use Rattle.session.specs.Step.{start, IsPlanning, IsStepReply, after_publish, after_line}
 use Rattle.session.specs.DeskSnapshot.{IsSnapshotOf}
 
 -- ---- the state that a history leaves
@@ -34,14 +34,9 @@ read_found (Some line) = command_of line
 abbrev pub read_at : List (List ScriptLine) → EventEntry → Result Command Refusal
 read_at scripts e = read_found (slice_get (script_of scripts e.caller) (e.line - 1))
 
--- a Publish changes the state where it publishes
-abbrev pub after_publish : StateSeen → Reply → StateSeen
-after_publish s (Published claim) = published s
-after_publish s _ = s
-
 -- the state after an entry of a line that says this: a Take leaves the state
 abbrev pub after_what : StateSeen → Result Command Refusal → What → Reply → StateSeen
-after_what s read Line reply = (step_line s read).state
+after_what s read Line reply = after_line s read reply
 after_what s read Take reply = s
 after_what s read Publish reply = after_publish s reply
 
@@ -99,7 +94,7 @@ IsPublication s v _ = ⊥
 
 -- what an entry may reply that is this much of its line: a step, a Take of a plan, or the Publish of the caller's Take
 abbrev pub IsReply : List (List ScriptLine) → List EventEntry → EventEntry → What → Type 0
-IsReply scripts before e Line = ¬ (IsPlanning (replay scripts before) (read_at scripts e)) × (e.reply ≡ (step_line (replay scripts before) (read_at scripts e)).reply)
+IsReply scripts before e Line = ¬ (IsPlanning (replay scripts before) (read_at scripts e)) × IsStepReply (replay scripts before) (read_at scripts e) e.reply
 IsReply scripts before e Take = IsPlanning (replay scripts before) (read_at scripts e) × (e.reply ≡ Taken)
 IsReply scripts before e Publish = (v : ℕ) × HasTaken before e.caller v × IsPublication (replay scripts before) v e.reply
 

@@ -1,10 +1,12 @@
 pub mod Words
 pub mod Refusals
+pub mod Numbers
+pub mod Claims
 pub mod Commands
 pub mod StateSeen
+pub mod DeskSnapshot
 pub mod Step
 pub mod Texts
-pub mod DeskSnapshot
 pub mod History
 pub mod Laws
 pub mod Session

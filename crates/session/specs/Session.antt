@@ -19,12 +19,14 @@ use Rattle.plan_io.specs.Sink.{Adds, PutCause}
 use Rattle.session.specs.declared.command.Command.{Command}
 use Rattle.session.specs.declared.entry.EventEntry.{EventEntry}
 use Rattle.session.specs.declared.entry.Refusal.{Refusal}
+use Rattle.session.specs.declared.entry.Reply.{Reply}
 use Rattle.session.specs.declared.entry.Reply.TheVariants.{Taken, Published}
+use Rattle.session.specs.declared.entry.What.{What}
 use Rattle.session.specs.declared.entry.What.TheVariants.{Line, Take, Publish}
 use Rattle.session.specs.declared.status.Status.{Status}
 use Rattle.session.specs.declared.status.Status.TheVariants.{Done, Words, ReadFault, WriteFault, NoMemory, InputOver, NoDocument, No, NoCaller}
 use Rattle.session.specs.StateSeen.{StateSeen}
-use Rattle.session.specs.Step.{step_line, published, IsPlanning}
+use Rattle.session.specs.Step.{published, IsPlanning, IsStepReply, after_line}
 use Rattle.session.specs.DeskSnapshot.{IsSnapshotOf}
 use Rattle.session.specs.History.{IsLegal, IsWhole, Publishes}
 use Rattle.session.specs.Texts.{text_of_entry, text_of_history}
@@ -32,16 +34,24 @@ use Rattle.stopgap.specs.Stopgap.{IsStopgap}
 
 -- ---- what is claimed of a published claim
 
--- the claim is certified for the snapshot, its prices give its bound, no feasible plan is worth more, and until planning is built it is the stopgap claim
+-- the claim is certified for the snapshot, its prices give its bound, and no feasible plan is worth more
 pub record IsBoundedClaim (s : Parts) (claim : Claim) : Type 0 where
   pub certified : IsCertified s claim
   pub given : IsBound s claim.prices.0 claim.quota_prices.0 (pos claim.bound)
   pub greatest : (plan : List Placement) → IsFeasible s plan → value_of_plan s plan ≤ claim.bound
-  pub stopgap : IsStopgap s claim
 
--- each claim that the history publishes is bounded, for the snapshot of its version
+-- the claim that this much of a line publishes is bounded; that of a plan, until planning is built, is the stopgap claim
+pub record IsPublishedClaim (what : What) (s : Parts) (claim : Claim) : Type 0 where
+  pub bounded : IsBoundedClaim s claim
+  pub stopgap : what ≡ Publish → IsStopgap s claim
+
+-- a claim that is published over the state is bounded, for the snapshot of the state
+abbrev pub IsBoundedReply : StateSeen → Reply → Type 0
+IsBoundedReply s reply = (claim : Claim) → reply ≡ Published claim → (parts : Parts) × IsSnapshotOf s parts × IsBoundedClaim parts claim
+
+-- each claim that the history publishes, whether it was planned or sent, is bounded for the snapshot of its version
 abbrev pub IsBoundedHistory : List (List ScriptLine) → List EventEntry → Type 0
-IsBoundedHistory scripts history = (before after : List EventEntry) (e : EventEntry) → history ≡ before ++ e ∷ after → (claim : Claim) → e.reply ≡ Published claim → (s : Parts) × Publishes scripts before e s claim × IsBoundedClaim s claim
+IsBoundedHistory scripts history = (before after : List EventEntry) (e : EventEntry) → history ≡ before ++ e ∷ after → (claim : Claim) → e.reply ≡ Published claim → (s : Parts) × Publishes scripts before e s claim × IsPublishedClaim e.what s claim
 
 -- ---- a session
 
@@ -127,10 +137,18 @@ pub record IsDeskClaim (s : StateSeen) (claim : Claim) : Type 0 where
   pub snapshot : IsSnapshotOf s parts
   pub few : (n : ℕ) → IsStartCount parts n → n ≤ 1048576
   pub bounded : IsBoundedClaim parts claim
+  pub stopgap : IsStopgap parts claim
 
 -- the one entry of a line that is a step
-abbrev pub step_entry : StateSeen → ℕ → Result Command Refusal → EventEntry
-step_entry s n read = record { caller = 0; line = n; what = Line; version = s.version; reply = (step_line s read).reply }
+abbrev pub step_entry : StateSeen → ℕ → Reply → EventEntry
+step_entry s n reply = record { caller = 0; line = n; what = Line; version = s.version; reply = reply }
+
+-- a line that says this is one step, with this reply, and leaves the state t
+pub record IsStepDone (s : StateSeen) (read : Result Command Refusal) (reply : Reply) (t : StateSeen) : Type 0 where
+  pub differs : ¬ (IsPlanning s read)
+  pub replied : IsStepReply s read reply
+  pub bounded : IsBoundedReply s reply
+  pub left : t ≡ after_line s read reply
 
 -- the two entries of a plan
 abbrev pub take_entry : StateSeen → ℕ → EventEntry
@@ -142,7 +160,7 @@ publish_entry s n claim = record { caller = 0; line = n; what = Publish; version
 -- the entries of line n, which says this, and the state that they leave
 abbrev pub DoesLine : StateSeen → ℕ → Result Command Refusal → List EventEntry → StateSeen → Type 0
 DoesLine s n read es t =
-    (¬ (IsPlanning s read) × (es ≡ step_entry s n read ∷ []) × (t ≡ (step_line s read).state))
+    ((reply : Reply) × IsStepDone s read reply t × (es ≡ step_entry s n reply ∷ []))
     ⊎ (IsPlanning s read × ((claim : Claim) × IsDeskClaim s claim × (es ≡ take_entry s n ∷ publish_entry s n claim ∷ []) × (t ≡ published s)))
 
 -- the first of them, or all

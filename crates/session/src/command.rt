@@ -1,16 +1,22 @@
 //! What a line asks the desk to do.
-ghost use Rattle.std.specs.Prelude.{◌≡◌, ◌≤◌, IfOk, IfSome, Some, None, option_map};
+ghost use Rattle.std.specs.Prelude.{◌≡◌, codes, option_map, option_and_then, IfOk};
 ghost use Rattle.serde_json.specs.View.{view};
-ghost use Rattle.session.specs.Commands.{within, whole_of, whole_member, open_of, submit_of, form_of, command_of_data, read_bytes, command_of, IsCommand};
+ghost use Rattle.serde_json.specs.Find.{get, as_str};
+ghost use Rattle.session.specs.Commands.{open_of, submit_of, publish_of, form_of, command_of_data, read_bytes, command_of, IsCommand};
 ghost use Rattle.plan_io.specs.LinesOf.{line_of};
 
+use crate::claim::read_claim;
 use crate::entry::Refusal;
-use plan_base::{Sec, Span};
+use crate::number::whole;
+use plan_base::{Claim, Sec, Span};
 use serde_json::Value;
 use std::alloc::{AllocError, Global};
 
 /// The last moment that a line may name: the end of the year 9999.
 const LATEST: u64 = 253_402_300_799;
+
+/// The greatest version that a line may name.
+const LAST_VERSION: u64 = 524_288;
 
 /// The most bytes of a line.
 const LONGEST: usize = 1_048_576;
@@ -37,8 +43,16 @@ pub struct Submission {
     pub window: Span,
 }
 
+/// A claim that is sent to be published.
+#[derive(Debug, Drop, PartialEq, Eq)]
+pub struct PublishOrder {
+    /// The version of the desk that it is meant for, 0 to 524,288.
+    pub version: u64,
+    pub claim: Claim,
+}
+
 /// What a line asks for.
-#[derive(Clone, Copy, Debug, PartialEq, Eq)]
+#[derive(Debug, Drop, PartialEq, Eq)]
 pub enum Command {
     /// The desk is opened.
     Open(Opening),
@@ -46,23 +60,8 @@ pub enum Command {
     Submit(Submission),
     /// A plan is sought and published.
     Plan,
-}
-
-/// The whole number that a value is, where it is one from `least` to `most`.
-fn whole_value(value: &Value, least: u64, most: u64) -> Option<u64>
-    ensures { result ≡ whole_of least most (view value.now) }
-{
-    value
-        .as_u64()
-        .filter(|number| least <= *number && *number <= most)
-}
-
-/// The whole number that the member holds, where it holds one from `least` to `most`.
-fn whole(object: &Value, member: &str, least: u64, most: u64) -> Option<u64>
-    ensures value { result ≡ whole_member (view object.now) member.now least most }
-    ensures within { IfSome result (λ number. (least ≤ number) × (number ≤ most)) }
-{
-    whole_value(object.get(member)?, least, most)
+    /// A claim that was made elsewhere is published, if the checker says Yes to it.
+    Publish(PublishOrder),
 }
 
 /// The form `open`, where the members have it.
@@ -97,23 +96,50 @@ fn read_submit(object: &Value) -> Option<Command>
     }))
 }
 
+/// The form `publish`, where the members have it.
+fn read_publish(alloc: Global, object: &Value) -> Result<Option<Command>, AllocError>
+    ensures { IfOk result (λ found. found ≡ publish_of (view object.now)) }
+{
+    let Some(version) = whole(object, "version", 0, LAST_VERSION) else {
+        return Ok(None);
+    };
+    let Some(claim) = object.get("claim") else {
+        return Ok(None);
+    };
+    let Some(claim) = read_claim(alloc, claim)? else {
+        return Ok(None);
+    };
+    Ok(Some(Command::Publish(PublishOrder { version, claim })))
+}
+
 /// The form of that name, where the members have it.
-fn read_form(name: &str, object: &Value) -> Option<Command>
-    ensures { result ≡ form_of name.now (view object.now) }
+fn read_form(alloc: Global, name: &str, object: &Value) -> Result<Option<Command>, AllocError>
+    ensures { IfOk result (λ found. found ≡ form_of name.now (view object.now)) }
 {
     match name {
-        "open" => read_open(object),
-        "submit" => read_submit(object),
-        "plan" => Some(Command::Plan),
-        _ => None,
+        "open" => Ok(read_open(object)),
+        "submit" => Ok(read_submit(object)),
+        "plan" => Ok(Some(Command::Plan)),
+        "publish" => read_publish(alloc, object),
+        _ => Ok(None),
     }
 }
 
-/// The command of a JSON value, where it is an object of one of the forms.
-fn read_value(value: &Value) -> Option<Command>
-    ensures { result ≡ command_of_data (view value.now) }
+/// The name of the form that a value says it has.
+fn form_name(value: &Value) -> Option<&str>
+    ensures { option_map (λ name. name.now) result ≡ option_and_then as_str (get (codes "do") (view value.now)) }
 {
-    read_form(value.get("do")?.as_str()?, value)
+    value.get("do")?.as_str()
+}
+
+/// The command of a JSON value, where it is an object of one of the forms.
+fn read_value(alloc: Global, value: &Value) -> Result<Option<Command>, AllocError>
+    ensures { IfOk result (λ found. found ≡ command_of_data (view value.now)) }
+{
+    match form_name(value) {
+        Some(name) => read_form(alloc, name, value),
+        None => Ok(None),
+    }
 }
 
 /// Reads what the bytes of a line say.
@@ -122,7 +148,10 @@ fn read_bytes(alloc: Global, bytes: &[u8]) -> Result<Result<Command, Refusal>, A
     ensures ranges { IfOk result (λ read. IfOk read IsCommand) }
 {
     match Value::from_slice(alloc, bytes) {
-        Ok(value) => Ok(read_value(&value).ok_or(Refusal::NotBuilt)),
+        Ok(value) => {
+            let command = read_value(alloc, &value)?;
+            Ok(command.ok_or(Refusal::NotBuilt))
+        }
         Err(error) => {
             if error.is_memory() {
                 return Err(AllocError);
@@ -132,13 +161,17 @@ fn read_bytes(alloc: Global, bytes: &[u8]) -> Result<Result<Command, Refusal>, A
     }
 }
 
-/// Reads what a line says: a JSON object of one of the three forms, with other members ignored. A line that isn't
+/// Reads what a line says: a JSON object of one of the four forms, with other members ignored. A line that isn't
 /// one, or that has more than 1,048,576 bytes, is `NotBuilt`. Fails only for want of memory.
 ///
 /// - `open`: `now` 0 to 253,402,300,799, `slice` 60 to 3,600, `horizon` 1 to 1,440.
 /// - `submit`: `seconds` 1 to 86,400, `value` 1 to 288,000,000, `from` and `to` 0 to 253,402,300,799 with
 ///   `from < to`.
 /// - `plan`: no further members.
+/// - `publish`: `version` 0 to 524,288, `claim` a claim. Its `placements` are 0 to 4,096 lists of request, telescope
+///   and slice, 0 to 4,294,967,295, 65,535 and 4,294,967,295; its `prices` 0 to 4,096 numbers from -10^15 to 10^15;
+///   its `value` 0 to 10^12; its `bound` 0 to 10^17. With `format` 2 it has `quota_prices`, 1 to 1,024 numbers from 0
+///   to 10^9; another `format` isn't built, and with none, or `null`, it has no quota prices.
 pub fn read_command(alloc: Global, line: &[u8]) -> Result<Result<Command, Refusal>, AllocError>
     ensures read { IfOk result (λ read. read ≡ command_of (line_of line.now)) }
     ensures ranges { IfOk result (λ read. IfOk read IsCommand) }

@@ -2,7 +2,7 @@
 ghost use Rattle.std.specs.Prelude.{◌≡◌};
 ghost use Rattle.session.specs.Refusals.{number_of, name_of};
 
-use plan_base::{Claim, GroupNo, ListOf, RequestNo};
+use plan_base::{Claim, GroupNo, ListOf, Reason, RequestNo};
 
 /// Why a line is refused.
 #[derive(Clone, Copy, Debug, PartialEq, Eq)]
@@ -11,8 +11,10 @@ pub enum Refusal {
     NotOpened,
     /// The desk was opened before.
     AlreadyOpened,
-    /// The plan was asked for at the version `asked`, and the desk has changed since to the version `newer`.
+    /// The claim is for the version `asked`, and the desk has the version `newer`.
     Stale { asked: u64, newer: u64 },
+    /// The checker says No to the claim, for this first reason.
+    Rejected { reason: Reason },
     /// There are `count` possible starts, more than the 1,048,576 that a plan is sought for.
     TooManyStarts { count: u64 },
     /// The line has none of the forms that are built, or the desk is full.
@@ -28,6 +30,7 @@ impl Refusal {
             Refusal::NotOpened => 20,
             Refusal::AlreadyOpened => 21,
             Refusal::Stale { .. } => 31,
+            Refusal::Rejected { .. } => 32,
             Refusal::TooManyStarts { .. } => 38,
             Refusal::NotBuilt => 39,
         }
@@ -41,6 +44,7 @@ impl Refusal {
             Refusal::NotOpened => "NotOpened",
             Refusal::AlreadyOpened => "AlreadyOpened",
             Refusal::Stale { .. } => "Stale",
+            Refusal::Rejected { .. } => "Rejected",
             Refusal::TooManyStarts { .. } => "TooManyStarts",
             Refusal::NotBuilt => "NotBuilt",
         }

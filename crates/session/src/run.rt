@@ -4,9 +4,9 @@ ghost use Rattle.plan_io.specs.LinesOf.{line_of, lines_of};
 ghost use Rattle.plan_io.specs.Sink.{Puts, PutCause};
 ghost use Rattle.session.specs.Words.{IsSessionWords};
 ghost use Rattle.session.specs.Commands.{command_of, IsCommand};
-ghost use Rattle.session.specs.Step.{step_line, IsPlanning};
+ghost use Rattle.session.specs.Step.{IsPlanning};
 ghost use Rattle.session.specs.Texts.{text_of_entry};
-ghost use Rattle.session.specs.Session.{SessionIs, SessionCause, TextIs, TextCause, LineIs, LineCause, PublishIs};
+ghost use Rattle.session.specs.Session.{SessionIs, SessionCause, TextIs, TextCause, IsStepDone, LineIs, LineCause, PublishIs};
 
 use crate::command::{Command, read_command};
 use crate::cut::{count_lines, cut_line};
@@ -59,8 +59,7 @@ fn apply_read(
     requires version { state.old.version < 524288 }
     requires ranges { IfOk read IsCommand }
     requires step { ¬ (IsPlanning state.old read) }
-    ensures reply { IfOk result (λ reply. reply ≡ (step_line state.old read).reply) }
-    ensures state { OnOk result (state.new ≡ (step_line state.old read).state) }
+    ensures { IfOk result (λ reply. IsStepDone state.old read reply state.new) }
 {
     match read {
         Ok(command) => state.apply(alloc, &command),

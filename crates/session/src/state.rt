@@ -3,12 +3,15 @@ ghost use Rattle.std.specs.Prelude.{◌≡◌, ◌<◌, ◌≤◌, ◌↔◌, Is
 ghost use Rattle.session.specs.Commands.{IsCommand, IsOpening, IsSubmission};
 ghost use Rattle.session.specs.StateSeen.{IsState};
 ghost use Rattle.session.specs.DeskSnapshot.{IsSnapshotOf};
-ghost use Rattle.session.specs.Step.{start, step, published, IsPlanning};
+ghost use Rattle.plan_base.specs.declared.parts.Parts.{Parts};
+ghost use Rattle.session.specs.Step.{start, step, published, IsPlanning, IsJudged, IsClaimReply, IsStepReply, after_publish, after_line};
+ghost use Rattle.session.specs.Session.{IsBoundedReply};
 
-use crate::command::{Command, Opening, Submission};
+use crate::command::{Command, Opening, PublishOrder, Submission};
 use crate::entry::{Refusal, Reply};
+use crate::judge::judge;
 use crate::snapshot::desk_snapshot;
-use plan_base::{GroupNo, ListOf, RequestNo, Snapshot};
+use plan_base::{Claim, GroupNo, ListOf, RequestNo, Snapshot};
 use std::alloc::{AllocError, Global};
 use std::marker::Model;
 
@@ -76,20 +79,23 @@ impl State {
     }
 
     /// Does a command, and says what is replied. A refused command changes nothing. A plan on an opened desk is no
-    /// single step: a snapshot is taken first, and then a plan is published. Fails only for want of memory, and then
-    /// changes nothing.
+    /// single step: a snapshot is taken first, and then a plan is published. A claim that was sent is published where it
+    /// is for the current version and the checker says Yes to it for the desk's snapshot. Fails only for want of memory,
+    /// and then changes nothing.
     pub fn apply(&mut self, alloc: Global, command: &Command) -> Result<Reply, AllocError>
         requires version { self.old.version < 524288 }
         requires ranges { IsCommand command.now }
         requires step { ¬ (IsPlanning self.old (Ok command.now)) }
-        ensures reply { IfOk result (λ reply. reply ≡ (step self.old command.now).reply) }
-        ensures state { OnOk result (self.new ≡ (step self.old command.now).state) }
+        ensures reply { IfOk result (IsStepReply self.old (Ok command.now)) }
+        ensures bounded { IfOk result (IsBoundedReply self.old) }
+        ensures state { IfOk result (λ reply. self.new ≡ after_line self.old (Ok command.now) reply) }
         ensures err { OnErr result (self.new ≡ self.old) }
     {
         match command {
             Command::Open(opening) => Ok(self.apply_open(*opening)),
             Command::Submit(submission) => self.apply_submit(alloc, *submission),
             Command::Plan => Ok(Reply::Refused(Refusal::NotOpened)),
+            Command::Publish(order) => self.apply_publish(alloc, order),
         }
     }
 
@@ -132,6 +138,43 @@ impl State {
             ipp_charged: 0,
             requests,
         })
+    }
+
+    /// What is replied to a claim for the desk's snapshot.
+    fn judge_now(&self, alloc: Global, claim: &Claim) -> Result<Reply, AllocError>
+        requires version { self.now.version ≤ 524288 }
+        requires opened { IsSome self.now.opening }
+        ensures judged { IfOk result (λ reply. (parts : Parts) × IsSnapshotOf self.now parts × IsJudged parts claim.now reply) }
+        ensures bounded { IfOk result (IsBoundedReply self.now) }
+    {
+        let Some(snapshot) = self.snapshot(alloc)? else {
+            unreachable!();
+        };
+        judge(alloc, &snapshot, claim)
+    }
+
+    /// Publishes a claim, where it is for the current version of an opened desk and the checker says Yes to it.
+    fn apply_publish(&mut self, alloc: Global, order: &PublishOrder) -> Result<Reply, AllocError>
+        requires version { self.old.version < 524288 }
+        ensures reply { IfOk result (IsClaimReply self.old order.now self.old.opening) }
+        ensures bounded { IfOk result (IsBoundedReply self.old) }
+        ensures state { IfOk result (λ reply. self.new ≡ after_publish self.old reply) }
+        ensures err { OnErr result (self.new ≡ self.old) }
+    {
+        if self.opening.is_none() {
+            return Ok(Reply::Refused(Refusal::NotOpened));
+        }
+        if order.version != self.version {
+            return Ok(Reply::Refused(Refusal::Stale {
+                asked: order.version,
+                newer: self.version,
+            }));
+        }
+        let reply = self.judge_now(alloc, &order.claim)?;
+        if let Reply::Published(_) = &reply {
+            self.version += 1;
+        }
+        Ok(reply)
     }
 
     /// Counts a publication, which is a change.

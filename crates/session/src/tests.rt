@@ -1,4 +1,6 @@
 //! Whole sessions over bytes in memory.
+mod claims;
+
 use super::*;
 use plan_io::{SteadySink, SteadySource};
 use std::alloc::{AllocError, Global};

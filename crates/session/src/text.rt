@@ -4,6 +4,7 @@ ghost use Rattle.serde_json.specs.View.{view};
 ghost use Rattle.session.specs.Texts.{requests_data, placement_data, placements_data, prices_data, quota_prices_data, plain_claim_data, quota_claim_data, claim_data, refusal_data, plain_data, submitted_data, published_data, data_of_entry, text_of_entry};
 
 use crate::entry::{EventEntry, Refusal, Reply};
+use crate::reason::rejected_value;
 use plan_base::{Claim, GroupNo, Placement, RequestNo};
 use serde_json::{Value, json};
 use std::alloc::{AllocError, Global};
@@ -131,6 +132,7 @@ fn refusal_value(alloc: Global, entry: &EventEntry, refusal: Refusal) -> Result<
             "refused": name,
             "version": entry.version
         }),
+        Refusal::Rejected { reason } => rejected_value(alloc, entry, reason),
         Refusal::TooManyStarts { count } => json!(in alloc; {
             "caller": entry.caller,
             "count": count,

@@ -4,9 +4,9 @@ use Rattle.session.specs.declared.entry.Refusal.TheVariants.{NotBuilt}
 use Rattle.session.proofs.Readings.{read_of_value, read_of_none}
 use Rattle.session.proofs.command.read_bytes.Goals as goal
 
-pub returns-in-Ok-clause-read : goal.returns-in-Ok-clause-read
-returns-in-Ok-clause-read c =
-    c.ok_or.ensures.value ∙ ap (λ found. ok_or found NotBuilt) c.read_value.ensures ∙ sym (read_of_value _ _ c.in-Ok.ensures.ok.0 c.in-Ok.ensures.ok.1)
+pub returns-in_ok-command-in-Ok-clause-read : goal.returns-in_ok-command-in-Ok-clause-read
+returns-in_ok-command-in-Ok-clause-read c =
+    c.ok_or.ensures.value ∙ ap (λ found. ok_or found NotBuilt) c.in_ok-command-in-Ok.ensures ∙ sym (read_of_value _ _ c.in-Ok.ensures.ok.0 c.in-Ok.ensures.ok.1)
 
 pub returns-else-is_memory-clause-read : goal.returns-else-is_memory-clause-read
 returns-else-is_memory-clause-read c =

@@ -1,0 +1,24 @@
+-- Which JSON values are whole numbers of a range.
+use Rattle.std.specs.Prelude.{ℕ, ℤ, ◌&&◌, nat_le, int_le, List, if◌then◌else◌, Option, Some, None, option_and_then}
+use Rattle.serde_json.specs.Data.{Data}
+use Rattle.serde_json.specs.Find.{get, as_number, as_u64, as_i64}
+
+-- the number, where it is one from least to most
+abbrev pub within : ℕ → ℕ → ℕ → Option ℕ
+within least most n = if nat_le least n && nat_le n most then Some n else None
+
+-- the whole number that a value is, where it is one from least to most
+abbrev pub whole_of : ℕ → ℕ → Data → Option ℕ
+whole_of least most d = option_and_then (within least most) (option_and_then as_u64 (as_number d))
+
+-- the whole number that the member holds, where it holds one from least to most
+abbrev pub whole_member : Data → List ℕ → ℕ → ℕ → Option ℕ
+whole_member d name least most = option_and_then (whole_of least most) (get name d)
+
+-- the number, which may be below 0, where it is one from least to most
+abbrev pub signed_within : ℤ → ℤ → ℤ → Option ℤ
+signed_within least most z = if int_le least z && int_le z most then Some z else None
+
+-- the whole number that a value is, which may be below 0, where it is one from least to most
+abbrev pub signed_of : ℤ → ℤ → Data → Option ℤ
+signed_of least most d = option_and_then (signed_within least most) (option_and_then as_i64 (as_number d))
