@@ -1,0 +1,12 @@
+pub mod AtSites
+pub mod Carried
+pub mod Fitting
+pub mod Numbered
+pub mod Placed
+pub mod Refusing
+pub mod Scopes
+pub mod Skies
+pub mod Closings
+pub mod Visibility
+pub mod Lines
+pub mod LatestLine

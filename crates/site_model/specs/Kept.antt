@@ -1,0 +1,34 @@
+-- What is kept of telescopes: instruments by their places, sites by their numbers.
+use Rattle.std.specs.Prelude.{◌≡◌, ℕ, ◌<◌, Bool, true, nat_eq, ◌&&◌, List, [], Option, length, slice_index_or, slice_get, Some, All, Contains}
+use Rattle.std.specs.Option.{option_map_or}
+use Rattle.std.specs.List.{list_any}
+use Rattle.plan_base.specs.declared.number.SiteNo.{SiteNo}
+use Rattle.plan_base.specs.declared.number.TelescopeNo.{TelescopeNo}
+use Rattle.site_model.specs.declared.code.Code.{Code}
+use Rattle.site_model.specs.declared.telescope.Telescope.{Telescope}
+use Rattle.site_model.specs.Names.{is_name}
+use Rattle.site_model.specs.Registry.{most_telescopes}
+
+-- the name at a place
+abbrev pub name_at : List (List ℕ) → ℕ → List ℕ
+name_at names i = slice_index_or names i []
+
+-- each place has a name
+abbrev pub ArePlaces : List (List ℕ) → List ℕ → Type 0
+ArePlaces names places = All (λ i. i < length names) places
+
+-- whether a telescope has what is given, and the instrument at a place
+abbrev pub fits_kept : Code → Telescope → List ℕ → Option (List ℕ) → Option (List ℕ) → Option (List ℕ) → ℕ → Bool
+fits_kept names telescope class site enclosure code instrument =
+    is_name telescope.class class && option_map_or (is_name names.site) site true && option_map_or (is_name names.enclosure) enclosure true
+    && option_map_or (is_name names.telescope) code true && list_any (nat_eq instrument) telescope.instruments
+
+-- entry t is a telescope of the site
+abbrev pub IsOfSite : List (Code × Telescope) → SiteNo → ℕ → Type 0
+IsOfSite entries site t = (entry : Code × Telescope) × (slice_get entries t ≡ Some entry) × (entry.1.site ≡ site)
+
+-- the numbers are those of the telescopes of the site
+pub record IsAtSite (entries : List (Code × Telescope)) (site : SiteNo) (numbers : List TelescopeNo) : Type 0 where
+  pub each : All (λ n. IsOfSite entries site n.0) numbers
+  pub all : (t : ℕ) → IsOfSite entries site t → Contains numbers record { 0 = t }
+  pub within : All (λ n. n.0 < most_telescopes) numbers

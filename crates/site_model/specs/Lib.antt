@@ -1,0 +1,9 @@
+pub mod Names
+pub mod Registry
+pub mod Kept
+pub mod RegistryInside
+pub mod Calendar
+pub mod CalendarInside
+pub mod Network
+pub mod NetworkInside
+pub mod Latest

@@ -1,0 +1,154 @@
+// When telescopes may observe: nights, closures and skies, by number.
+
+ghost use Rattle.std.specs.Prelude.{◌≡◌, ◌≢◌, ◌<◌, [], Some, None, All, IfOk, IfErr, OnOk, OnErr, replicate};
+ghost use Rattle.interval_set.specs.Spans.{IsDifference};
+ghost use Rattle.site_model.specs.declared.fault.SiteFault.TheVariants.{NoMemory};
+ghost use Rattle.site_model.specs.Registry.{most_telescopes, most_sites};
+ghost use Rattle.site_model.specs.Calendar.{no_calendar, set_at, sky_of, with_night, with_sky, sky_refusal, IsListed, IsClosureLine, IsFullClosure};
+
+use crate::changes::{Change, changes_of, put};
+use crate::fault::{FullOf, SiteFault};
+use crate::registry::{MOST_SITES, MOST_TELESCOPES};
+use indexmap::IndexMap;
+use interval_set::Spans;
+use plan_base::{SiteNo, TargetNo, TelescopeNo};
+use std::alloc::{AllocError, Global};
+use std::marker::Model;
+
+/// The most pieces that the skies of all targets at all sites have.
+pub const MOST_VISIBILITY: usize = 262_144;
+
+/// A target at a site.
+#[derive(Clone, Copy, Debug, PartialEq, Eq, Hash)]
+pub struct SkyKey {
+    pub target: TargetNo,
+    pub site: SiteNo,
+}
+
+/// The night of each site, the closures of each telescope, and the sky of each target at each site. There is a night and
+/// there are closures for every number that there may be, without seconds at first.
+#[derive(Debug, Drop)]
+pub struct Calendar {
+    nights: Vec<Spans>,
+    closures: Vec<Spans>,
+    skies: IndexMap<SkyKey, Spans>,
+    pieces: usize,
+    nothing: Spans,
+    alloc: Global,
+}
+
+impl Model for Calendar {
+    ghost use Rattle.site_model.specs.Calendar.{CalendarSeen};
+
+    ghost Value = { CalendarSeen };
+
+    ghost use Rattle.site_model.specs.CalendarInside.{seen_calendar, IsCalendar};
+
+    ghost view = { seen_calendar };
+
+    ghost invariant = { IsCalendar };
+}
+
+impl Calendar {
+    /// No seconds at any number. Fails only for want of memory.
+    pub fn new(alloc: Global) -> Result<Self, AllocError>
+        ensures { IfOk result (λ calendar. calendar ≡ no_calendar) }
+    {
+        Ok(Calendar {
+            nights: no_sets(alloc, MOST_SITES)?,
+            closures: no_sets(alloc, MOST_TELESCOPES)?,
+            skies: IndexMap::new(alloc),
+            pieces: 0,
+            nothing: Spans::empty(alloc),
+            alloc,
+        })
+    }
+
+    /// Replaces the night of a site. Fails only for want of memory, and then changes nothing.
+    pub fn set_night(&mut self, site: SiteNo, spans: &Spans) -> Result<(), AllocError>
+        requires { site.0 < most_sites }
+        ensures ok { OnOk result (self.new ≡ with_night self.old site.0 spans.now) }
+        ensures err { OnErr result (self.new ≡ self.old) }
+    {
+        let spans = spans.copy(self.alloc)?;
+        self.nights[site.0 as usize] = spans;
+        Ok(())
+    }
+
+    /// Replaces the sky of a target at a site. `Full` comes where all skies would have too many pieces.
+    pub fn set_sky(&mut self, key: SkyKey, spans: &Spans) -> Result<(), SiteFault>
+        ensures ok { OnOk result (self.new ≡ with_sky self.old key spans.now) }
+        ensures allowed { OnOk result (sky_refusal self.old key spans.now ≡ None) }
+        ensures refused { IfErr result (λ fault. fault ≢ NoMemory → sky_refusal self.old key spans.now ≡ Some fault) }
+        ensures unchanged { OnErr result (self.new ≡ self.old) }
+    {
+        let others = self.pieces - self.sky(key).len();
+        if spans.len() > MOST_VISIBILITY - others {
+            return Err(SiteFault::Full {
+                limit: MOST_VISIBILITY as u64,
+                what: FullOf::Visibility,
+            });
+        }
+        let pieces = others + spans.len();
+        let spans = spans.copy(self.alloc)?;
+        self.skies.insert(key, spans)?;
+        self.pieces = pieces;
+        Ok(())
+    }
+
+    /// Adds seconds to the closures of telescopes, or takes them away. `Full` comes where one of them would have too many
+    /// pieces.
+    pub fn change(
+        &mut self,
+        change: Change,
+        telescopes: &[TelescopeNo],
+        spans: &Spans,
+    ) -> Result<(), SiteFault>
+        requires { All (λ t. t.0 < most_telescopes) telescopes.now }
+        ensures closures { OnOk result (IsClosureLine change (IsListed telescopes.now) spans.now self.old.closures self.new.closures) }
+        ensures rest { self.new ≡ record self.old { closures = self.new.closures } }
+        ensures full { IfErr result (λ fault. fault ≢ NoMemory → IsFullClosure change (IsListed telescopes.now) spans.now self.old.closures fault) }
+        ensures unchanged { OnErr result (self.new ≡ self.old) }
+    {
+        let changes = changes_of(
+            self.alloc,
+            change,
+            telescopes,
+            spans,
+            self.closures.as_slice(),
+        )?;
+        put(&mut self.closures, changes);
+        Ok(())
+    }
+
+    /// The seconds of a site's night that a telescope's closures don't have. Fails only for want of memory.
+    pub fn usable(&self, site: SiteNo, telescope: TelescopeNo) -> Result<Spans, AllocError>
+        requires site { site.0 < most_sites }
+        requires telescope { telescope.0 < most_telescopes }
+        ensures { IfOk result (IsDifference (set_at self.now.nights site.0) (set_at self.now.closures telescope.0)) }
+    {
+        let night = &self.nights[site.0 as usize];
+        night.minus(self.alloc, &self.closures[telescope.0 as usize])
+    }
+
+    /// The sky of a target at a site.
+    pub fn sky(&self, key: SkyKey) -> &Spans
+        ensures { result.now ≡ sky_of self.now.skies key }
+    {
+        match self.skies.get(&key) {
+            Some(sky) => sky,
+            None => &self.nothing,
+        }
+    }
+}
+
+// A set without seconds for each of the first numbers. Fails only for want of memory.
+fn no_sets(alloc: Global, count: usize) -> Result<Vec<Spans>, AllocError>
+    ensures { IfOk result (λ sets. sets.items ≡ replicate count []) }
+{
+    let mut sets = Vec::with_capacity(alloc, count)?;
+    for _ in 0..count {
+        sets.push(Spans::empty(alloc))?;
+    }
+    Ok(sets)
+}
