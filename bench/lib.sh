@@ -5,7 +5,7 @@ trap 'rm -rf "$work"' EXIT
 
 # rattle_program NAME CRATE..: proves and builds the program whose main.rt is standard input, over copies of this
 # repository's crates in a folder of its own, and prints where the program is. It stands on the crates that are named
-# and on anyhow.
+# and on anyhow. What it needs of proofs stands in the folder $work/proofs, if there is one.
 rattle_program() {
     name=$1
     shift
@@ -14,6 +14,9 @@ rattle_program() {
     tar -c --exclude=out crates crates.txt HANDLES | tar -x -C "$folder"
     mkdir -p "$folder/crates/$name/src"
     cat > "$folder/crates/$name/src/main.rt"
+    if [ -d "$work/proofs" ]; then
+        cp -R "$work/proofs" "$folder/crates/$name"
+    fi
     echo "$name: $* anyhow" >> "$folder/crates.txt"
     (cd "$folder/crates/$name" && rt run) > "$folder/log" 2>&1 || {
         cat "$folder/log" >&2
