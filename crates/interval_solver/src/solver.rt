@@ -98,7 +98,8 @@ impl<'a> Solver<'a> {
         self.uses.starts()
     }
 
-    /// How often the telescope starts the request at a place at the last prices.
+    /// How often the telescope starts the request at a place at the last prices: at most once for each slice, and 0
+    /// before the first call of [`Solver::solve`].
     pub fn uses(&self, member: usize) -> u32
         requires { member < length (listed self.now.snapshot) }
         ensures { HoldsAt (λ x. result ≡ uses_of self.now.chosen x.request.request.0) (listed self.now.snapshot) member }

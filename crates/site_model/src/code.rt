@@ -5,8 +5,11 @@ use plan_base::Name;
 /// The three names of a telescope.
 #[derive(Debug, Drop, PartialEq, Eq, Hash)]
 pub struct Code {
+    /// The site, such as `coj`.
     pub site: Name,
+    /// The dome at the site, such as `doma`.
     pub enclosure: Name,
+    /// The telescope in the dome, such as `1m0a`.
     pub telescope: Name,
 }
 
@@ -19,7 +22,7 @@ pub enum Scope {
     Site(Name),
 }
 
-/// What an instrument type needs beside the exposures, in milliseconds.
+/// What an instrument type needs beside the exposures, in milliseconds, each from 0 to 86,400,000 (a day) in a session.
 #[derive(Clone, Copy, Debug, PartialEq, Eq)]
 pub struct InstrumentTimes {
     /// Before the first configuration of a request.

@@ -9,9 +9,13 @@ use thiserror::Error;
 /// What a network has a most of.
 #[derive(Clone, Copy, Debug, PartialEq, Eq)]
 pub enum FullOf {
+    /// The instrument types.
     Instruments,
+    /// The telescopes of all sites.
     Telescopes,
+    /// The sites of which a telescope was registered.
     Sites,
+    /// The targets that a request or a sky has named.
     Targets,
     /// The pieces of the skies of all targets at all sites.
     Visibility,
