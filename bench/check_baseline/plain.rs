@@ -1,5 +1,13 @@
 // The check of a claim, written plainly: a large snapshot and claim are made and checked, and checked a hundred times
 // more for each word.
+
+#[path = "../plain/sky.rs"]
+mod sky;
+#[path = "../plain/spans.rs"]
+mod spans;
+
+use sky::{Sky, Telescope};
+use spans::Span;
 use std::hint::black_box;
 
 const LEN: u64 = 300;
@@ -18,23 +26,6 @@ enum Op {
     Many,
     OneOf,
     And,
-}
-
-#[derive(Clone, Copy)]
-struct Span {
-    from: u64,
-    to: u64,
-}
-
-struct Telescope {
-    site: u16,
-    usable: Vec<Span>,
-}
-
-struct Sky {
-    target: u16,
-    site: u16,
-    spans: Vec<Span>,
 }
 
 struct Request {

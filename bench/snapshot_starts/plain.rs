@@ -1,5 +1,12 @@
 // The possible starts of a snapshot as in the crate snapshot_starts, in plain Rust, timed as bench/starts times that crate.
 
+#[path = "../plain/sky.rs"]
+mod sky;
+#[path = "../plain/spans.rs"]
+mod spans;
+
+use sky::{Sky, Telescope};
+use spans::{Span, Spans};
 use std::hint::black_box;
 use std::thread;
 use std::time::Instant;
@@ -9,23 +16,6 @@ const REQUESTS: u16 = 1_024;
 const NIGHTS: u64 = 8;
 const ROUNDS: usize = 5;
 const MOST_STARTS: u64 = 1_048_576;
-
-#[derive(Clone, Copy)]
-struct Span {
-    from: u64,
-    to: u64,
-}
-
-struct Telescope {
-    site: u16,
-    usable: Vec<Span>,
-}
-
-struct Sky {
-    target: u16,
-    site: u16,
-    spans: Vec<Span>,
-}
 
 struct Request {
     request: u32,
@@ -66,50 +56,6 @@ struct Run {
 struct Starts {
     runs: Vec<Run>,
     sums: Vec<u32>,
-}
-
-#[derive(Default)]
-struct Spans {
-    items: Vec<Span>,
-}
-
-impl Spans {
-    fn from_list(list: &[Span]) -> Self {
-        let mut sorted = list.to_vec();
-        sorted.sort_unstable_by_key(|span| span.from);
-        let mut set = Spans::default();
-        set.items.reserve(sorted.len());
-        for span in &sorted {
-            set.add(*span);
-        }
-        set
-    }
-
-    fn meet(&self, other: &Spans) -> Self {
-        let (mine, theirs) = (&self.items, &other.items);
-        let (mut i, mut j) = (0, 0);
-        let mut meet = Spans::default();
-        while i < mine.len() && j < theirs.len() {
-            meet.add(Span {
-                from: mine[i].from.max(theirs[j].from),
-                to: mine[i].to.min(theirs[j].to),
-            });
-            if mine[i].to <= theirs[j].to {
-                i += 1;
-            } else {
-                j += 1;
-            }
-        }
-        meet
-    }
-
-    fn add(&mut self, span: Span) {
-        match self.items.last_mut() {
-            Some(last) if span.from <= last.to => last.to = last.to.max(span.to),
-            _ if span.from < span.to => self.items.push(span),
-            _ => {}
-        }
-    }
 }
 
 fn slices_in(len: u32, seconds: u32, span: Span) -> Span {

@@ -28,27 +28,6 @@ pub(super) struct Round<'a> {
     pub bound: u64,
 }
 
-/// A round of a snapshot without quotas.
-pub(super) fn round_of<'a>(
-    number: u32,
-    prices: &'a [i64],
-    bests: &'a [i64],
-    rebates: &'a [i64],
-    uses: &'a [u32],
-    bound: u64,
-) -> Round<'a> {
-    Round {
-        number,
-        prices,
-        quota_prices: &[],
-        bests,
-        rebates,
-        quotas: &[],
-        uses,
-        bound,
-    }
-}
-
 /// Asserts what each round gives, and that each leads to the one after it.
 pub(super) fn assert_rounds(
     rt: &impl Abort,
