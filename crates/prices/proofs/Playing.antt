@@ -1,13 +1,13 @@
 -- Rounds at small prices keep to all conditions.
-use Rattle.std.proofs.Common.{◌≡◌, ℕ, ◌*◌, ◌^◌, ◌≤◌, Bool, true, false, if◌then◌else◌, cond, nat_lt, ℤ, pos, neg_ℤ, ◌+ℤ◌, ◌-ℤ◌, ◌≤ℤ◌, List, length, slice_index_or, All, sym, subst, arith}
+use Rattle.std.proofs.Common.{◌≡◌, ℕ, ◌*◌, ◌^◌, ◌≤◌, Bool, true, false, if◌then◌else◌, cond, nat_lt, ℤ, pos, unsigned_abs, neg_ℤ, ◌+ℤ◌, ◌-ℤ◌, ◌≤ℤ◌, List, length, slice_index_or, All, sym, subst, arith}
 use Rattle.std.proofs.lemmas.Int.{ints}
 use Rattle.plan_base.specs.declared.parts.Parts.{Parts}
 use Rattle.plan_base.specs.Sums.{total}
 use Rattle.plan_base.specs.Requests.{listed}
 use Rattle.plan_base.specs.Verdict.{IsPriceInRange}
-use Rattle.plan_base.specs.Round.{is_taken, moved_price}
+use Rattle.plan_base.specs.Round.{is_taken}
 use Rattle.plan_base.proofs.Totals.{total_at_most}
-use Rattle.prices.specs.Rounds.{number_at, prices_after}
+use Rattle.prices.specs.Rounds.{number_at, stepped_price, prices_after}
 use Rattle.prices.proofs.Rounding.{after_at, after_count}
 
 -- far from the ends of the range of prices
@@ -27,7 +27,7 @@ small_in_range c h =
 pub prices_in_range : (prices : List ℤ) → All IsSmall prices → All IsPriceInRange prices
 prices_in_range prices a i d l = small_in_range (slice_index_or prices i d) (a i d l)
 
-moved_in_range : (step : ℕ) (c : ℤ) (uses : ℕ) (taken : Bool) → step ≤ 100000 → IsSmall c → IsPriceInRange (moved_price step c uses taken)
+moved_in_range : (step : ℤ) (c : ℤ) (uses : ℕ) (taken : Bool) → unsigned_abs step ≤ 100000 → IsSmall c → IsPriceInRange (stepped_price step c uses taken)
 moved_in_range step c uses taken few h = by_tests (nat_lt (cond taken 1 0) uses) (nat_lt uses (cond taken 1 0))
   where
     least : neg_ℤ (pos (10 ^ 11)) ≤ℤ c
@@ -36,13 +36,13 @@ moved_in_range step c uses taken few h = by_tests (nat_lt (cond taken 1 0) uses)
     most : c ≤ℤ pos (10 ^ 11)
     most = h.1
 
-    by_tests : (up down : Bool) → IsPriceInRange (if up then c +ℤ pos step else (if down then c -ℤ pos step else c))
+    by_tests : (up down : Bool) → IsPriceInRange (if up then c +ℤ step else (if down then c -ℤ step else c))
     by_tests true down = (omega (arith, ints, least, most, few), omega (arith, ints, least, most, few))
     by_tests false true = (omega (arith, ints, least, most, few), omega (arith, ints, least, most, few))
     by_tests false false = small_in_range c h
 
 -- small prices stay in their range where the step is small
-pub small_stay : (s : Parts) (step : ℕ) (prices : List ℤ) (c : ℕ → ℤ) (uses : List ℕ) → length prices ≡ length (listed s) → step ≤ 100000 → All IsSmall prices → All IsPriceInRange (prices_after s step prices c uses)
+pub small_stay : (s : Parts) (step : ℤ) (prices : List ℤ) (c : ℕ → ℤ) (uses : List ℕ) → length prices ≡ length (listed s) → unsigned_abs step ≤ 100000 → All IsSmall prices → All IsPriceInRange (prices_after s step prices c uses)
 small_stay s step prices c uses count few a i d l =
     let size : length (prices_after s step prices c uses) ≡ length (listed s) = after_count s step prices c uses in
     subst IsPriceInRange (sym (after_at s step prices c uses i d (omega arith)))

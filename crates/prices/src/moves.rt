@@ -2,7 +2,8 @@
 
 ghost use Rattle.std.specs.Prelude.{◌≡◌, ◌≤◌, ◌<◌, ◌^◌, ℕ, pos, false, length, slice_index_or, slice_set};
 ghost use Rattle.plan_base.specs.Verdict.{IsPriceInRange};
-ghost use Rattle.plan_base.specs.Round.{moved_price, moved_quota_price};
+ghost use Rattle.plan_base.specs.Round.{moved_quota_price};
+ghost use Rattle.prices.specs.Rounds.{stepped_price};
 
 use crate::steps::quota_step;
 use plan_base::ListOf;
@@ -11,13 +12,12 @@ use plan_base::ListOf;
 const MOST_QUOTA_PRICE: u64 = 200_000;
 
 /// Moves each price by the step, up where its request is used more often than it is taken, down where less often.
-pub(crate) fn move_prices(prices: &mut ListOf<i64>, uses: &[u32], taken: &[bool], step: u64)
-    requires step { step < 2 ^ 63 }
+pub(crate) fn move_prices(prices: &mut ListOf<i64>, uses: &[u32], taken: &[bool], step: i64)
     requires uses { length uses.now ≡ length prices.old }
     requires taken { length prices.old ≤ length taken.now }
-    requires stay { (i : ℕ) → i < length prices.old → IsPriceInRange (moved_price step (slice_index_or prices.old i (pos 0)) (slice_index_or uses.now i 0) (slice_index_or taken.now i false)) }
+    requires stay { (i : ℕ) → i < length prices.old → IsPriceInRange (stepped_price step (slice_index_or prices.old i (pos 0)) (slice_index_or uses.now i 0) (slice_index_or taken.now i false)) }
     ensures count { length prices.new ≡ length prices.old }
-    ensures moved { (i : ℕ) → i < length prices.old → slice_index_or prices.new i (pos 0) ≡ moved_price step (slice_index_or prices.old i (pos 0)) (slice_index_or uses.now i 0) (slice_index_or taken.now i false) }
+    ensures moved { (i : ℕ) → i < length prices.old → slice_index_or prices.new i (pos 0) ≡ stepped_price step (slice_index_or prices.old i (pos 0)) (slice_index_or uses.now i 0) (slice_index_or taken.now i false) }
 {
     for place in 0..prices.len() {
         move_price(prices, place, uses[place], taken[place], step);
@@ -25,24 +25,21 @@ pub(crate) fn move_prices(prices: &mut ListOf<i64>, uses: &[u32], taken: &[bool]
 }
 
 /// Moves the price at a place.
-fn move_price(prices: &mut ListOf<i64>, place: usize, uses: u32, taken: bool, step: u64)
-    requires step { step < 2 ^ 63 }
+fn move_price(prices: &mut ListOf<i64>, place: usize, uses: u32, taken: bool, step: i64)
     requires place { place < length prices.old }
-    requires stay { IsPriceInRange (moved_price step (slice_index_or prices.old place (pos 0)) uses taken) }
-    ensures { prices.new ≡ slice_set prices.old place (moved_price step (slice_index_or prices.old place (pos 0)) uses taken) }
+    requires stay { IsPriceInRange (stepped_price step (slice_index_or prices.old place (pos 0)) uses taken) }
+    ensures { prices.new ≡ slice_set prices.old place (stepped_price step (slice_index_or prices.old place (pos 0)) uses taken) }
 {
     let price = prices.as_slice()[place];
     prices.set(place, moved_price(price, uses, taken, step));
 }
 
 /// The price of a request after a round.
-fn moved_price(price: i64, uses: u32, taken: bool, step: u64) -> i64
-    requires step { step < 2 ^ 63 }
-    requires stay { IsPriceInRange (moved_price step price uses taken) }
-    ensures { result ≡ moved_price step price uses taken }
+fn moved_price(price: i64, uses: u32, taken: bool, step: i64) -> i64
+    requires stay { IsPriceInRange (stepped_price step price uses taken) }
+    ensures { result ≡ stepped_price step price uses taken }
 {
     let taken = u32::from(taken);
-    let step = step as i64;
     if taken < uses {
         price + step
     } else if uses < taken {

@@ -1,17 +1,18 @@
 // One round of prices.
 
-ghost use Rattle.std.specs.Prelude.{◌≡◌, ◌≤◌, ◌≤ℤ◌, ℕ, ℤ, pos, List, length, slice_index_or, unsigned_abs, All};
+ghost use Rattle.std.specs.Prelude.{◌≡◌, ◌≤◌, ◌≤ℤ◌, ℕ, ℤ, pos, List, length, slice_index_or, All};
 ghost use Rattle.plan_base.specs.declared.claim.Placement.{Placement};
 ghost use Rattle.plan_base.specs.Requests.{listed};
 ghost use Rattle.plan_base.specs.Bound.{price, net_price};
 ghost use Rattle.plan_base.specs.Verdict.{IsPriceInRange};
 ghost use Rattle.plan_base.specs.Round.{demand_of, next_prices, next_quota_prices};
 ghost use Rattle.groups.specs.Prices.{net_prices};
-ghost use Rattle.prices.specs.Rounds.{AreUses, prices_after};
+ghost use Rattle.prices.specs.Rounds.{AreUses, step_size, prices_after};
 ghost use Rattle.prices.specs.Takings.{AreTaken};
 
 use crate::demands::add_demands;
 use crate::moves::{move_prices, move_quota_prices};
+use crate::steps::step_size;
 use crate::taken::write_taken;
 use plan_base::{Prices, QuotaPrices, Snapshot};
 
@@ -23,9 +24,10 @@ const MOST_QUOTAS: usize = 1024;
 
 /// One round: each price goes up by the step where the request is used more often than its group takes it, down by it
 /// where less often, and stays else. What groups take is by net prices, those of the two lists before the call. A quota
-/// price goes up by the step of an hour, to at most 200,000, where more seconds are taken in groups that name the quota
-/// than the quota has, and down by it, to at least 0, where fewer are. There is one price, one net price and one use for
-/// each request and one quota price for each quota, the step is at least 0, and the prices stay from -10^12 to 10^12.
+/// price goes up by the step of an hour, which is at least 1, to at most 200,000, where more seconds are taken in groups
+/// that name the quota than the quota has, and down by it, to at least 0, where fewer are. Where the step is negative,
+/// prices go the other way and quota prices by 1. There is one price, one net price and one use for each request and one
+/// quota price for each quota, and the prices stay from -10^12 to 10^12.
 pub fn advance(
     snapshot: &Snapshot,
     prices: &mut Prices,
@@ -38,18 +40,16 @@ pub fn advance(
     requires quotas { length quota_prices.old.0 ≡ length snapshot.now.quotas }
     requires net { net.now.0 ≡ net_prices snapshot.now prices.old.0 quota_prices.old.0 }
     requires uses { length uses.now ≡ length (listed snapshot.now) }
-    requires step { pos 0 ≤ℤ step }
-    requires stay { All IsPriceInRange (prices_after snapshot.now (unsigned_abs step) prices.old.0 (net_price snapshot.now prices.old.0 quota_prices.old.0) uses.now) }
-    ensures after { prices.new.0 ≡ prices_after snapshot.now (unsigned_abs step) prices.old.0 (net_price snapshot.now prices.old.0 quota_prices.old.0) uses.now }
-    ensures next { (starts : List Placement) → AreUses snapshot.now starts uses.now → prices.new.0 ≡ next_prices snapshot.now (unsigned_abs step) prices.old.0 (net_price snapshot.now prices.old.0 quota_prices.old.0) starts }
-    ensures quotas { quota_prices.new.0 ≡ next_quota_prices snapshot.now (unsigned_abs step) quota_prices.old.0 (net_price snapshot.now prices.old.0 quota_prices.old.0) }
+    requires stay { All IsPriceInRange (prices_after snapshot.now step prices.old.0 (net_price snapshot.now prices.old.0 quota_prices.old.0) uses.now) }
+    ensures after { prices.new.0 ≡ prices_after snapshot.now step prices.old.0 (net_price snapshot.now prices.old.0 quota_prices.old.0) uses.now }
+    ensures next { (starts : List Placement) → pos 0 ≤ℤ step → AreUses snapshot.now starts uses.now → prices.new.0 ≡ next_prices snapshot.now (step_size step) prices.old.0 (net_price snapshot.now prices.old.0 quota_prices.old.0) starts }
+    ensures quotas { quota_prices.new.0 ≡ next_quota_prices snapshot.now (step_size step) quota_prices.old.0 (net_price snapshot.now prices.old.0 quota_prices.old.0) }
 {
-    let step = step.unsigned_abs();
     let taken = taken_flags(snapshot, net.0.as_slice());
     move_prices(&mut prices.0, uses, &taken, step);
     let demands = demands_of(snapshot, &taken);
     let quotas = snapshot.parts().quotas.as_slice();
-    move_quota_prices(&mut quota_prices.0, &demands, quotas, step);
+    move_quota_prices(&mut quota_prices.0, &demands, quotas, step_size(step));
 }
 
 /// Whether its group takes each request at the net prices.

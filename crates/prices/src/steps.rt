@@ -1,7 +1,8 @@
 // How far prices move in a round.
 
-ghost use Rattle.std.specs.Prelude.{◌≡◌, ◌<◌, pos};
+ghost use Rattle.std.specs.Prelude.{◌≡◌, ◌<◌, ◌^◌, pos};
 ghost use Rattle.plan_base.specs.Round.{step_of, quota_step};
+ghost use Rattle.prices.specs.Rounds.{step_size};
 
 /// The seconds in an hour: a quota is counted in seconds, and its price moves by the step of an hour.
 const HOUR: u64 = 3600;
@@ -15,6 +16,14 @@ pub fn step_of(lane: u32, round: u32, vmax: u32) -> i64
 {
     let shares = 2u32.pow(lane) * (round + 1);
     i64::from((vmax / shares).max(1))
+}
+
+/// How far a step goes up: 0 where it is negative.
+pub(crate) fn step_size(step: i64) -> u64
+    ensures size { result ≡ step_size step }
+    ensures fits { result < 2 ^ 63 }
+{
+    step.max(0).unsigned_abs()
 }
 
 /// The step of quota prices that goes with a step.

@@ -181,16 +181,15 @@ fn move_on(
         return Err(Fail::new("the round doesn't fit"));
     }
     let step = step_of(0, round.number, VALUE);
-    if !is_step(step) {
+    if !is_small(step) {
         return Err(Fail::new("the step is too great"));
     }
     advance(snapshot, prices, quota_prices, &nets, round.uses, step);
     Ok(())
 }
 
-fn is_step(step: i64) -> bool
-    ensures least { IsTrue result → pos 0 ≤ℤ step }
-    ensures most { IsTrue result → unsigned_abs step ≤ 100000 }
+fn is_small(step: i64) -> bool
+    ensures { IsTrue result ↔ (unsigned_abs step ≤ 100000) }
 {
-    0 <= step && step <= 100_000
+    step.unsigned_abs() <= 100_000
 }
