@@ -4,3 +4,4 @@ mod calendar;
 mod fitting;
 mod named;
 mod registry;
+mod steps;
