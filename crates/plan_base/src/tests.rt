@@ -1,164 +1,16 @@
 // Which parts make a snapshot, and the first fault of those that don't.
 
+mod parts;
+
+use self::parts::{
+    asking, fault_of, fits, group, grouping, over, quotas, request, singles, skies, sky, small,
+    span, spans, targets, telescopes,
+};
 use crate::{
-    Counted, GroupNo, GroupPart, ListOf, Op, Parts, RequestNo, RequestPart, Sec, Settings, SiteNo,
-    Sky, SliceNo, Snapshot, SnapshotFault, Span, Taken, TargetNo, TelescopeNo, TelescopePart,
+    Counted, GroupNo, ListOf, Op, Parts, RequestNo, Settings, SiteNo, Sky, Snapshot, SnapshotFault,
+    Taken, TargetNo, TelescopeNo, TelescopePart,
 };
 use std::alloc::{AllocError, Global};
-use std::process::Abort;
-
-fn span(from: u64, to: u64) -> Span {
-    Span {
-        from: Sec(from),
-        to: Sec(to),
-    }
-}
-
-/// The spans of two seconds that begin every third second.
-fn spans(alloc: Global, count: u64) -> Result<ListOf<Span>, AllocError> {
-    let mut spans = ListOf::new(alloc);
-    for i in 0..count {
-        let from = i.saturating_mul(3);
-        spans.push(span(from, from.saturating_add(2)))?;
-    }
-    Ok(spans)
-}
-
-fn telescopes(alloc: Global, count: u16, usable: u64) -> Result<ListOf<TelescopePart>, AllocError> {
-    let mut telescopes = ListOf::new(alloc);
-    for _ in 0..count {
-        telescopes.push(TelescopePart {
-            site: SiteNo(0),
-            usable: spans(alloc, usable)?,
-        })?;
-    }
-    Ok(telescopes)
-}
-
-fn sky(alloc: Global, target: u16, site: u16, count: u64) -> Result<Sky, AllocError> {
-    Ok(Sky {
-        target: TargetNo(target),
-        site: SiteNo(site),
-        spans: spans(alloc, count)?,
-    })
-}
-
-fn skies(alloc: Global, count: u16) -> Result<ListOf<Sky>, AllocError> {
-    let mut skies = ListOf::new(alloc);
-    for target in 0..count {
-        skies.push(sky(alloc, target, 0, 1)?)?;
-    }
-    Ok(skies)
-}
-
-fn fits(alloc: Global, count: u16) -> Result<ListOf<TelescopeNo>, AllocError> {
-    let mut fits = ListOf::new(alloc);
-    for telescope in 0..count {
-        fits.push(TelescopeNo(telescope))?;
-    }
-    Ok(fits)
-}
-
-fn targets(alloc: Global, count: u16) -> Result<ListOf<TargetNo>, AllocError> {
-    let mut targets = ListOf::new(alloc);
-    for target in 0..count {
-        targets.push(TargetNo(target))?;
-    }
-    Ok(targets)
-}
-
-fn request(alloc: Global, number: u32) -> Result<RequestPart, AllocError> {
-    Ok(RequestPart {
-        request: RequestNo(number),
-        seconds: 300,
-        value: 50_000,
-        windows: spans(alloc, 1)?,
-        telescopes: fits(alloc, 1)?,
-        targets: targets(alloc, 1)?,
-        fade: 0,
-    })
-}
-
-fn group(
-    alloc: Global,
-    number: u32,
-    op: Op,
-    first: u32,
-    count: u32,
-) -> Result<GroupPart, AllocError> {
-    let mut requests = ListOf::new(alloc);
-    for i in 0..count {
-        requests.push(request(alloc, first.saturating_add(i))?)?;
-    }
-    Ok(GroupPart {
-        group: GroupNo(number),
-        op,
-        requests,
-        quota: None,
-    })
-}
-
-/// As many groups, of which each has a request of the same number as its own.
-fn singles(alloc: Global, count: u32) -> Result<ListOf<GroupPart>, AllocError> {
-    let mut groups = ListOf::new(alloc);
-    for number in 0..count {
-        groups.push(group(alloc, number, Op::Single, number, 1)?)?;
-    }
-    Ok(groups)
-}
-
-fn quotas(alloc: Global, count: u32, quota: u64) -> Result<ListOf<u64>, AllocError> {
-    let mut quotas = ListOf::new(alloc);
-    for _ in 0..count {
-        quotas.push(quota)?;
-    }
-    Ok(quotas)
-}
-
-/// One telescope and one request.
-fn small(alloc: Global) -> Result<Parts, AllocError> {
-    Ok(Parts {
-        version: 7,
-        len: 300,
-        first: SliceNo(0),
-        slices: 288,
-        telescopes: telescopes(alloc, 1, 1)?,
-        skies: skies(alloc, 1)?,
-        groups: singles(alloc, 1)?,
-        quotas: ListOf::new(alloc),
-    })
-}
-
-/// The small parts with this one request instead.
-fn asking(alloc: Global, request: RequestPart) -> Result<Parts, AllocError> {
-    let mut parts = small(alloc)?;
-    let mut only = group(alloc, 0, Op::Single, 0, 0)?;
-    only.requests.push(request)?;
-    parts.groups = ListOf::new(alloc);
-    parts.groups.push(only)?;
-    Ok(parts)
-}
-
-/// The small parts with these two groups instead.
-fn grouping(alloc: Global, first: GroupPart, second: GroupPart) -> Result<Parts, AllocError> {
-    let mut parts = small(alloc)?;
-    parts.groups = ListOf::new(alloc);
-    parts.groups.push(first)?;
-    parts.groups.push(second)?;
-    Ok(parts)
-}
-
-fn fault_of(rt: &impl Abort, alloc: Global, parts: Parts) -> Option<SnapshotFault> {
-    assert!(rt; parts.is_in_ranges());
-    match Snapshot::build(alloc, parts) {
-        Ok(_) => None,
-        Err(fault) => Some(fault),
-    }
-}
-
-fn over(what: Counted, count: u64) -> Option<SnapshotFault> {
-    Some(SnapshotFault::OverLimit { what, count })
-}
 
 #[test]
 fn counts_of_telescopes_and_skies(rt: HostRuntime) -> Result<(), AllocError> {
@@ -329,7 +181,7 @@ fn orders_of_skies_groups_and_requests(rt: HostRuntime) -> Result<(), AllocError
 }
 
 #[test]
-fn shapes_and_what_requests_name(rt: HostRuntime) -> Result<(), AllocError> {
+fn shapes_of_groups(rt: HostRuntime) -> Result<(), AllocError> {
     let alloc = rt.alloc();
     for (op, most) in [
         (Op::Single, 1),
@@ -350,27 +202,22 @@ fn shapes_and_what_requests_name(rt: HostRuntime) -> Result<(), AllocError> {
             assert_eq!(rt; fault_of(&rt, alloc, parts), want);
         }
     }
+    Ok(())
+}
+
+fn no_telescope(number: u16) -> Option<SnapshotFault> {
+    Some(SnapshotFault::NoSuchTelescope(TelescopeNo(number)))
+}
+
+#[test]
+fn telescopes_and_fades_of_requests(rt: HostRuntime) -> Result<(), AllocError> {
+    let alloc = rt.alloc();
     // Two telescopes are there.
     for (first, second, fade, want) in [
         (0, 1, 1_000, None),
-        (
-            1,
-            0,
-            0,
-            Some(SnapshotFault::NoSuchTelescope(TelescopeNo(0))),
-        ),
-        (
-            1,
-            1,
-            0,
-            Some(SnapshotFault::NoSuchTelescope(TelescopeNo(1))),
-        ),
-        (
-            0,
-            2,
-            1_001,
-            Some(SnapshotFault::NoSuchTelescope(TelescopeNo(2))),
-        ),
+        (1, 0, 0, no_telescope(0)),
+        (1, 1, 0, no_telescope(1)),
+        (0, 2, 1_001, no_telescope(2)),
         (0, 1, 1_001, Some(SnapshotFault::FadeRange(RequestNo(5)))),
     ] {
         let mut asked = request(alloc, 5)?;
@@ -382,6 +229,12 @@ fn shapes_and_what_requests_name(rt: HostRuntime) -> Result<(), AllocError> {
         parts.telescopes = telescopes(alloc, 2, 1)?;
         assert_eq!(rt; fault_of(&rt, alloc, parts), want);
     }
+    Ok(())
+}
+
+#[test]
+fn quotas_that_groups_name(rt: HostRuntime) -> Result<(), AllocError> {
+    let alloc = rt.alloc();
     for (quota, want) in [
         (Some(0), None),
         (Some(1), Some(SnapshotFault::NoSuchQuota(GroupNo(2)))),
