@@ -3,6 +3,11 @@
 work=$(mktemp -d)
 trap 'rm -rf "$work"' EXIT
 
+# needs FILE PACKAGE: installs Debian's package where there is no such file.
+needs() {
+    [ -e "$1" ] || { apt-get update && apt-get install -y --no-install-recommends "$2"; } >&2
+}
+
 # rattle_program NAME CRATE..: proves and builds the program whose main.rt is standard input, over copies of this
 # repository's crates in a folder of its own, and prints where the program is. It stands on the crates that are named
 # and on anyhow. What it needs of proofs stands in the folder $work/proofs, if there is one.

@@ -95,7 +95,9 @@ enum Reason {
 
 impl Snapshot {
     fn place_of(&self, request: u32) -> Option<usize> {
-        self.rows.binary_search_by_key(&request, |row| row.number).ok()
+        self.rows
+            .binary_search_by_key(&request, |row| row.number)
+            .ok()
     }
 
     fn request_at(&self, place: usize) -> &Request {
@@ -110,7 +112,9 @@ impl Snapshot {
     }
 
     fn find_sky(&self, target: u16, site: u16) -> Option<usize> {
-        self.skies.binary_search_by_key(&(target, site), |sky| (sky.target, sky.site)).ok()
+        self.skies
+            .binary_search_by_key(&(target, site), |sky| (sky.target, sky.site))
+            .ok()
     }
 }
 
@@ -119,7 +123,11 @@ fn check(snapshot: &Snapshot, claim: &Claim) -> Result<(u64, u64), Reason> {
     group_reason(snapshot, &claim.placements)?;
     quota_reason(snapshot, &claim.placements)?;
     price_reason(snapshot, claim)?;
-    let value = claim.placements.iter().map(|&placement| worth_of(snapshot, placement)).sum();
+    let value = claim
+        .placements
+        .iter()
+        .map(|&placement| worth_of(snapshot, placement))
+        .sum();
     if value != claim.value {
         return Err(Reason::ValueDiffers(claim.value, value));
     }
@@ -131,7 +139,10 @@ fn check(snapshot: &Snapshot, claim: &Claim) -> Result<(u64, u64), Reason> {
 }
 
 fn placement_reason(snapshot: &Snapshot, plan: &[Placement]) -> Result<(), Reason> {
-    if let Some(index) = plan.iter().position(|p| snapshot.place_of(p.request).is_none()) {
+    if let Some(index) = plan
+        .iter()
+        .position(|p| snapshot.place_of(p.request).is_none())
+    {
         return Err(Reason::UnknownRequest(index));
     }
     let mut placed = vec![false; snapshot.rows.len()];
@@ -207,7 +218,11 @@ fn quota_reason(snapshot: &Snapshot, plan: &[Placement]) -> Result<(), Reason> {
         }
     }
     match (0..sums.len()).find(|&quota| sums[quota] > snapshot.quotas[quota]) {
-        Some(quota) => Err(Reason::QuotaOver(quota, sums[quota], snapshot.quotas[quota])),
+        Some(quota) => Err(Reason::QuotaOver(
+            quota,
+            sums[quota],
+            snapshot.quotas[quota],
+        )),
         None => Ok(()),
     }
 }
@@ -217,7 +232,11 @@ fn price_reason(snapshot: &Snapshot, claim: &Claim) -> Result<(), Reason> {
     if claim.prices.len() != snapshot.rows.len() {
         return Err(Reason::PriceCount(claim.prices.len(), snapshot.rows.len()));
     }
-    if let Some(index) = claim.prices.iter().position(|price| !(-MOST..=MOST).contains(price)) {
+    if let Some(index) = claim
+        .prices
+        .iter()
+        .position(|price| !(-MOST..=MOST).contains(price))
+    {
         return Err(Reason::PriceRange(index));
     }
     let given = claim.quota_prices.len();
@@ -237,11 +256,19 @@ fn worth_of(snapshot: &Snapshot, placement: Placement) -> u64 {
 }
 
 fn earliest_of(request: &Request) -> u64 {
-    request.windows.iter().map(|window| window.from).min().unwrap_or(0).div_ceil(LEN)
+    request
+        .windows
+        .iter()
+        .map(|window| window.from)
+        .min()
+        .unwrap_or(0)
+        .div_ceil(LEN)
 }
 
 fn faded(value: u64, fade: u64, delay: u64) -> u64 {
-    value.saturating_sub(value * fade * delay.min(1_000) / 1_000).max(1)
+    value
+        .saturating_sub(value * fade * delay.min(1_000) / 1_000)
+        .max(1)
 }
 
 fn bound_of(snapshot: &Snapshot, prices: &[i64], quota_prices: &[u32]) -> u64 {
@@ -487,7 +514,12 @@ fn site_of(place: u64) -> u64 {
 /// The slice at which the request at a place is placed, apart from all others on its telescope.
 fn slice_of(place: u64) -> u64 {
     let turn = place / 32;
-    FIRST + 288 * (turn % NIGHTS) + 20 * site_of(place) + 10 + 14 * (turn / NIGHTS) + mix(place, 11, 2)
+    FIRST
+        + 288 * (turn % NIGHTS)
+        + 20 * site_of(place)
+        + 10
+        + 14 * (turn / NIGHTS)
+        + mix(place, 11, 2)
 }
 
 /// The three windows of the request at a place, the first of them round its placement.
@@ -518,9 +550,15 @@ fn request(place: u64) -> Request {
         seconds: seconds_of(place) as u32,
         value: (1_000 + mix(place, 18, 999_001)) as u32,
         windows: windows(place),
-        telescopes: (0..SITES).map(|site| (4 * site + place % 4) as u16).collect(),
+        telescopes: (0..SITES)
+            .map(|site| (4 * site + place % 4) as u16)
+            .collect(),
         targets,
-        fade: if place % 3 == 0 { mix(place, 19, 20) as u16 } else { 0 },
+        fade: if place % 3 == 0 {
+            mix(place, 19, 20) as u16
+        } else {
+            0
+        },
     }
 }
 
@@ -581,10 +619,15 @@ fn claim(snapshot: &Snapshot) -> Claim {
             slice: slice_of(place) as u32,
         })
         .collect();
-    let prices: Vec<i64> = (0..1_024).map(|place| mix(place, 20, 500_000) as i64).collect();
+    let prices: Vec<i64> = (0..1_024)
+        .map(|place| mix(place, 20, 500_000) as i64)
+        .collect();
     let quota_prices: Vec<u32> = (0..QUOTAS).map(|quota| mix(quota, 21, 20) as u32).collect();
     Claim {
-        value: placements.iter().map(|&placement| worth_of(snapshot, placement)).sum(),
+        value: placements
+            .iter()
+            .map(|&placement| worth_of(snapshot, placement))
+            .sum(),
         bound: bound_of(snapshot, &prices, &quota_prices),
         placements,
         prices,

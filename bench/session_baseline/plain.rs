@@ -86,7 +86,10 @@ fn greedy(opening: &Opening, submissions: &[Submission]) -> Vec<(usize, u64)> {
 
 fn write_claim(text: &mut String, plan: &[(usize, u64)], submissions: &[Submission]) {
     let bound: u64 = submissions.iter().map(|request| request.value).sum();
-    let value: u64 = plan.iter().map(|&(place, _)| submissions[place].value).sum();
+    let value: u64 = plan
+        .iter()
+        .map(|&(place, _)| submissions[place].value)
+        .sum();
     let _ = write!(text, "{{\"bound\":{bound},\"placements\":[");
     for (index, (place, slice)) in plan.iter().enumerate() {
         let comma = if index > 0 { "," } else { "" };
@@ -119,10 +122,16 @@ fn main() -> io::Result<()> {
                 version += 1;
             }
             (Some(Command::Open(_)), Some(_)) => {
-                let _ = writeln!(text, "{start}\"no\":21,\"refused\":\"AlreadyOpened\",\"version\":{version}}}");
+                let _ = writeln!(
+                    text,
+                    "{start}\"no\":21,\"refused\":\"AlreadyOpened\",\"version\":{version}}}"
+                );
             }
             (Some(Command::Submit(_)) | Some(Command::Plan), None) => {
-                let _ = writeln!(text, "{start}\"no\":20,\"refused\":\"NotOpened\",\"version\":{version}}}");
+                let _ = writeln!(
+                    text,
+                    "{start}\"no\":20,\"refused\":\"NotOpened\",\"version\":{version}}}"
+                );
             }
             (Some(Command::Submit(found)), Some(_)) if submissions.len() < 512 => {
                 submissions.push(found);
@@ -139,11 +148,17 @@ fn main() -> io::Result<()> {
                 text.clear();
                 text.push_str("{\"caller\":0,\"claim\":");
                 write_claim(&mut text, &greedy(desk, &submissions), &submissions);
-                let _ = writeln!(text, ",\"line\":{number},\"ok\":\"published\",\"version\":{version}}}");
+                let _ = writeln!(
+                    text,
+                    ",\"line\":{number},\"ok\":\"published\",\"version\":{version}}}"
+                );
                 version += 1;
             }
             (None, _) | (Some(Command::Submit(_)), Some(_)) => {
-                let _ = writeln!(text, "{start}\"no\":39,\"refused\":\"NotBuilt\",\"version\":{version}}}");
+                let _ = writeln!(
+                    text,
+                    "{start}\"no\":39,\"refused\":\"NotBuilt\",\"version\":{version}}}"
+                );
             }
         }
         output.write_all(text.as_bytes())?;
