@@ -1,4 +1,5 @@
 pub mod Words
+pub mod Exit
 pub mod Refusals
 pub mod Numbers
 pub mod Claims
