@@ -25,7 +25,8 @@ standing_of group groups = option_and_then (λ g. g.ipp) (find (λ g. g.group.0 
 
 -- the postings of an ipp charge, if there is one
 abbrev pub charges_of : GroupNo → Option Amount → List Posting
-charges_of group ipp = map (λ m. record { account = m.account; kind = Charge; seconds = m.seconds; group = group; request = record { 0 = 0 } }) (option_to_list ipp)
+charges_of group ipp =
+    map (λ m. record { account = m.account; kind = Charge; seconds = m.seconds; group = group; request = record { 0 = 0 } }) (option_to_list ipp)
 
 -- the groups when one holds this from now on
 abbrev pub booked_groups : GroupNo → List Amount → Option Amount → List GroupState → List GroupState

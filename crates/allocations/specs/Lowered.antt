@@ -10,7 +10,8 @@ use Rattle.allocations.specs.Raw.{key_at}
 abbrev pub lowered_to : List Key → List Amount → List Hold → List Amount
 lowered_to keys [] holds = []
 lowered_to keys (m ∷ ms) [] = []
-lowered_to keys (m ∷ ms) (h ∷ hs) = if is_key (key_at keys m.account) h.key then record { account = m.account; seconds = h.seconds } ∷ lowered_to keys ms hs else lowered_to keys ms (h ∷ hs)
+lowered_to keys (m ∷ ms) (h ∷ hs) =
+    if is_key (key_at keys m.account) h.key then record { account = m.account; seconds = h.seconds } ∷ lowered_to keys ms hs else lowered_to keys ms (h ∷ hs)
 
 -- each hold is at most one of the amounts, on its account
 abbrev pub AreAtMost : List Key → List Amount → List Hold → Type 0

@@ -64,6 +64,7 @@ pub record Tied (keys : List Key) (sums : List Sums) (postings : List Posting) (
   pub apart : AllPairs (λ a b. a ≢ b) keys
   pub located : All (λ p. p.account < length keys) postings
   pub placed : All (IsPlaced (length keys)) groups
-  pub balance : (i : ℕ) → i < length keys → (slice_index_or sums i no_sums).balance + posted Charge i postings ≡ posted Grant i postings + posted Refund i postings
+  pub balance : (i : ℕ) → i < length keys
+      → (slice_index_or sums i no_sums).balance + posted Charge i postings ≡ posted Grant i postings + posted Refund i postings
   pub held : (i : ℕ) → i < length keys → (slice_index_or sums i no_sums).held ≡ held_at i groups
   pub covered : (i : ℕ) → i < length keys → (slice_index_or sums i no_sums).held ≤ (slice_index_or sums i no_sums).balance

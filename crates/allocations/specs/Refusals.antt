@@ -31,7 +31,8 @@ knows_proposal entries proposal = list_any (λ e. is_kind Grant e.kind && is_tex
 
 -- why an account can't give these seconds, if it can't
 abbrev pub refusal_at : Books → Hold → Option LedgerFault
-refusal_at books need = if has_grant books.entries need.key then (if nat_le need.seconds (available_of books need.key) then None else Some (NotEnoughTime need.seconds (available_of books need.key))) else Some (NoSuchAllocation need.key.account)
+refusal_at books need =
+    if has_grant books.entries need.key then (if nat_le need.seconds (available_of books need.key) then None else Some (NotEnoughTime need.seconds (available_of books need.key))) else Some (NoSuchAllocation need.key.account)
 
 -- the first refusal of a list of needs
 abbrev pub first_refusal : Books → List Hold → Option LedgerFault
@@ -39,4 +40,5 @@ first_refusal books needs = slice_get (filter_map (refusal_at books) needs) 0
 
 -- why holds and an ipp charge are refused, if they are
 abbrev pub refusal_of : Books → List Hold → ℕ → Option LedgerFault
-refusal_of books holds ipp = if knows_proposal books.entries (proposal_of holds) then first_refusal books (holds ++ option_to_list (ipp_need holds ipp)) else Some NoSuchProposal
+refusal_of books holds ipp =
+    if knows_proposal books.entries (proposal_of holds) then first_refusal books (holds ++ option_to_list (ipp_need holds ipp)) else Some NoSuchProposal

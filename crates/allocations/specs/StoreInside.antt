@@ -6,7 +6,8 @@ use Rattle.allocations.specs.Store.{StoreSeen}
 
 -- what is seen of the fields
 abbrev pub seen_store : Inside → StoreSeen
-seen_store a = record { keys = a.register.keys; listed = a.register.listed; postings = a.postings.items; groups = a.groups.items; spare = a.spare; slots = vec_capacity a.groups - vec_len a.groups }
+seen_store a =
+    record { keys = a.register.keys; listed = a.register.listed; postings = a.postings.items; groups = a.groups.items; spare = a.spare; slots = vec_capacity a.groups - vec_len a.groups }
 
 -- the sums are tied to postings and groups, groups are in order, and there is room for what is spare
 pub record IsStore (a : Inside) : Type 0 where

@@ -17,7 +17,7 @@ pub enum Account {
     TimeCritical,
     /// Seconds for requests of the type RAPID_RESPONSE, on one instrument type.
     RapidResponse,
-    /// Seconds by which groups are raised over others, the inter-proposal priority, on all instrument types.
+    /// Seconds by which groups are raised over others, the intra-proposal priority, on all instrument types.
     Ipp,
 }
 

@@ -11,7 +11,7 @@ use Rattle.plan_base.specs.declared.parts.Op.{Op}
 use Rattle.plan_base.specs.declared.parts.Op.TheVariants.{Single, Many, OneOf, And}
 use Rattle.plan_base.specs.Requests.{Listed, listed_from, listed, place_of, IsKnown, seconds_of, quota_of, IsKind, members_of, members}
 use Rattle.plan_base.specs.Snapshot.{IsOrderly, most_requests}
-use Rattle.plan_base.specs.Bound.{charge, net_price}
+use Rattle.plan_base.specs.Bound.{quota_cost, net_price}
 use Rattle.plan_base.specs.Verdict.{IsPriceInRange}
 use Rattle.plan_base.proofs.Known.{IsListedAs, known_or_is}
 use Rattle.plan_base.proofs.Members.{listed_known, listed_as}
@@ -60,9 +60,9 @@ run_of n (x ∷ xs) (suc g) y l e =
       },
     )
 
-charge_is : (quota_prices : List ℕ) (n : ℕ) (o : Option ℕ) → price_of quota_prices o * n ≡ charge quota_prices n o
-charge_is quota_prices n None = omega arith
-charge_is quota_prices n (Some q) = refl
+quota_cost_is : (quota_prices : List ℕ) (n : ℕ) (o : Option ℕ) → price_of quota_prices o * n ≡ quota_cost quota_prices n o
+quota_cost_is quota_prices n None = omega arith
+quota_cost_is quota_prices n (Some q) = refl
 
 -- a request of the run stands at its place, and is known by its number
 pub number_here : (s : Parts) (g a i : ℕ) (y : GroupPart) (q : RequestPart) → IsOrderly s → IsRun 0 s.groups g y a → i < length y.requests → slice_index_or y.requests i q ≡ q
@@ -81,7 +81,7 @@ net_here s prices quota_prices g a i y q o run l is =
     let here = number_here s g a i y q o run l is in
     ap (λ (k : ℕ). slice_index_or prices k (pos 0) -ℤ pos (price_of quota_prices y.quota * q.seconds)) (sym here.1)
     ∙ ap (λ (m : ℕ). slice_index_or prices (place_of s q.request.0) (pos 0) -ℤ pos m)
-    (charge_is quota_prices q.seconds y.quota ∙ ap (λ (n : ℕ). charge quota_prices n y.quota) (sym here.2) ∙ ap (λ (k : Option ℕ). charge quota_prices (seconds_of s q.request.0) k) (sym here.3))
+    (quota_cost_is quota_prices q.seconds y.quota ∙ ap (λ (n : ℕ). quota_cost quota_prices n y.quota) (sym here.2) ∙ ap (λ (k : Option ℕ). quota_cost quota_prices (seconds_of s q.request.0) k) (sym here.3))
 
 pub nets_length : (u : ℕ) (qs : List RequestPart) (cs : List ℤ) → length cs ≡ length qs → length (nets_at u qs cs) ≡ length qs
 nets_length u [] cs e = refl

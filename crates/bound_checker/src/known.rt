@@ -36,7 +36,7 @@ pub(crate) fn first_twice(
     requires { IsEachKnown snapshot.now plan.now }
     ensures { IfOk result (λ first. MatchOption first (IsEachOnce plan.now) (IsFirst (HasEarlier (λ p q. p.request ≡ q.request) plan.now))) }
 {
-    let mut placed = no_flags(alloc, snapshot.requests())?;
+    let mut placed = no_flags(alloc, snapshot.request_count())?;
     for (index, placement) in plan.iter().enumerate() {
         let place = snapshot.known_place(placement.request);
         if placed[place] {

@@ -29,7 +29,7 @@ pub(crate) fn starts_of(
 {
     let mut rows = empty_rows(alloc, snapshot.parts().slices as usize)?;
     let mut views = Vec::new(alloc);
-    for place in 0..snapshot.requests() {
+    for place in 0..snapshot.request_count() {
         list_request(snapshot, telescope, prices, place, &mut views, &mut rows)?;
     }
     Ok(rows)

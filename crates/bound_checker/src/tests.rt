@@ -147,7 +147,7 @@ fn best(alloc: Global, snapshot: &Snapshot, prices: &[i64]) -> Result<i64, Fail>
     let _ = snapshot.parts();
     let prices = Prices(ListOf::from_vec(Vec::from_slice(alloc, prices)?));
     if snapshot.parts().telescopes.is_empty()
-        || prices.0.len() != snapshot.requests()
+        || prices.0.len() != snapshot.request_count()
         || !are_in_range(prices.0.as_slice())
     {
         return Err(Fail::new("the prices don't fit"));

@@ -144,7 +144,7 @@ fn price_reason(snapshot: &Snapshot, claim: &Claim) -> Option<Reason>
 {
     let prices = claim.prices.0.as_slice();
     let given = prices.len() as u64;
-    let wanted = snapshot.requests() as u64;
+    let wanted = snapshot.request_count() as u64;
     if given != wanted {
         return Some(Reason::PriceCount { given, wanted });
     }

@@ -12,7 +12,7 @@ use Rattle.plan_base.specs.declared.claim.Placement.{Placement}
 use Rattle.plan_base.specs.Requests.{Listed, listed_from, listed, place_of, IsKnown, group_of, quota_of, seconds_of}
 use Rattle.plan_base.specs.Snapshot.{IsOrderly}
 use Rattle.plan_base.specs.Starts.{IsPossibleStart, slices_for, size_of}
-use Rattle.plan_base.specs.Bound.{price, charge, net_price}
+use Rattle.plan_base.specs.Bound.{price, quota_cost, net_price}
 use Rattle.plan_base.proofs.Members.{listed_known}
 use Rattle.plan_base.proofs.Known.{IsListedAs, known_as, known_or_is, telescope_known, known_has}
 use Rattle.groups.specs.Footprints.{first_slot, end_slot}
@@ -77,7 +77,7 @@ seconds_listed s place q o l h =
 -- the net price of the request at a place
 pub net_here : (s : Parts) (prices : List ℤ) (quota_prices : List ℕ) (place g : ℕ) (q : RequestPart) (gs : List GroupPart) (x : GroupPart) → IsOrderly s → place < length (listed s)
     → HoldsAt (λ y. y.request ≡ q) (listed s) place → HoldsAt (λ y. y.group ≡ g) (listed s) place → gs ≡ s.groups → x ≡ slice_index_or gs g x
-    → (slice_index_or prices place (pos 0) -ℤ pos (charge quota_prices q.seconds x.quota)) ≡ slice_index_or (net_prices s prices quota_prices) place (pos 0)
+    → (slice_index_or prices place (pos 0) -ℤ pos (quota_cost quota_prices q.seconds x.quota)) ≡ slice_index_or (net_prices s prices quota_prices) place (pos 0)
 net_here s prices quota_prices place g q gs x o l is_request is_group e is =
     let d : Listed = record { group = 0; quota = None; request = q } in
     let r : ℕ = number_of (slice_index_or (listed s) place d) in
@@ -86,7 +86,7 @@ net_here s prices quota_prices place g q gs x o l is_request is_group e is =
     let seconds : q.seconds ≡ seconds_of s r = seconds_here s r place q known (sym at) is_request in
     let group : g ≡ group_of s r = group_here s r place g known (sym at) is_group in
     let quota : x.quota ≡ quota_of s r = ap (λ (y : GroupPart). y.quota) is ∙ ap (λ (ys : List GroupPart). (slice_index_or ys g x).quota) e ∙ quota_here s r g x known group in
-    ap (λ (k : ℕ). slice_index_or prices k (pos 0) -ℤ pos (charge quota_prices q.seconds x.quota)) (sym at)
-    ∙ ap (λ (n : ℕ). price s prices r -ℤ pos (charge quota_prices n x.quota)) seconds
-    ∙ ap (λ (k : Option ℕ). price s prices r -ℤ pos (charge quota_prices (seconds_of s r) k)) quota
+    ap (λ (k : ℕ). slice_index_or prices k (pos 0) -ℤ pos (quota_cost quota_prices q.seconds x.quota)) (sym at)
+    ∙ ap (λ (n : ℕ). price s prices r -ℤ pos (quota_cost quota_prices n x.quota)) seconds
+    ∙ ap (λ (k : Option ℕ). price s prices r -ℤ pos (quota_cost quota_prices (seconds_of s r) k)) quota
     ∙ sym (get_or-map (λ y. net_price s prices quota_prices y.request.request.0) (listed s) place d (pos 0) l)

@@ -38,7 +38,8 @@ pub record IsGreatestPrice (prices : List ℤ) (b : ℤ) : Type 0 where
 
 -- the price at a place is above each before it, and below none after it
 abbrev pub is_first_greatest : List ℤ → ℕ → Bool
-is_first_greatest prices i = list_all (λ c. int_lt c (slice_index_or prices i (pos 0))) (take i prices) && list_all (λ c. int_le c (slice_index_or prices i (pos 0))) (drop i prices)
+is_first_greatest prices i =
+    list_all (λ c. int_lt c (slice_index_or prices i (pos 0))) (take i prices) && list_all (λ c. int_le c (slice_index_or prices i (pos 0))) (drop i prices)
 
 -- from the place of a group's first request on, its requests follow each other among all
 pub record IsGroupRun (s : Parts) (g a : ℕ) : Type 0 where

@@ -2,7 +2,7 @@
 
 ghost use Rattle.std.specs.Prelude.{◌≡◌, ◌<◌, ◌≤◌, ◌⊎◌, ◌*◌, ℤ, pos, ◌-ℤ◌, [], length, slice_index, slice_index_or, All, Some, HoldsAt};
 ghost use Rattle.plan_base.specs.Requests.{Listed, listed};
-ghost use Rattle.plan_base.specs.Bound.{charge, net_price};
+ghost use Rattle.plan_base.specs.Bound.{quota_cost, net_price};
 ghost use Rattle.groups.specs.Prices.{IsNetInRange, net_prices};
 
 use plan_base::{Prices, QuotaPrices, Snapshot};
@@ -18,7 +18,7 @@ pub fn net(snapshot: &Snapshot, prices: &Prices, quota_prices: &QuotaPrices, int
     requires range { All IsNetInRange (net_prices snapshot.now prices.now.0 quota_prices.now.0) }
     ensures { into.new.0 ≡ net_prices snapshot.now prices.now.0 quota_prices.now.0 }
 {
-    for place in 0..snapshot.requests() {
+    for place in 0..snapshot.request_count() {
         into.0
             .set(place, net_at(snapshot, prices, quota_prices, place));
     }
@@ -33,13 +33,13 @@ fn net_at(snapshot: &Snapshot, prices: &Prices, quota_prices: &QuotaPrices, plac
 {
     let request = snapshot.request_at(place);
     let group = &snapshot.parts().groups.as_slice()[snapshot.group_at(place)];
-    prices.0.as_slice()[place] - charge(quota_prices.0.as_slice(), request.seconds, group.quota)
+    prices.0.as_slice()[place] - quota_cost(quota_prices.0.as_slice(), request.seconds, group.quota)
 }
 
 /// What so many seconds cost at the price of a quota, if one is named.
-fn charge(quota_prices: &[u32], seconds: u32, quota: Option<u16>) -> i64
+fn quota_cost(quota_prices: &[u32], seconds: u32, quota: Option<u16>) -> i64
     requires { seconds ≤ 86400 }
-    ensures { result ≡ pos (charge quota_prices.now seconds quota) }
+    ensures { result ≡ pos (quota_cost quota_prices.now seconds quota) }
 {
     match quota {
         Some(quota) => i64::from(price_of(quota_prices, usize::from(quota))) * i64::from(seconds),

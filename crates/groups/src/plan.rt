@@ -40,7 +40,7 @@ impl<'a> PlanBuild<'a> {
     pub fn new(alloc: Global, snapshot: &'a Snapshot) -> Result<PlanBuild<'a>, AllocError>
         ensures { IfOk result (λ plan. plan ≡ record { snapshot = snapshot.now; placed = [] }) }
     {
-        let placements = Vec::with_capacity(alloc, snapshot.requests())?;
+        let placements = Vec::with_capacity(alloc, snapshot.request_count())?;
         let tables = Tables::new(alloc, snapshot)?;
         Ok(PlanBuild {
             snapshot,

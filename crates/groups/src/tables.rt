@@ -31,7 +31,7 @@ impl Tables {
         let slots = parts.telescopes.len() * parts.slices as usize;
         Ok(Tables {
             occupied: no_flags(alloc, slots)?,
-            placed: no_flags(alloc, snapshot.requests())?,
+            placed: no_flags(alloc, snapshot.request_count())?,
             members: no_counts(alloc, parts.groups.len())?,
             seconds: no_seconds(alloc, parts.quotas.len())?,
         })

@@ -66,7 +66,7 @@ fn list_run(
     let Some(request) = snapshot.place_of(run.request) else {
         return Ok(());
     };
-    let _ = snapshot.requests();
+    let _ = snapshot.request_count();
     let offer = offer_of(parts.len, request as u32, snapshot.request_at(request));
     let from = u64::from(run.first.0);
     let to = from + u64::from(run.count);

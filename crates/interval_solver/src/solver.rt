@@ -59,7 +59,7 @@ impl<'a> Solver<'a> {
             telescope,
             rows: rows_of(alloc, snapshot, telescope, starts)?,
             table: zero_table(alloc, slices + 1)?,
-            uses: Uses::new(alloc, snapshot.requests(), slices)?,
+            uses: Uses::new(alloc, snapshot.request_count(), slices)?,
         })
     }
 

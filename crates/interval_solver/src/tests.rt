@@ -153,7 +153,7 @@ fn ask(
     ensures { solver.new.snapshot ≡ solver.old.snapshot }
 {
     let prices = Prices(ListOf::from_vec(Vec::from_slice(alloc, prices)?));
-    if prices.0.len() != snapshot.requests() || !are_in_range(prices.0.as_slice()) {
+    if prices.0.len() != snapshot.request_count() || !are_in_range(prices.0.as_slice()) {
         return Err(Fail::new("the prices don't fit"));
     }
     let best = solver.solve(&prices);
@@ -188,7 +188,7 @@ fn uses(alloc: Global, snapshot: &Snapshot, solver: &Solver<'_>) -> Result<Vec<u
     requires { solver.now.snapshot ≡ snapshot.now }
 {
     let mut uses = Vec::new(alloc);
-    for member in 0..snapshot.requests() {
+    for member in 0..snapshot.request_count() {
         uses.push(solver.uses(member))?;
     }
     Ok(uses)

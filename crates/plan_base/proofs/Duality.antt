@@ -14,7 +14,7 @@ use Rattle.plan_base.specs.Requests.{IsKnown, group_of, quota_of, seconds_of, Is
 use Rattle.plan_base.specs.Snapshot.{IsOrderly}
 use Rattle.plan_base.specs.Starts.{IsPossibleStart, ShareSlice, worth_at, value_of_plan}
 use Rattle.plan_base.specs.Feasible.{AreOfOneOneOf, requests_of, is_quota, quota_at, IsFeasible}
-use Rattle.plan_base.specs.Bound.{price, weight, IsStartList, surplus, IsBest, charge, net_price, IsAllowedChoice, IsRebate, IsQuotaPart, IsBound}
+use Rattle.plan_base.specs.Bound.{price, weight, IsStartList, surplus, IsBest, quota_cost, net_price, IsAllowedChoice, IsRebate, IsQuotaPart, IsBound}
 use Rattle.plan_base.proofs.Known.{telescope_known, requests_known, group_known, quota_known}
 use Rattle.plan_base.proofs.Lists.{contains_filter}
 use Rattle.plan_base.proofs.Totals.{total_map, total_add, total_times, total_of_naturals}
@@ -73,15 +73,15 @@ group_part s prices quota_prices plan b f sum =
     (λ g y l rebate. rebate.bound (filter (λ r. group_of s r == g) (requests_of plan)) (choice_of s plan g f))
 
 -- by quota: the seconds placed of each are within it
-abbrev charge_of : Parts → List ℕ → ℕ → ℤ
-charge_of s quota_prices r = pos (charge quota_prices (seconds_of s r) (quota_of s r))
+abbrev cost_of : Parts → List ℕ → ℕ → ℤ
+cost_of s quota_prices r = pos (quota_cost quota_prices (seconds_of s r) (quota_of s r))
 
 -- the quota, or n where none is named
 abbrev quota_or : ℕ → Option ℕ → ℕ
 quota_or n None = n
 quota_or n (Some q) = q
 
-free_or_known : (quota_prices : List ℕ) (seconds n : ℕ) (o : Option ℕ) → ForSome o (λ q. q < n) → (pos (charge quota_prices seconds o) ≡ pos 0) ⊎ (quota_or n o < n)
+free_or_known : (quota_prices : List ℕ) (seconds n : ℕ) (o : Option ℕ) → ForSome o (λ q. q < n) → (pos (quota_cost quota_prices seconds o) ≡ pos 0) ⊎ (quota_or n o < n)
 free_or_known quota_prices seconds n None h = inl refl
 free_or_known quota_prices seconds n (Some q) h = inr (h q refl)
 
@@ -94,22 +94,22 @@ quota_from_test q None h = cc
 quota_from_test q (Some p) h = ap (λ (x : ℕ). Some x) (same_from_test p q h)
 
 one_quota : (s : Parts) (quota_prices : List ℕ) (plan : List Placement) (q : ℕ) (y : ℤ) → IsFeasible s plan → q < length s.quotas → IsQuotaPart s quota_prices q y
-    → total (charge_of s quota_prices) (filter (λ r. quota_or (length s.quotas) (quota_of s r) == q) (requests_of plan)) ≤ℤ y
+    → total (cost_of s quota_prices) (filter (λ r. quota_or (length s.quotas) (quota_of s r) == q) (requests_of plan)) ≤ℤ y
 one_quota s quota_prices plan q y f l part =
     let u : ℕ = slice_index_or quota_prices q 0 in
     let rs : List ℕ = requests_of plan in
     let named : List ℕ = filter (λ r. is_quota q (quota_of s r)) rs in
     let agree : filter (λ r. quota_or (length s.quotas) (quota_of s r) == q) rs ≡ named = filter_agree (λ r. quota_or (length s.quotas) (quota_of s r) == q) (λ r. is_quota q (quota_of s r)) (λ r. same_quota _ q (quota_of s r) l) rs in
-    let sum : total (charge_of s quota_prices) named ≡ pos (u * sum_by (seconds_of s) named) = total_times u (charge_of s quota_prices) (seconds_of s) named
-    (λ i d h. ap (λ (o : Option ℕ). pos (charge quota_prices (seconds_of s (slice_index_or named i d)) o)) (quota_from_test q _ (filter_passes (λ r. is_quota q (quota_of s r)) rs i d h))) in
+    let sum : total (cost_of s quota_prices) named ≡ pos (u * sum_by (seconds_of s) named) = total_times u (cost_of s quota_prices) (seconds_of s) named
+    (λ i d h. ap (λ (o : Option ℕ). pos (quota_cost quota_prices (seconds_of s (slice_index_or named i d)) o)) (quota_from_test q _ (filter_passes (λ r. is_quota q (quota_of s r)) rs i d h))) in
     let within : u * sum_by (seconds_of s) named ≤ u * quota_at s q = mul-le u _ u _ (omega arith) (f.within_quotas q l) in
     let is : y ≡ pos (u * quota_at s q) = part in
-    subst (λ (ys : List ℕ). total (charge_of s quota_prices) ys ≤ℤ y) (sym agree) (omega (arith, ints))
+    subst (λ (ys : List ℕ). total (cost_of s quota_prices) ys ≤ℤ y) (sym agree) (omega (arith, ints))
 
 quota_part : (s : Parts) (quota_prices : List ℕ) (plan : List Placement) (b : ℤ) → IsOrderly s → IsFeasible s plan
-    → IsSumOf (length s.quotas) (IsQuotaPart s quota_prices) b → total (charge_of s quota_prices) (requests_of plan) ≤ℤ b
+    → IsSumOf (length s.quotas) (IsQuotaPart s quota_prices) b → total (cost_of s quota_prices) (requests_of plan) ≤ℤ b
 quota_part s quota_prices plan b o f sum =
-    split (charge_of s quota_prices) (λ r. quota_or (length s.quotas) (quota_of s r)) (requests_of plan) (length s.quotas) (IsQuotaPart s quota_prices) b sum
+    split (cost_of s quota_prices) (λ r. quota_or (length s.quotas) (quota_of s r)) (requests_of plan) (length s.quotas) (IsQuotaPart s quota_prices) b sum
     (λ i d l. free_or_known quota_prices (seconds_of s (slice_index_or (requests_of plan) i d)) (length s.quotas) (quota_of s (slice_index_or (requests_of plan) i d)) (quota_known s _ o (requests_known s plan f i d l)))
     (λ q y l part. one_quota s quota_prices plan q y f l part)
 
@@ -120,9 +120,9 @@ duality s prices quota_prices plan b o f bound =
     let value : total (λ p. pos (worth_at s p)) plan ≡ pos (value_of_plan s plan) = total_of_naturals (worth_at s) plan in
     let both : total (λ p. pos (worth_at s p)) plan ≡ surplus s prices plan +ℤ total (λ p. price s prices p.request.0) plan = total_add (λ p. pos (worth_at s p)) (weight s prices) (λ p. price s prices p.request.0) (λ p. omega (arith, ints)) plan in
     let placed : total (λ p. price s prices p.request.0) plan ≡ total (price s prices) (requests_of plan) = total_map (price s prices) (λ p. p.request.0) plan in
-    let net : total (price s prices) (requests_of plan) ≡ total (net_price s prices quota_prices) (requests_of plan) +ℤ total (charge_of s quota_prices) (requests_of plan) = total_add (price s prices) (net_price s prices quota_prices) (charge_of s quota_prices) (λ r. omega (arith, ints)) (requests_of plan) in
+    let net : total (price s prices) (requests_of plan) ≡ total (net_price s prices quota_prices) (requests_of plan) +ℤ total (cost_of s quota_prices) (requests_of plan) = total_add (price s prices) (net_price s prices quota_prices) (cost_of s quota_prices) (λ r. omega (arith, ints)) (requests_of plan) in
     let one : surplus s prices plan ≤ℤ bound.bests = telescope_part s prices plan bound.bests o f bound.best in
     let two : total (net_price s prices quota_prices) (requests_of plan) ≤ℤ bound.rebates = group_part s prices quota_prices plan bound.rebates f bound.rebate in
-    let three : total (charge_of s quota_prices) (requests_of plan) ≤ℤ bound.quotas = quota_part s quota_prices plan bound.quotas o f bound.quota in
+    let three : total (cost_of s quota_prices) (requests_of plan) ≤ℤ bound.quotas = quota_part s quota_prices plan bound.quotas o f bound.quota in
     let whole : b ≡ bound.bests +ℤ bound.rebates +ℤ bound.quotas = bound.whole in
     omega (arith, ints)

@@ -15,7 +15,7 @@ use Rattle.plan_base.specs.Requests.{Listed, listed, place_of, IsKnown, group_of
 use Rattle.plan_base.specs.Snapshot.{IsOrderly}
 use Rattle.plan_base.specs.Starts.{IsPossibleStart, ShareSlice, size_of, worth_at, value_of_plan}
 use Rattle.plan_base.specs.Feasible.{requests_of, quota_at, IsFeasible}
-use Rattle.plan_base.specs.Bound.{price, weight, IsStartList, surplus, IsBest, charge, net_price, IsAllowedChoice, IsRebate, IsQuotaPart, IsBound}
+use Rattle.plan_base.specs.Bound.{price, weight, IsStartList, surplus, IsBest, quota_cost, net_price, IsAllowedChoice, IsRebate, IsQuotaPart, IsBound}
 use Rattle.plan_base.specs.Verdict.{IsPriceInRange}
 use Rattle.plan_base.proofs.Lists.{contains_filter, contains_map, AllPairs-map, length_among, length_below}
 use Rattle.plan_base.proofs.Totals.{total_at_most, total_constant}
@@ -147,9 +147,9 @@ quota_price_at_most quota_prices q a = elim (below_or_from q (length quota_price
   | inr l ↦ let past : slice_index_or quota_prices q 0 ≡ 0 = get_or_past quota_prices q 0 l in omega arith
 ]
 
-charge_at_most : (quota_prices : List ℕ) (seconds : ℕ) (o : Option ℕ) → All (λ u. u ≤ 200000) quota_prices → seconds ≤ 86400 → charge quota_prices seconds o ≤ 200000 * 86400
-charge_at_most quota_prices seconds None u h = omega arith
-charge_at_most quota_prices seconds (Some q) u h = mul-le _ _ 200000 86400 (quota_price_at_most quota_prices q u) h
+quota_cost_at_most : (quota_prices : List ℕ) (seconds : ℕ) (o : Option ℕ) → All (λ u. u ≤ 200000) quota_prices → seconds ≤ 86400 → quota_cost quota_prices seconds o ≤ 200000 * 86400
+quota_cost_at_most quota_prices seconds None u h = omega arith
+quota_cost_at_most quota_prices seconds (Some q) u h = mul-le _ _ 200000 86400 (quota_price_at_most quota_prices q u) h
 
 net_between : (c : ℤ) (n : ℕ) → IsPriceInRange c → n ≤ 200000 * 86400 → (neg_ℤ (pos (2 * 10 ^ 12)) ≤ℤ (c -ℤ pos n)) × ((c -ℤ pos n) ≤ℤ pos (10 ^ 12))
 net_between c n r h = (omega (arith, ints), omega (arith, ints))
@@ -158,8 +158,8 @@ net_between c n r h = (omega (arith, ints), omega (arith, ints))
 pub net_price_between : (s : Parts) (prices : List ℤ) (quota_prices : List ℕ) (r : ℕ) → IsOrderly s → IsKnown s r → All IsPriceInRange prices → All (λ u. u ≤ 200000) quota_prices
     → (neg_ℤ (pos (2 * 10 ^ 12)) ≤ℤ net_price s prices quota_prices r) × (net_price s prices quota_prices r ≤ℤ pos (10 ^ 12))
 net_price_between s prices quota_prices r o k a u =
-    net_between (price s prices r) (charge quota_prices (seconds_of s r) (quota_of s r)) (price_in_range prices (place_of s r) a)
-    (charge_at_most quota_prices (seconds_of s r) (quota_of s r) u (known_has (λ n. n ≤ 86400) (λ x. x.request.seconds) 0 s r (λ i d l. (o.ranges.seconds i d l).1) k))
+    net_between (price s prices r) (quota_cost quota_prices (seconds_of s r) (quota_of s r)) (price_in_range prices (place_of s r) a)
+    (quota_cost_at_most quota_prices (seconds_of s r) (quota_of s r) u (known_has (λ n. n ≤ 86400) (λ x. x.request.seconds) 0 s r (λ i d l. (o.ranges.seconds i d l).1) k))
 
 -- by group
 -- an allowed choice has as many requests as are listed of its group, or fewer

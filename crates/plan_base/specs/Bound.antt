@@ -33,13 +33,13 @@ pub record IsBest (s : Parts) (prices : List ℤ) (t k : ℕ) (b : ℤ) : Type 0
   pub bound : (starts : List Placement) → IsStartList s t k starts → surplus s prices starts ≤ℤ b
 
 -- what seconds cost at the price of the quota that is named, if one is
-abbrev pub charge : List ℕ → ℕ → Option ℕ → ℕ
-charge quota_prices seconds None = 0
-charge quota_prices seconds (Some q) = slice_index_or quota_prices q 0 * seconds
+abbrev pub quota_cost : List ℕ → ℕ → Option ℕ → ℕ
+quota_cost quota_prices seconds None = 0
+quota_cost quota_prices seconds (Some q) = slice_index_or quota_prices q 0 * seconds
 
 -- the price of request r less what its seconds cost of its quota
 abbrev pub net_price : Parts → List ℤ → List ℕ → ℕ → ℤ
-net_price s prices quota_prices r = price s prices r -ℤ pos (charge quota_prices (seconds_of s r) (quota_of s r))
+net_price s prices quota_prices r = price s prices r -ℤ pos (quota_cost quota_prices (seconds_of s r) (quota_of s r))
 
 -- a set of requests of the group at place g that its kind allows
 pub record IsAllowedChoice (s : Parts) (g : ℕ) (choice : List ℕ) : Type 0 where

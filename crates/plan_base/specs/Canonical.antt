@@ -29,7 +29,8 @@ IsIdleUpTo s prices t k j = (i : ℕ) → k ≤ i → i < j → IsIdle s prices 
 -- what telescope t starts from slice k on
 abbrev pub IsCanonicalFrom : Parts → List ℤ → ℕ → ℕ → List Placement → Type 0
 IsCanonicalFrom s prices t k [] = IsIdleUpTo s prices t k (s.first.0 + s.slices)
-IsCanonicalFrom s prices t k (p ∷ ps) = (k ≤ p.slice.0) × IsIdleUpTo s prices t k p.slice.0 × StartsLowest s prices t p × IsCanonicalFrom s prices t (p.slice.0 + size_of s p.request.0) ps
+IsCanonicalFrom s prices t k (p ∷ ps) =
+    (k ≤ p.slice.0) × IsIdleUpTo s prices t k p.slice.0 × StartsLowest s prices t p × IsCanonicalFrom s prices t (p.slice.0 + size_of s p.request.0) ps
 
 -- what telescope t starts at these prices
 abbrev pub IsCanonicalUse : Parts → List ℤ → ℕ → List Placement → Type 0

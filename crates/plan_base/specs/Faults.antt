@@ -28,11 +28,16 @@ first_over what count xs = option_map (λ x. OverLimit what (count x)) (find (λ
 
 -- the fault of the counts of telescopes, of skies, and of their spans
 abbrev pub site_limit_fault : Parts → Option SnapshotFault
-site_limit_fault s = first_some (first_over Telescopes (λ n. n) (length s.telescopes ∷ []) ∷ first_over Usable (λ t. length t.usable) s.telescopes ∷ first_over Skies (λ n. n) (length s.skies ∷ []) ∷ first_over Spans (λ n. n) (sum_by (λ y. length y.spans) s.skies ∷ []) ∷ [])
+site_limit_fault s =
+    first_some (first_over Telescopes (λ n. n) (length s.telescopes ∷ []) ∷ first_over Usable (λ t. length t.usable) s.telescopes
+    ∷ first_over Skies (λ n. n) (length s.skies ∷ []) ∷ first_over Spans (λ n. n) (sum_by (λ y. length y.spans) s.skies ∷ []) ∷ [])
 
 -- the fault of the counts of groups, of requests, of what a request lists, and of quotas
 abbrev pub request_limit_fault : Parts → Option SnapshotFault
-request_limit_fault s = first_some (first_over Groups (λ n. n) (length s.groups ∷ []) ∷ first_over Requests (λ n. n) (length (listed s) ∷ []) ∷ first_over Windows (λ q. length q.windows) (all_requests s.groups) ∷ first_over Targets (λ q. length q.targets) (all_requests s.groups) ∷ first_over Fits (λ q. length q.telescopes) (all_requests s.groups) ∷ first_over Quotas (λ n. n) (length s.quotas ∷ []) ∷ [])
+request_limit_fault s =
+    first_some (first_over Groups (λ n. n) (length s.groups ∷ []) ∷ first_over Requests (λ n. n) (length (listed s) ∷ [])
+    ∷ first_over Windows (λ q. length q.windows) (all_requests s.groups) ∷ first_over Targets (λ q. length q.targets) (all_requests s.groups)
+    ∷ first_over Fits (λ q. length q.telescopes) (all_requests s.groups) ∷ first_over Quotas (λ n. n) (length s.quotas ∷ []) ∷ [])
 
 -- the first element whose number doesn't rise over that of the one before it
 abbrev pub first_fall : {X : Type 0} → (X → ℕ) → List X → Option X
@@ -48,4 +53,6 @@ unfit_in n x = first_some (map (λ q. first_unfit n q.telescopes) x.requests)
 
 -- the first fault of parts within the limits
 abbrev pub fault_within_limits : Parts → Option SnapshotFault
-fault_within_limits s = first_some (span_fault s ∷ apart_fault s ∷ group_fault s ∷ request_fault s ∷ shape_fault s ∷ telescope_fault s ∷ fade_fault s ∷ quota_fault s ∷ quota_range_fault s ∷ [])
+fault_within_limits s =
+    first_some (span_fault s ∷ apart_fault s ∷ group_fault s ∷ request_fault s ∷ shape_fault s ∷ telescope_fault s ∷ fade_fault s ∷ quota_fault s
+    ∷ quota_range_fault s ∷ [])

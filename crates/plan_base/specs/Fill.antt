@@ -47,7 +47,8 @@ TriesEach s plan (r ∷ rs) after = (next : List Placement) × TriesOne s plan r
 -- the requests are tried in order until one is placed
 abbrev pub TriesUntilOne : Parts → List Placement → List ℕ → List Placement → Type 0
 TriesUntilOne s plan [] after = after ≡ plan
-TriesUntilOne s plan (r ∷ rs) after = ((p : Placement) × IsEarliestFree s plan r p × (after ≡ plan ++ p ∷ [])) ⊎ (HasNoFree s plan r × TriesUntilOne s plan rs after)
+TriesUntilOne s plan (r ∷ rs) after =
+    ((p : Placement) × IsEarliestFree s plan r p × (after ≡ plan ++ p ∷ [])) ⊎ (HasNoFree s plan r × TriesUntilOne s plan rs after)
 
 -- all of the requests take their earliest free starts, or none does
 abbrev pub TakesAllOrNone : Parts → List Placement → List ℕ → List Placement → Type 0

@@ -26,8 +26,10 @@ pub record IsLeastBound (s : Parts) (settings : Settings) (claim : Claim) : Type
   pub lane : ℕ
   pub round : ℕ
   pub gives : IsRoundOf s settings lane round claim.prices.0 claim.quota_prices.0
-  pub least : (j k : ℕ) (prices : List ℤ) (quota_prices : List ℕ) (b : ℤ) → IsRoundOf s settings j k prices quota_prices → IsBound s prices quota_prices b → pos claim.bound ≤ℤ b
-  pub first : settings.workers ≡ 1 → (j k : ℕ) (prices : List ℤ) (quota_prices : List ℕ) → IsEarlierRound j k lane round → IsRoundOf s settings j k prices quota_prices → ¬ (IsBound s prices quota_prices (pos claim.bound))
+  pub least : (j k : ℕ) (prices : List ℤ) (quota_prices : List ℕ) (b : ℤ) → IsRoundOf s settings j k prices quota_prices → IsBound s prices quota_prices b
+      → pos claim.bound ≤ℤ b
+  pub first : settings.workers ≡ 1 → (j k : ℕ) (prices : List ℤ) (quota_prices : List ℕ) → IsEarlierRound j k lane round
+      → IsRoundOf s settings j k prices quota_prices → ¬ (IsBound s prices quota_prices (pos claim.bound))
 
 -- the plan repaired from the prices of this lane and round has this value
 pub record IsRoundPlan (s : Parts) (settings : Settings) (lane round : ℕ) (value : ℕ) (plan : List Placement) : Type 0 where
@@ -48,7 +50,10 @@ pub record IsRoundShown (s : Parts) (settings : Settings) (claim : Claim) : Type
 
 -- the claim's placements are the greedy plan's where that has its value, else those of a round that gives it
 abbrev pub IsPlanShown : Parts → Settings → Claim → Type 0
-IsPlanShown s settings claim = (greedy : List Placement) × IsGreedy s greedy × (((value_of_plan s greedy ≡ claim.value) × IsListing greedy claim.placements) ⊎ ((value_of_plan s greedy < claim.value) × IsRoundShown s settings claim))
+IsPlanShown s settings claim =
+    (greedy : List Placement) × IsGreedy s greedy
+    × (((value_of_plan s greedy ≡ claim.value) × IsListing greedy claim.placements)
+    ⊎ ((value_of_plan s greedy < claim.value) × IsRoundShown s settings claim))
 
 -- the claim's value is the greatest of the greedy plan's and of the repaired plans of all rounds
 pub record IsGreatestValue (s : Parts) (settings : Settings) (claim : Claim) : Type 0 where

@@ -43,7 +43,8 @@ outside_ands s starts = filter (λ p. not (is_and (op_at s (group_of s p.request
 
 -- a is tried before b: by falling worth, then request, telescope and slice
 abbrev pub IsTriedBefore : Parts → Placement → Placement → Type 0
-IsTriedBefore s a b = (worth_at s b < worth_at s a) ⊎ ((worth_at s a ≡ worth_at s b) × ((a.request.0 < b.request.0) ⊎ ((a.request ≡ b.request) × IsListedBefore a b)))
+IsTriedBefore s a b =
+    (worth_at s b < worth_at s a) ⊎ ((worth_at s a ≡ worth_at s b) × ((a.request.0 < b.request.0) ⊎ ((a.request ≡ b.request) × IsListedBefore a b)))
 
 -- each start that leaves the plan feasible is added
 abbrev pub AddsEach : Parts → List Placement → List Placement → List Placement → Type 0

@@ -56,11 +56,13 @@ moved_quota_price step u demand most = if nat_lt most demand then min 200000 (u 
 
 -- all prices after a round with these starts
 abbrev pub next_prices : Parts → ℕ → List ℤ → (ℕ → ℤ) → List Placement → List ℤ
-next_prices s step prices c starts = map (λ x. moved_price step (price s prices x.request.request.0) (uses_of starts x.request.request.0) (is_taken s c x.request.request.0)) (listed s)
+next_prices s step prices c starts =
+    map (λ x. moved_price step (price s prices x.request.request.0) (uses_of starts x.request.request.0) (is_taken s c x.request.request.0)) (listed s)
 
 -- all quota prices after a round
 abbrev pub next_quota_prices : Parts → ℕ → List ℕ → (ℕ → ℤ) → List ℕ
-next_quota_prices s step quota_prices c = map (λ q. moved_quota_price step (slice_index_or quota_prices q.0 0) (demand_of s c q.0) q.1) (enumerate_from 0 s.quotas)
+next_quota_prices s step quota_prices c =
+    map (λ q. moved_quota_price step (slice_index_or quota_prices q.0 0) (demand_of s c q.0) q.1) (enumerate_from 0 s.quotas)
 
 -- one round leads from prices to prices
 pub record IsNextRound (s : Parts) (step : ℕ) (prices : List ℤ) (quota_prices : List ℕ) (next : List ℤ) (next_quota : List ℕ) : Type 0 where
@@ -72,4 +74,6 @@ pub record IsNextRound (s : Parts) (step : ℕ) (prices : List ℤ) (quota_price
 -- the prices of a lane's round: all 0 in round 0
 abbrev pub IsRoundPrices : Parts → ℕ → ℕ → List ℤ → List ℕ → Type 0
 IsRoundPrices s lane zero prices quota_prices = (prices ≡ map (λ x. pos 0) (listed s)) × (quota_prices ≡ map (λ q. 0) s.quotas)
-IsRoundPrices s lane (suc round) prices quota_prices = (before : List ℤ) × (before_quota : List ℕ) × IsRoundPrices s lane round before before_quota × IsNextRound s (step_of lane round (greatest_value s)) before before_quota prices quota_prices
+IsRoundPrices s lane (suc round) prices quota_prices =
+    (before : List ℤ) × (before_quota : List ℕ) × IsRoundPrices s lane round before before_quota
+    × IsNextRound s (step_of lane round (greatest_value s)) before before_quota prices quota_prices

@@ -46,5 +46,6 @@ TakesEach s plan (r ∷ rs) after = (p : Placement) × IsEarliestFree s plan r p
 
 -- nothing can be added: no unplaced request of a SINGLE, a MANY or an untouched ONEOF, and no absent AND whole
 pub record IsSaturated (s : Parts) (plan : List Placement) : Type 0 where
-  pub alone : (g : ℕ) (p : Placement) → (IsKind s Single g ⊎ IsKind s Many g) ⊎ IsUntouched s plan g → IsOf s g p.request.0 → ¬ (Contains (requests_of plan) p.request.0) → ¬ (IsFree s plan p)
+  pub alone : (g : ℕ) (p : Placement) → (IsKind s Single g ⊎ IsKind s Many g) ⊎ IsUntouched s plan g → IsOf s g p.request.0
+      → ¬ (Contains (requests_of plan) p.request.0) → ¬ (IsFree s plan p)
   pub whole : (g : ℕ) (after : List Placement) → IsAbsent s plan g → ¬ (TakesEach s plan (members s g) after)

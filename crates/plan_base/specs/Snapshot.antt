@@ -119,13 +119,15 @@ abbrev pub group_fault : Parts → Option SnapshotFault
 group_fault s = option_map (λ p. GroupOrder p.1.group) (find (λ p. nat_le p.1.group.0 p.0.group.0) (zip s.groups (drop 1 s.groups)))
 
 abbrev pub request_fault : Parts → Option SnapshotFault
-request_fault s = option_map (λ p. RequestOrder p.1.request.request) (find (λ p. nat_le p.1.request.request.0 p.0.request.request.0) (zip (listed s) (drop 1 (listed s))))
+request_fault s =
+    option_map (λ p. RequestOrder p.1.request.request) (find (λ p. nat_le p.1.request.request.0 p.0.request.request.0) (zip (listed s) (drop 1 (listed s))))
 
 abbrev pub shape_fault : Parts → Option SnapshotFault
 shape_fault s = option_map (λ x. BadShape x.group) (find (λ x. not (has_shape x)) s.groups)
 
 abbrev pub telescope_fault : Parts → Option SnapshotFault
-telescope_fault s = option_map (λ p. NoSuchTelescope p.1) (find (λ p. not (fits_after (length s.telescopes) p)) (flat_map (λ x. with_last x.request.telescopes) (listed s)))
+telescope_fault s =
+    option_map (λ p. NoSuchTelescope p.1) (find (λ p. not (fits_after (length s.telescopes) p)) (flat_map (λ x. with_last x.request.telescopes) (listed s)))
 
 abbrev pub fade_fault : Parts → Option SnapshotFault
 fade_fault s = option_map (λ x. FadeRange x.request.request) (find (λ x. nat_lt 1000 x.request.fade) (listed s))
@@ -138,7 +140,9 @@ quota_range_fault s = option_map (λ i. QuotaRange i) (position (λ q. nat_lt 10
 
 -- the first fault, each test over the whole before the next
 abbrev pub fault_of : Parts → Option SnapshotFault
-fault_of s = first_some (limit_fault s ∷ span_fault s ∷ apart_fault s ∷ group_fault s ∷ request_fault s ∷ shape_fault s ∷ telescope_fault s ∷ fade_fault s ∷ quota_fault s ∷ quota_range_fault s ∷ [])
+fault_of s =
+    first_some (limit_fault s ∷ span_fault s ∷ apart_fault s ∷ group_fault s ∷ request_fault s ∷ shape_fault s ∷ telescope_fault s ∷ fade_fault s
+    ∷ quota_fault s ∷ quota_range_fault s ∷ [])
 
 -- each span has a second, and ends before the next begins
 pub record IsSortedApart (spans : List Span) : Type 0 where

@@ -72,7 +72,8 @@ IsReason s claim (QuotaOver quota seconds most) =
     × (seconds ≡ quota_seconds s quota (requests_of claim.placements)) × (most ≡ quota_at s quota)
 IsReason s claim (PriceCount given wanted) = (given ≡ length claim.prices.0) × (wanted ≡ length (listed s)) × (given ≢ wanted)
 IsReason s claim (PriceRange i) = IsFirst (λ j. (j < length claim.prices.0) × ¬ (IsPriceInRange (slice_index_or claim.prices.0 j (pos 0)))) i
-IsReason s claim (QuotaPriceCount given wanted) = (given ≡ length claim.quota_prices.0) × (wanted ≡ length s.quotas) × ¬ (IsQuotaPriceCount s claim.quota_prices.0)
+IsReason s claim (QuotaPriceCount given wanted) =
+    (given ≡ length claim.quota_prices.0) × (wanted ≡ length s.quotas) × ¬ (IsQuotaPriceCount s claim.quota_prices.0)
 IsReason s claim (QuotaPriceRange i) = IsFirst (λ j. 200000 < slice_index_or claim.quota_prices.0 j 0) i
 IsReason s claim (ValueDiffers claimed found) = (claimed ≡ claim.value) × (found ≡ value_of_plan s claim.placements) × (claimed ≢ found)
 IsReason s claim (BoundDiffers claimed found) = (claimed ≡ claim.bound) × IsBound s claim.prices.0 claim.quota_prices.0 (pos found) × (claimed ≢ found)

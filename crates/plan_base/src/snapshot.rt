@@ -63,7 +63,7 @@ impl Snapshot {
     }
 
     /// How many requests there are, at most 1,024.
-    pub fn requests(&self) -> usize
+    pub fn request_count(&self) -> usize
         ensures value { result ≡ length (listed self.now) }
         ensures few { result ≤ 1024 }
     {

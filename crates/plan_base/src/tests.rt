@@ -272,7 +272,7 @@ fn readings_of_a_snapshot(rt: HostRuntime) -> Result<(), AllocError> {
     let taken = taken.copy(alloc)?;
     assert_eq!(rt; taken.caller, 1);
     assert_eq!(rt; taken.settings.rounds, 8);
-    assert_eq!(rt; taken.snapshot.requests(), 5);
+    assert_eq!(rt; taken.snapshot.request_count(), 5);
     assert_eq!(rt; taken.snapshot.parts().groups.len(), 2);
     for (number, want) in [
         (6, None),

@@ -72,10 +72,13 @@ ReadsOver old a new b = (bytes : List ℕ) × ((lost : List ℕ) × Consumes a b
 -- ReadFault: no whole line is left, within the limits.
 -- InputOver: no whole line is left and more bytes were taken than allowed, or one line more than allowed has begun.
 abbrev pub NextIs : LinesSeen → Option (List ℕ) → LinesSeen → Option (List ℕ) → LineAnswer → Type 0
-NextIs old a new b (Line line) = ((ReadsOn old a (line ∷ []) new b × (new.ended ≡ false)) ⊎ (ReadsLast old a line new b × (new.ended ≡ true))) × (new.taken ≤ new.most_bytes) × (new.answered ≤ new.most_lines) × (new.failed ≡ false)
+NextIs old a new b (Line line) =
+    ((ReadsOn old a (line ∷ []) new b × (new.ended ≡ false)) ⊎ (ReadsLast old a line new b × (new.ended ≡ true))) × (new.taken ≤ new.most_bytes)
+    × (new.answered ≤ new.most_lines) × (new.failed ≡ false)
 NextIs old a new b End = ReadsOn old a [] new b × IsFresh new × IsWithin new × (new.failed ≡ false) × (new.ended ≡ true) × (old.ended ≡ false → IsAtEnd b)
 NextIs old a new b ReadFault = ReadsOn old a [] new b × NoNewline new.held × IsWithin new × (new.failed ≡ true) × (new.ended ≡ false)
-NextIs old a new b InputOver = (ReadsOver old a new b ⊎ (ReadsOn old a [] new b × BeginsTooMany new)) × ¬ IsWithin new × (new.failed ≡ false) × (new.ended ≡ false)
+NextIs old a new b InputOver =
+    (ReadsOver old a new b ⊎ (ReadsOn old a [] new b × BeginsTooMany new)) × ¬ IsWithin new × (new.failed ≡ false) × (new.ended ≡ false)
 
 -- the count of faults never falls; it rose in this call, or an earlier call of the reader answered ReadFault
 abbrev pub NextCause : LinesSeen → ℕ → ℕ → LineAnswer → Type 0

@@ -31,7 +31,11 @@ SoFar start a lines now b = (ReadsOn start a lines now b × (now.ended ≡ false
 -- InputOver: more bytes were taken than allowed, and they are those whose newline is within the limit; or more lines began than allowed, and they are the first.
 abbrev pub AllRead : ℕ → ℕ → Option (List ℕ) → List ScriptLine → LineAnswer → Option (List ℕ) → Type 0
 AllRead most_bytes most_lines a lines (Line line) b = ⊥
-AllRead most_bytes most_lines a lines End b = (given : List ℕ) × IfSome a (λ bytes. bytes ≡ given) × (lines_of given ≡ lines) × (length given ≤ most_bytes) × (length lines ≤ most_lines)
-AllRead most_bytes most_lines a lines ReadFault b = (given : List ℕ) × Consumes a b given × (lines ≡ whole_lines_of given) × (length given ≤ most_bytes) × (length lines ≤ most_lines)
+AllRead most_bytes most_lines a lines End b =
+    (given : List ℕ) × IfSome a (λ bytes. bytes ≡ given) × (lines_of given ≡ lines) × (length given ≤ most_bytes) × (length lines ≤ most_lines)
+AllRead most_bytes most_lines a lines ReadFault b =
+    (given : List ℕ) × Consumes a b given × (lines ≡ whole_lines_of given) × (length given ≤ most_bytes) × (length lines ≤ most_lines)
 AllRead most_bytes most_lines a lines InputOver b =
-    (given : List ℕ) × Consumes a b given × (((most_bytes < length given) × (lines ≡ whole_lines_of (take most_bytes given))) ⊎ ((length given ≤ most_bytes) × (most_lines < length (lines_of given)) × (lines ≡ take most_lines (whole_lines_of given))))
+    (given : List ℕ) × Consumes a b given
+        × (((most_bytes < length given) × (lines ≡ whole_lines_of (take most_bytes given)))
+        ⊎ ((length given ≤ most_bytes) × (most_lines < length (lines_of given)) × (lines ≡ take most_lines (whole_lines_of given))))

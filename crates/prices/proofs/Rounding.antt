@@ -9,7 +9,7 @@ use Rattle.plan_base.specs.declared.parts.Parts.{Parts}
 use Rattle.plan_base.specs.declared.claim.Placement.{Placement}
 use Rattle.plan_base.specs.Requests.{Listed, listed, place_of, known_or, seconds_of}
 use Rattle.plan_base.specs.Snapshot.{IsOrderly}
-use Rattle.plan_base.specs.Bound.{price, charge, net_price}
+use Rattle.plan_base.specs.Bound.{price, quota_cost, net_price}
 use Rattle.plan_base.specs.Verdict.{IsPriceInRange}
 use Rattle.plan_base.specs.Round.{is_taken, uses_of, demand_of, moved_price, moved_quota_price, next_prices, next_quota_prices}
 use Rattle.plan_base.proofs.Known.{IsListedAs, known_as}
@@ -42,7 +42,7 @@ net_at s prices quota_prices r count = elim (below_or_from (place_of s r) (lengt
       let past : price s (net_prices s prices quota_prices) r ≡ pos 0 = get_or_past (net_prices s prices quota_prices) (place_of s r) (pos 0) (omega arith) in
       let own : price s prices r ≡ pos 0 = get_or_past prices (place_of s r) (pos 0) (omega arith) in
       let free : net_price s prices quota_prices r ≡ price s prices r -ℤ pos 0
-      = ap (λ (o : Option ℕ). price s prices r -ℤ pos (charge quota_prices (seconds_of s r) o)) (unknown (λ x. x.quota) None s r none)
+      = ap (λ (o : Option ℕ). price s prices r -ℤ pos (quota_cost quota_prices (seconds_of s r) o)) (unknown (λ x. x.quota) None s r none)
       in
       past ∙ sym (free ∙ less_none (price s prices r) own)
 ]

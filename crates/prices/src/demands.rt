@@ -16,7 +16,7 @@ pub(crate) fn add_demands(snapshot: &Snapshot, taken: &[bool], demands: &mut [u6
     ensures count { length demands.new ≡ length demands.old }
     ensures demand { (c : ℕ → ℤ) (q : ℕ) → AreTaken snapshot.now c taken.now → slice_index_or demands.new q 0 ≡ demand_of snapshot.now c q }
 {
-    for place in 0..snapshot.requests() {
+    for place in 0..snapshot.request_count() {
         if taken[place] {
             add_request(snapshot, place, demands);
         }

@@ -59,7 +59,7 @@ fn taken_flags(snapshot: &Snapshot, net: &[i64]) -> [bool; MOST_REQUESTS]
     ensures room { length (listed snapshot.now) ≤ 1024 }
     ensures taken { AreTaken snapshot.now (price snapshot.now net.now) result }
 {
-    let _few = snapshot.requests();
+    let _few = snapshot.request_count();
     let mut taken = [false; MOST_REQUESTS];
     write_taken(snapshot, net, &mut taken);
     taken

@@ -16,7 +16,8 @@ pub record IsSound (c : Cadence) (seconds : ℕ) (windows : List Span) : Type 0 
   pub begins_rise : IsNonDecreasingBy (λ w. w.from.0) windows
   pub ends_rise : IsNonDecreasingBy (λ w. w.to.0) windows
   pub long : All (λ w. w.from.0 + seconds ≤ w.to.0) windows
-  pub each : (k : ℕ) → centre c k < c.end.0 → Contains windows (window c (centre c k)) ⊎ ((window c (centre c k)).to.0 < (window c (centre c k)).from.0 + seconds)
+  pub each : (k : ℕ) → centre c k < c.end.0 → Contains windows (window c (centre c k))
+      ⊎ ((window c (centre c k)).to.0 < (window c (centre c k)).from.0 + seconds)
 
 -- whatever a cadence is expanded to is sound
 abbrev pub WindowsAreSound : Type 0

@@ -35,7 +35,8 @@ publish_of d =
 
 -- the form of that name, where the members have it
 abbrev pub form_of : List ℕ → Data → Option Command
-form_of name d = if bytes_eq name (codes "open") then open_of d else (if bytes_eq name (codes "submit") then submit_of d else (if bytes_eq name (codes "plan") then Some Plan else (if bytes_eq name (codes "publish") then publish_of d else None)))
+form_of name d =
+    if bytes_eq name (codes "open") then open_of d else (if bytes_eq name (codes "submit") then submit_of d else (if bytes_eq name (codes "plan") then Some Plan else (if bytes_eq name (codes "publish") then publish_of d else None)))
 
 -- the command of a value: an object whose member `do` names a form that the other members have
 abbrev pub command_of_data : Data → Option Command

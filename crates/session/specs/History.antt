@@ -89,7 +89,8 @@ HasTaken before caller v = (t : EventEntry) × (last_or None (entries_of caller 
 abbrev pub IsPublication : StateSeen → ℕ → Reply → Type 0
 IsPublication s v (Refused (Stale asked newer)) = (v < s.version) × (asked ≡ v) × (newer ≡ s.version)
 IsPublication s v (Refused (TooManyStarts count)) = (v ≡ s.version) × ((parts : Parts) × IsSnapshotOf s parts × IsStartCount parts count × (1048576 < count))
-IsPublication s v (Published claim) = (v ≡ s.version) × ((parts : Parts) × IsSnapshotOf s parts × ((n : ℕ) → IsStartCount parts n → n ≤ 1048576) × IsCertified parts claim)
+IsPublication s v (Published claim) =
+    (v ≡ s.version) × ((parts : Parts) × IsSnapshotOf s parts × ((n : ℕ) → IsStartCount parts n → n ≤ 1048576) × IsCertified parts claim)
 IsPublication s v _ = ⊥
 
 -- what an entry may reply that is this much of its line: a step, a Take of a plan, or the Publish of the caller's Take

@@ -16,4 +16,6 @@ is_change (Refused refusal) = false
 
 -- the version of an entry is the number of changes that were accepted before it
 abbrev pub VersionsCount : Type 0
-VersionsCount = (scripts : List (List ScriptLine)) (history before after : List EventEntry) (e : EventEntry) → IsLegal scripts history → history ≡ before ++ e ∷ after → e.version ≡ count_by (λ x. is_change x.reply) before
+VersionsCount =
+    (scripts : List (List ScriptLine)) (history before after : List EventEntry) (e : EventEntry) → IsLegal scripts history → history ≡ before ++ e ∷ after
+    → e.version ≡ count_by (λ x. is_change x.reply) before

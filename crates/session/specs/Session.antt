@@ -51,7 +51,9 @@ IsBoundedReply s reply = (claim : Claim) → reply ≡ Published claim → (part
 
 -- each claim that the history publishes, whether it was planned or sent, is bounded for the snapshot of its version
 abbrev pub IsBoundedHistory : List (List ScriptLine) → List EventEntry → Type 0
-IsBoundedHistory scripts history = (before after : List EventEntry) (e : EventEntry) → history ≡ before ++ e ∷ after → (claim : Claim) → e.reply ≡ Published claim → (s : Parts) × Publishes scripts before e s claim × IsPublishedClaim e.what s claim
+IsBoundedHistory scripts history =
+    (before after : List EventEntry) (e : EventEntry) → history ≡ before ++ e ∷ after → (claim : Claim) → e.reply ≡ Published claim → (s : Parts)
+    × Publishes scripts before e s claim × IsPublishedClaim e.what s claim
 
 -- ---- a session
 
@@ -118,7 +120,8 @@ SessionCause reads reads' writes writes' _ = Unit {0}
 
 -- what is written of these lines at each status
 abbrev pub TextIs : List ScriptLine → Option (List ℕ) → Option (List ℕ) → Status → Type 0
-TextIs lines old new Done = (length lines ≤ 65536) × ((history : List EventEntry) × IsSound lines history × IsWhole (lines ∷ []) history × Adds old new (text_of_history history))
+TextIs lines old new Done =
+    (length lines ≤ 65536) × ((history : List EventEntry) × IsSound lines history × IsWhole (lines ∷ []) history × Adds old new (text_of_history history))
 TextIs lines old new WriteFault = (length lines ≤ 65536) × ((history : List EventEntry) × IsSound lines history × WritesFront old new (text_of_history history))
 TextIs lines old new NoMemory = (length lines ≤ 65536) × ((history : List EventEntry) × IsSound lines history × WritesFront old new (text_of_history history))
 TextIs lines old new InputOver = 65536 < length lines

@@ -46,7 +46,8 @@ step_open s o (Some before) = refused s AlreadyOpened
 -- an opened desk takes up to 512 submissions
 abbrev pub step_submit : StateSeen → Submission → Option Opening → Stepped
 step_submit s q None = refused s NotOpened
-step_submit s q (Some before) = if nat_lt (length s.submissions) 512 then record { reply = submitted (next_number s); state = record { version = s.version + 1; opening = s.opening; submissions = s.submissions ++ q ∷ [] } } else refused s NotBuilt
+step_submit s q (Some before) =
+    if nat_lt (length s.submissions) 512 then record { reply = submitted (next_number s); state = record { version = s.version + 1; opening = s.opening; submissions = s.submissions ++ q ∷ [] } } else refused s NotBuilt
 
 -- what a command does, but for two on an opened desk: a plan is a Take and a Publish, and a claim is answered by the verdict on it
 abbrev pub step : StateSeen → Command → Stepped

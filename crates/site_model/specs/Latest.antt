@@ -41,7 +41,9 @@ LeadsTo (line ∷ lines) old new = (next : List (List Span)) × IsClosureLine li
 
 -- a second is closed where the latest line that is about it is a closure
 abbrev pub LatestDecides : Type 0
-LatestDecides = (lines : List ClosureLine) (closures : List (List Span)) → LeadsTo lines no_calendar.closures closures → (t x : ℕ) → has (set_at closures t) x ≡ is_closed lines t x
+LatestDecides =
+    (lines : List ClosureLine) (closures : List (List Span)) → LeadsTo lines no_calendar.closures closures → (t x : ℕ)
+    → has (set_at closures t) x ≡ is_closed lines t x
 
 -- a second of the night is usable where the lines have not closed it
 abbrev pub UsableByLatest : Type 0
@@ -51,4 +53,5 @@ UsableByLatest = (lines : List ClosureLine) (closures : List (List Span)) → Le
 -- a line of a network is one with the list of the telescopes in its scope
 abbrev pub ScopeIsList : Type 0
 ScopeIsList = (r : RegistrySeen) (scope : Scope) (numbers : List TelescopeNo) → IsScopeList r scope numbers
-    → (change : Change) (spans : List Span) (old new : List (List Span)) → IsClosureLine change (InScope r scope) spans old new → IsClosureLine change (IsListed numbers) spans old new
+    → (change : Change) (spans : List Span) (old new : List (List Span)) → IsClosureLine change (InScope r scope) spans old new
+        → IsClosureLine change (IsListed numbers) spans old new

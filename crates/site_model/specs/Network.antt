@@ -31,7 +31,8 @@ sets_night n site spans = option_map_or (λ s. record n { calendar = with_night 
 
 -- the numbers of a target and a site
 abbrev pub sky_key : RegistrySeen → List ℕ → List ℕ → Option SkyKey
-sky_key r target site = option_and_then (λ t. option_map (λ s. record { target = record { 0 = t }; site = record { 0 = s } }) (number_of r.sites site)) (number_of r.targets target)
+sky_key r target site =
+    option_and_then (λ t. option_map (λ s. record { target = record { 0 = t }; site = record { 0 = s } }) (number_of r.sites site)) (number_of r.targets target)
 
 -- with a number for the target, and another sky of it at a site
 abbrev pub sets_visibility : NetworkSeen → List ℕ → List ℕ → List Span → NetworkSeen

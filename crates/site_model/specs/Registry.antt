@@ -122,7 +122,8 @@ fits t class site enclosure code instrument =
 
 -- whether telescope t fits
 abbrev pub fits_at : RegistrySeen → ℕ → List ℕ → Option (List ℕ) → Option (List ℕ) → Option (List ℕ) → List ℕ → Bool
-fits_at r t class site enclosure code instrument = option_map_or (λ telescope. fits telescope class site enclosure code instrument) (slice_get r.telescopes t) false
+fits_at r t class site enclosure code instrument =
+    option_map_or (λ telescope. fits telescope class site enclosure code instrument) (slice_get r.telescopes t) false
 
 -- telescope t is one of those that a closure or a reopening is about
 abbrev pub InScope : RegistrySeen → Scope → ℕ → Type 0

@@ -14,7 +14,8 @@ seen_telescope instruments entry = record { code = entry.0; class = entry.1.clas
 
 -- what is seen of the fields
 abbrev pub seen_registry : Inside → RegistrySeen
-seen_registry a = record { instruments = a.instruments.entries; sites = a.sites.keys; telescopes = map (seen_telescope (keys_of a.instruments.entries)) a.telescopes.entries; targets = a.targets.keys }
+seen_registry a =
+    record { instruments = a.instruments.entries; sites = a.sites.keys; telescopes = map (seen_telescope (keys_of a.instruments.entries)) a.telescopes.entries; targets = a.targets.keys }
 
 -- the instruments and the site of a telescope are registered
 pub record IsTied (instruments sites : List (List ℕ)) (entry : Code × Telescope) : Type 0 where

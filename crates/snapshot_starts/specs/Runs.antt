@@ -26,7 +26,9 @@ IsStartBefore a b = (a.request.0 < b.request.0) ⊎ ((a.request ≡ b.request) �
 
 -- run a is before run b by request, then telescope, then slice, and on one telescope a slice of neither lies between them
 abbrev pub IsRunBefore : Run → Run → Type 0
-IsRunBefore a b = (a.request.0 < b.request.0) ⊎ ((a.request ≡ b.request) × ((a.telescope.0 < b.telescope.0) ⊎ ((a.telescope ≡ b.telescope) × (a.first.0 + a.count < b.first.0))))
+IsRunBefore a b =
+    (a.request.0 < b.request.0) ⊎ ((a.request ≡ b.request)
+    × ((a.telescope.0 < b.telescope.0) ⊎ ((a.telescope ≡ b.telescope) × (a.first.0 + a.count < b.first.0))))
 
 -- the run has a slice, each of its slices is a start, and neither the slice before them nor the one after them is
 pub record IsGreatestRow (starts : List Placement) (run : Run) : Type 0 where

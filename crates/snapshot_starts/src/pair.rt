@@ -27,7 +27,7 @@ pub(crate) fn pairs_of(alloc: Global, snapshot: &Snapshot) -> Result<Vec<Pair>, 
     ensures { IfOk result (λ pairs. pairs.items ≡ pairs_of snapshot.now) }
 {
     let mut pairs = Vec::new(alloc);
-    for place in 0..snapshot.requests() {
+    for place in 0..snapshot.request_count() {
         push_pairs(&mut pairs, snapshot.request_at(place))?;
     }
     Ok(pairs)

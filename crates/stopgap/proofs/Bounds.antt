@@ -12,7 +12,7 @@ use Rattle.plan_base.specs.declared.claim.Placement.{Placement}
 use Rattle.plan_base.specs.Sums.{total}
 use Rattle.plan_base.specs.Requests.{Listed, listed, place_of, group_of, quota_of, seconds_of, IsOf}
 use Rattle.plan_base.specs.Starts.{IsPossibleStart, worth_at}
-use Rattle.plan_base.specs.Bound.{price, weight, surplus, IsBest, charge, net_price, IsRebate, IsBound}
+use Rattle.plan_base.specs.Bound.{price, weight, surplus, IsBest, quota_cost, net_price, IsRebate, IsBound}
 use Rattle.plan_base.specs.Snapshot.{IsOrderly}
 use Rattle.plan_base.proofs.Totals.{total_map, total_none, total_of_naturals}
 use Rattle.stopgap.specs.Stopgap.{IsSimple, StandsAt, only_at, value_prices}
@@ -71,7 +71,7 @@ best_none s t k simple orderly = record {
 net_price_is : (s : Parts) (i : ℕ) (q : RequestPart) → StandsAt s i q → net_price s (value_prices s) [] q.request.0 ≡ pos q.value
 net_price_is s i q stands =
     let cost : price s (value_prices s) q.request.0 ≡ pos q.value = price_is s i q stands in
-    let none : charge [] (seconds_of s q.request.0) (quota_of s q.request.0) ≡ 0 = ap (λ (o : Option ℕ). charge [] (seconds_of s q.request.0) o) (quota_is s i q stands) in
+    let none : quota_cost [] (seconds_of s q.request.0) (quota_of s q.request.0) ≡ 0 = ap (λ (o : Option ℕ). quota_cost [] (seconds_of s q.request.0) o) (quota_is s i q stands) in
     rw (cost, none) (omega (arith, ints))
 
 -- the group's request is a request of the group, and no other is

@@ -93,7 +93,7 @@ fn rebate_and_bound(
     quota_prices: &QuotaPrices,
 ) -> Result<(i64, u64), Fail> {
     if snapshot.parts().groups.is_empty()
-        || prices.0.len() != snapshot.requests()
+        || prices.0.len() != snapshot.request_count()
         || !are_in_range(prices.0.as_slice())
         || !are_small(quota_prices.0.as_slice())
     {

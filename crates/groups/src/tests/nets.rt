@@ -85,7 +85,7 @@ fn assert_row(rt: &impl Abort, alloc: Global, row: &Row) -> Result<(), Fail> {
     let prices = Prices(ListOf::from_vec(Vec::from_slice(alloc, &row.prices)?));
     let quota_prices = QuotaPrices(ListOf::from_vec(Vec::from_slice(alloc, row.quota_prices)?));
     let mut nets = Prices(ListOf::from_vec(Vec::from_slice(alloc, &[1; 6])?));
-    assert!(rt; snapshot.requests() == 6);
+    assert!(rt; snapshot.request_count() == 6);
     let parts = snapshot.parts();
     assert!(rt; parts.groups.len() == 4);
     assert!(rt; are_in_ranges(&prices, &quota_prices));

@@ -59,7 +59,7 @@ fn assert_row(rt: &impl Abort, alloc: Global, row: &Row) -> Result<(), Fail> {
     let snapshot = group_of(rt, alloc, row.op, row.prices.len())?;
     let prices = prices_of(alloc, row.prices)?;
     assert!(rt; snapshot.parts().groups.len() == 3);
-    assert!(rt; prices.0.len() == snapshot.requests());
+    assert!(rt; prices.0.len() == snapshot.request_count());
     assert!(rt; are_in_range(prices.0.as_slice()));
     assert_eq!(rt; rebate(&snapshot, 1, &prices), row.rebate);
     assert_eq!(rt; row.taken.len(), row.prices.len());

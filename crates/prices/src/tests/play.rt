@@ -96,8 +96,8 @@ fn nets_of(
 ) -> Result<Prices, Fail>
     ensures { IfOk result (λ nets. nets.0 ≡ net_prices snapshot.now prices.now.0 quota_prices.now.0) }
 {
-    let mut nets = zero_prices(alloc, snapshot.requests())?;
-    if prices.0.len() != snapshot.requests()
+    let mut nets = zero_prices(alloc, snapshot.request_count())?;
+    if prices.0.len() != snapshot.request_count()
         || quota_prices.0.len() != snapshot.parts().quotas.len()
         || !are_prices(prices.0.as_slice())
         || !are_quota_prices(quota_prices.0.as_slice())
@@ -124,7 +124,7 @@ fn are_quota_prices(prices: &[u32]) -> bool
 /// What a group gives at net prices.
 fn rebate_of(snapshot: &Snapshot, group: usize, nets: &Prices) -> Result<i64, Fail> {
     if group >= snapshot.parts().groups.len()
-        || nets.0.len() != snapshot.requests()
+        || nets.0.len() != snapshot.request_count()
         || !are_nets(nets.0.as_slice())
     {
         return Err(Fail::new("the net prices don't fit"));
@@ -173,8 +173,8 @@ fn move_on(
 ) -> Result<(), Fail> {
     let nets = nets_of(alloc, snapshot, prices, quota_prices)?;
     if round.number >= 256
-        || prices.0.len() != snapshot.requests()
-        || round.uses.len() != snapshot.requests()
+        || prices.0.len() != snapshot.request_count()
+        || round.uses.len() != snapshot.request_count()
         || quota_prices.0.len() != snapshot.parts().quotas.len()
         || !are_prices(prices.0.as_slice())
     {

@@ -6,7 +6,7 @@ use Rattle.prices.proofs.demands.add_demands.Goals.{then-taken-place, else-taken
 
 pub loop-place-preserved : goal.loop-place-preserved
 loop-place-preserved c =
-    let all = c.requests-place-end.ensures.value in
+    let all = c.request_count-place-end.ensures.value in
     let test = c.loop-place-test.true in
     let below : c.loop-place.place < length (listed c.args.snapshot.now) = omega arith in
     elim c.if-taken-place.branch [
