@@ -4,12 +4,9 @@ pub mod Filling
 pub mod Firsts
 pub mod GroupCounts
 pub mod GroupReasons
-pub mod Growing
-pub mod Here
 pub mod Marks
 pub mod PossibleStarts
 pub mod QuotaSums
-pub mod Rebated
 pub mod Requested
 pub mod Runs
 pub mod Seen

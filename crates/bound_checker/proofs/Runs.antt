@@ -16,8 +16,9 @@ use Rattle.plan_base.specs.Verdict.{IsPriceInRange}
 use Rattle.plan_base.proofs.Known.{IsListedAs, known_or_is}
 use Rattle.plan_base.proofs.Members.{listed_known, listed_as}
 use Rattle.bound_checker.specs.declared.nets.Nets.{Nets}
-use Rattle.bound_checker.specs.Nets.{nets_at, net_list, IsNets, IsNetInRange, price_of}
-use Rattle.bound_checker.proofs.Here.{element_at, place_at}
+use Rattle.plan_base.specs.NetPrices.{IsNetInRange}
+use Rattle.bound_checker.specs.Nets.{nets_at, net_list, IsNets, price_of}
+use Rattle.plan_base.proofs.Here.{element_at, place_at}
 
 -- the request q as it is listed
 abbrev listed_as_one : ℕ → Option ℕ → RequestPart → Listed

@@ -22,7 +22,7 @@ use Rattle.bound_checker.specs.Stretches.{DoesFit}
 use Rattle.bound_checker.specs.Offers.{IsOffer}
 use Rattle.bound_checker.specs.Sights.{StandsBelow, IsSkyAt, AreViews, IsClearSpans, spans_at, IsClear, IsInSight}
 use Rattle.bound_checker.specs.Listings.{CanStart}
-use Rattle.bound_checker.proofs.Here.{IsHere, element_at, usable_moments, sky_moments}
+use Rattle.plan_base.proofs.Here.{IsHere, element_at, usable_moments, sky_moments}
 
 -- what the sight of request q on telescope t is made of
 pub record IsSightOf (s : Parts) (t : ℕ) (q : RequestPart) (site : SiteNo) (x : Sight) : Type 0 where

@@ -20,7 +20,7 @@ use Rattle.bound_checker.specs.Tables.{row}
 use Rattle.bound_checker.specs.Offers.{IsOffer, offer_weight}
 use Rattle.bound_checker.specs.Sights.{AreViews}
 use Rattle.bound_checker.specs.Listings.{start_in, IsAdded, CanStart, IsStartOf, IsToldBy, IsListing, IsBefore}
-use Rattle.bound_checker.proofs.Here.{IsHere}
+use Rattle.plan_base.proofs.Here.{IsHere}
 use Rattle.bound_checker.proofs.Seen.{IsSightOf, hidden_never, seen_if_possible, possible_if_seen}
 
 below_or_at : (a b : ℕ) → a < b + 1 → (a < b) ⊎ (a ≡ b)

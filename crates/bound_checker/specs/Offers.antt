@@ -7,14 +7,6 @@ use Rattle.plan_base.specs.Verdict.{IsPriceInRange}
 use Rattle.bound_checker.specs.declared.worth.Offer.{Offer}
 use Rattle.bound_checker.specs.Stretches.{IsObservation}
 
--- the numbers of the request are in their ranges
-pub record IsAsked (q : RequestPart) : Type 0 where
-  pub seconds_least : 1 ≤ q.seconds
-  pub seconds_most : q.seconds ≤ 86400
-  pub value : q.value ≤ 288000000
-  pub fade : q.fade ≤ 1000
-  pub moments : All (λ w. IsMoment w.from.0 × IsMoment w.to.0) q.windows
-
 -- the numbers of the offer are in their ranges
 pub record IsOfferRange (o : Offer) : Type 0 where
   pub observation : IsObservation o.observation

@@ -4,7 +4,8 @@ ghost use Rattle.std.specs.Prelude.{◌≡◌, ◌⊎◌, ◌+◌, ◌*◌, ◌<
 ghost use Rattle.plan_base.specs.Requests.{listed, members};
 ghost use Rattle.plan_base.specs.Bound.{net_price};
 ghost use Rattle.plan_base.specs.Verdict.{IsPriceInRange};
-ghost use Rattle.bound_checker.specs.Nets.{IsNets, IsNetInRange, net_list, price_of, positive, positive_sum, net_sum, IsGreatestNet};
+ghost use Rattle.plan_base.specs.NetPrices.{IsNetInRange, positive, positive_sum, price_sum, IsGreatestPrice};
+ghost use Rattle.bound_checker.specs.Nets.{IsNets, net_list, price_of};
 
 use plan_base::{Prices, QuotaPrices, RequestPart, Snapshot};
 
@@ -89,7 +90,7 @@ fn cost_of(quota_price: u32, seconds: u32) -> i64
 /// The sum of all net prices.
 pub(crate) fn net_sum(nets: &Nets) -> i64
     requires { IsNets nets.now }
-    ensures { result ≡ net_sum (net_list nets.now) }
+    ensures { result ≡ price_sum (net_list nets.now) }
 {
     let mut sum = Sum { value: 0 };
     for place in 0..nets.requests.len() {
@@ -113,7 +114,7 @@ pub(crate) fn positive_sum(nets: &Nets) -> i64
 /// The greatest net price, or 0 where none is above 0.
 pub(crate) fn greatest_net(nets: &Nets) -> i64
     requires { IsNets nets.now }
-    ensures { IsGreatestNet (net_list nets.now) result }
+    ensures { IsGreatestPrice (net_list nets.now) result }
 {
     let mut greatest = Sum { value: 0 };
     for place in 0..nets.requests.len() {

@@ -2,7 +2,8 @@
 
 ghost use Rattle.std.specs.Prelude.{◌≡◌, ◌≤◌};
 ghost use Rattle.plan_base.specs.Verdict.{IsPriceInRange};
-ghost use Rattle.bound_checker.specs.Offers.{IsAsked, IsOfferRange, IsOffer, offer_weight};
+ghost use Rattle.plan_base.specs.Asked.{IsAsked};
+ghost use Rattle.bound_checker.specs.Offers.{IsOfferRange, IsOffer, offer_weight};
 
 use crate::stretches::Observation;
 use plan_base::{RequestPart, faded, least_from, slices_for};

@@ -17,7 +17,7 @@ use Rattle.plan_base.specs.Round.{op_at, takes, is_taken}
 use Rattle.plan_base.proofs.Orders.{pairs_head, pairs_tail}
 use Rattle.plan_base.proofs.Totals.{total_map}
 use Rattle.plan_base.proofs.Members.{is_of_member, members_rise}
-use Rattle.groups.specs.Prices.{group_prices, price_sum, is_first_greatest}
+use Rattle.plan_base.specs.NetPrices.{group_prices, price_sum, is_first_greatest}
 
 -- what the group at place g takes of its requests
 pub taken_at : (s : Parts) (c : ℕ → ℤ) (g i : ℕ) (op : Op) → IsOrderly s → g < length s.groups → i < length (members s g) → IsKind s op g

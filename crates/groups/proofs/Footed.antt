@@ -16,7 +16,7 @@ use Rattle.plan_base.specs.Bound.{price, quota_cost, net_price}
 use Rattle.plan_base.proofs.Members.{listed_known}
 use Rattle.plan_base.proofs.Known.{IsListedAs, known_as, known_or_is, telescope_known, known_has}
 use Rattle.groups.specs.Footprints.{first_slot, end_slot}
-use Rattle.groups.specs.Prices.{net_prices}
+use Rattle.plan_base.specs.NetPrices.{net_prices}
 use Rattle.groups.proofs.Runs.{number_of, place_at}
 
 pub telescope_below : (s : Parts) (p : Placement) → IsOrderly s → IsPossibleStart s p → p.telescope.0 < 32

@@ -1,10 +1,8 @@
 pub mod Chosen
 pub mod Footed
-pub mod Growing
 pub mod Keeping
 pub mod NetRanges
 pub mod Opens
-pub mod Rebated
 pub mod Rooms
 pub mod Runs
 pub mod Shares

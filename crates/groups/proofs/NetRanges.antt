@@ -9,7 +9,7 @@ use Rattle.plan_base.specs.Bound.{net_price}
 use Rattle.plan_base.specs.Verdict.{IsPriceInRange}
 use Rattle.plan_base.proofs.Limits.{net_price_between}
 use Rattle.plan_base.proofs.Members.{listed_known}
-use Rattle.groups.specs.Prices.{IsNetInRange, net_prices}
+use Rattle.plan_base.specs.NetPrices.{IsNetInRange, net_prices}
 
 pub nets_in_range : (s : Parts) (prices : List ℤ) (quota_prices : List ℕ) → IsOrderly s → All IsPriceInRange prices → All (λ u. u ≤ 200000) quota_prices → All IsNetInRange (net_prices s prices quota_prices)
 nets_in_range s prices quota_prices o a u =

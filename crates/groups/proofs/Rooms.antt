@@ -27,7 +27,7 @@ use Rattle.groups.specs.declared.footprint.Footprint.{Footprint}
 use Rattle.groups.specs.declared.tables.Tables.{Tables}
 use Rattle.groups.specs.Footprints.{first_slot, end_slot, IsFootprint}
 use Rattle.groups.specs.Tables.{flag, within, same, towards, AreTables, HasRoom, IsLeftOut}
-use Rattle.groups.proofs.Rebated.{all_from_map}
+use Rattle.plan_base.proofs.GroupRebates.{all_from_map}
 use Rattle.groups.proofs.Shares.{sum_zero, zero_sum}
 use Rattle.groups.proofs.Told.{within_inside, within_above, same_self, same_above, flag_zero, flag_false, towards_named, seconds_told}
 

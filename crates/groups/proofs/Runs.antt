@@ -13,7 +13,7 @@ use Rattle.plan_base.specs.Snapshot.{IsOrderly, most_requests}
 use Rattle.plan_base.specs.Bound.{price}
 use Rattle.plan_base.proofs.Known.{IsListedAs}
 use Rattle.plan_base.proofs.Members.{listed_known, listed_as, is_of_member}
-use Rattle.groups.specs.Prices.{group_prices, IsGroupRun}
+use Rattle.plan_base.specs.NetPrices.{group_prices, IsGroupRun}
 
 abbrev pub number_of : Listed → ℕ
 number_of x = x.request.request.0

@@ -1,5 +1,4 @@
 pub mod Building
 pub mod Footprints
 pub mod Kept
-pub mod Prices
 pub mod Tables

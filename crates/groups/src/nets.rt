@@ -3,7 +3,7 @@
 ghost use Rattle.std.specs.Prelude.{◌≡◌, ◌<◌, ◌≤◌, ◌⊎◌, ◌*◌, ℤ, pos, ◌-ℤ◌, [], length, slice_index, slice_index_or, All, Some, HoldsAt};
 ghost use Rattle.plan_base.specs.Requests.{Listed, listed};
 ghost use Rattle.plan_base.specs.Bound.{quota_cost, net_price};
-ghost use Rattle.groups.specs.Prices.{IsNetInRange, net_prices};
+ghost use Rattle.plan_base.specs.NetPrices.{IsNetInRange, net_prices};
 
 use plan_base::{Prices, QuotaPrices, Snapshot};
 

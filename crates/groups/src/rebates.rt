@@ -5,7 +5,7 @@ ghost use Rattle.std.specs.List.{list_all};
 ghost use Rattle.plan_base.specs.Requests.{listed, members};
 ghost use Rattle.plan_base.specs.Bound.{price, IsRebate};
 ghost use Rattle.plan_base.specs.Round.{is_taken};
-ghost use Rattle.groups.specs.Prices.{IsNetInRange, group_prices, is_first_greatest, IsGroupRun};
+ghost use Rattle.plan_base.specs.NetPrices.{IsNetInRange, group_prices, is_first_greatest, IsGroupRun};
 
 use crate::sums::{greatest_price, positive, positive_sum, price_sum};
 use plan_base::{Op, Prices, Snapshot};

@@ -1,7 +1,7 @@
 // Sums of a group's prices, and their greatest.
 
 ghost use Rattle.std.specs.Prelude.{◌≡◌, ◌⊎◌, ◌≤◌, ◌*◌, ◌^◌, pos, neg_ℤ, ◌+ℤ◌, ◌≤ℤ◌, length, All};
-ghost use Rattle.groups.specs.Prices.{IsNetInRange, positive, positive_sum, price_sum, IsGreatestPrice};
+ghost use Rattle.plan_base.specs.NetPrices.{IsNetInRange, positive, positive_sum, price_sum, IsGreatestPrice};
 
 /// A sum that grows.
 #[derive(Clone, Copy)]

@@ -1,4 +1,3 @@
-pub mod Here
 pub mod Filling
 pub mod Adding
 pub mod Listed

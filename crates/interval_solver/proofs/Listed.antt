@@ -22,7 +22,7 @@ use Rattle.interval_solver.specs.Tables.{row}
 use Rattle.interval_solver.specs.Offers.{IsOffer}
 use Rattle.interval_solver.specs.Listings.{start_in, AreAdded, AreAllRuns, IsOfFirst, IsStartOf, IsToldBy, IsStartAt, IsListing}
 use Rattle.std.specs.Prelude.{HoldsAt}
-use Rattle.interval_solver.proofs.Here.{IsHere, request_here}
+use Rattle.plan_base.proofs.Here.{IsHere, request_here}
 
 below_or_at : (a b : ℕ) → a < b + 1 → (a < b) ⊎ (a ≡ b)
 below_or_at a b h = grind arith

@@ -11,7 +11,7 @@ use Rattle.plan_base.specs.Snapshot.{IsOrderly}
 use Rattle.plan_base.specs.Round.{uses_of}
 use Rattle.plan_base.proofs.Members.{listed_known}
 use Rattle.interval_solver.specs.Uses.{Started, count_of, AreUsesOf}
-use Rattle.interval_solver.proofs.Here.{place_at}
+use Rattle.plan_base.proofs.Here.{place_at}
 use Rattle.interval_solver.proofs.Listed.{same_number}
 use Rattle.interval_solver.proofs.Tallying.{same_or_not, one_where_same, none_where_not}
 

@@ -6,6 +6,10 @@ pub mod ComputedStarts
 pub mod Duality
 pub mod Empty
 pub mod FaultLemmas
+pub mod Filled
+pub mod GroupRebates
+pub mod Growing
+pub mod Here
 pub mod Known
 pub mod Limits
 pub mod Lists
@@ -20,10 +24,13 @@ pub mod RangeLemmas
 pub mod Rebates
 pub mod Removing
 pub mod RowLemmas
+pub mod RowTables
 pub mod Single
 pub mod Sizes
+pub mod Skies
 pub mod Small
 pub mod SpanStarts
 pub mod Split
+pub mod StartCounts
 pub mod Tables
 pub mod Totals

@@ -18,6 +18,7 @@ use Rattle.plan_base.specs.declared.span.Span.{Span}
 use Rattle.plan_base.specs.declared.number.TelescopeNo.{TelescopeNo}
 use Rattle.plan_base.specs.Requests.{listed}
 use Rattle.plan_base.proofs.Orders.{pairs_head}
+use Rattle.plan_base.specs.Skies.{IsSkyBelow}
 use Rattle.plan_base.specs.Snapshot.{IsSnapshot, IsOrderly, IsSortedApart, all_spans, is_apart, sky_below, skies_rise, most_requests, has_shape, fits_after, with_last, names_quota, span_fault, apart_fault, group_fault, request_fault, shape_fault, telescope_fault, fade_fault, quota_fault, quota_range_fault, limit_of, counts_of, all_counted, first_some, limit_fault}
 
 -- ---- absent values
@@ -151,25 +152,22 @@ all_apart s e =
 each_sorted : {X : Type 0} (spans : X → List Span) (xs : List X) → All (λ x. All (λ w. w.from.0 < w.to.0) (spans x)) xs → list_all (λ x. is_apart (spans x)) xs ≡ true → All (λ x. IsSortedApart (spans x)) xs
 each_sorted spans xs full e k d h = sorted_apart (spans _) (full k d h) (AllPass-from_list_all (λ x. is_apart (spans x)) xs e k d h)
 
-abbrev StandsBelow : Sky → Sky → Type 0
-StandsBelow y z = (y.target.0 < z.target.0) ⊎ ((y.target.0 ≡ z.target.0) × (y.site.0 < z.site.0))
-
-stands_below : (y z : Sky) → sky_below y z ≡ true → StandsBelow y z
+stands_below : (y z : Sky) → sky_below y z ≡ true → IsSkyBelow y z
 stands_below y z e = elim (or_cases _ _ e) [
   | inl l ↦ inl (ltb-true _ _ l)
   | inr r ↦ let both = and_parts _ _ r in inr (eqb-true _ _ both.0, ltb-true _ _ both.1)
 ]
 
-below_through : (x y z : Sky) → StandsBelow x y → StandsBelow y z → StandsBelow x z
+below_through : (x y z : Sky) → IsSkyBelow x y → IsSkyBelow y z → IsSkyBelow x z
 below_through x y z a b = elim a [
   | inl l ↦ elim b [ inl m ↦ inl (omega arith) | inr m ↦ inl (omega (arith, m.0)) ]
   | inr l ↦ elim b [ inl m ↦ inl (omega (arith, l.0)) | inr m ↦ inr (l.0 ∙ m.0, omega (arith, l.1, m.1)) ]
 ]
 
-skies_stand : (skies : List Sky) → skies_rise skies ≡ true → AllPairs StandsBelow skies
+skies_stand : (skies : List Sky) → skies_rise skies ≡ true → AllPairs IsSkyBelow skies
 skies_stand skies e =
-    pairs_of_adjacent StandsBelow below_through skies
-    (All-weaker (λ p. sky_below p.0 p.1 ≡ true) (λ p. StandsBelow p.0 p.1) (λ p. stands_below p.0 p.1) (zip skies (drop 1 skies)) (AllPass-from_list_all (λ p. sky_below p.0 p.1) (zip skies (drop 1 skies)) e))
+    pairs_of_adjacent IsSkyBelow below_through skies
+    (All-weaker (λ p. sky_below p.0 p.1 ≡ true) (λ p. IsSkyBelow p.0 p.1) (λ p. stands_below p.0 p.1) (zip skies (drop 1 skies)) (AllPass-from_list_all (λ p. sky_below p.0 p.1) (zip skies (drop 1 skies)) e))
 
 -- ---- groups and requests
 

@@ -10,30 +10,11 @@ use Rattle.plan_base.specs.declared.claim.Placement.{Placement}
 use Rattle.plan_base.specs.Snapshot.{IsOrderly}
 use Rattle.plan_base.specs.Starts.{IsPossibleStart, ShareSlice, size_of}
 use Rattle.plan_base.specs.Bound.{IsStartList, weight, surplus, IsBest}
+use Rattle.plan_base.specs.Tables.{IsStartOn, slice_after, horizon_end, IsTable}
 use Rattle.plan_base.specs.Canonical.{IsIdle, IsTight}
 use Rattle.plan_base.proofs.Sizes.{size_above}
 use Rattle.plan_base.proofs.Split.{total_split}
 use Rattle.plan_base.proofs.Single.{one_best}
-
--- a possible start of telescope t
-pub record IsStartOn (s : Parts) (t : ℕ) (p : Placement) : Type 0 where
-  pub possible : IsPossibleStart s p
-  pub same_telescope : p.telescope.0 ≡ t
-
--- the slice after the last of a start
-abbrev pub slice_after : Parts → Placement → ℕ
-slice_after s p = p.slice.0 + size_of s p.request.0
-
--- the slice after the horizon
-abbrev pub horizon_end : Parts → ℕ
-horizon_end s = s.first.0 + s.slices
-
--- each number is the greatest of the next one and of what each start at its slice gives
-pub record IsTable (s : Parts) (prices : List ℤ) (t : ℕ) (table : ℕ → ℤ) : Type 0 where
-  pub at_end : table (horizon_end s) ≡ pos 0
-  pub falling : (k : ℕ) → s.first.0 ≤ k → k < horizon_end s → table (suc k) ≤ℤ table k
-  pub above : (p : Placement) → IsStartOn s t p → (weight s prices p +ℤ table (slice_after s p)) ≤ℤ table p.slice.0
-  pub reached : (k : ℕ) → s.first.0 ≤ k → k < horizon_end s → (table k ≡ table (suc k)) ⊎ ((p : Placement) × IsStartOn s t p × (p.slice.0 ≡ k) × (table k ≡ weight s prices p +ℤ table (slice_after s p)))
 
 equal_from_test : (a b : ℕ) → (a == b) ≡ true → a ≡ b
 equal_from_test a b h = grind (arith, nat_tests)
@@ -44,7 +25,7 @@ differ_from_test a b h = grind (arith, nat_tests)
 same_number : (p q : Placement) → p.telescope.0 ≡ q.telescope.0 → p.telescope ≡ q.telescope
 same_number p q e = λ i. record { 0 = e i }
 
-share_symmetric : (s : Parts) (p q : Placement) → ShareSlice s p q → ShareSlice s q p
+pub share_symmetric : (s : Parts) (p q : Placement) → ShareSlice s p q → ShareSlice s q p
 share_symmetric s p q (e, k, a, b) = (sym e, k, b, a)
 
 -- of two starts of one list at different slices neither occupies a slice of the other

@@ -1,12 +1,17 @@
+pub mod Limits
 pub mod Sums
 pub mod Requests
+pub mod Skies
 pub mod Snapshot
 pub mod Faults
 pub mod Ranges
 pub mod Rows
 pub mod Starts
+pub mod Asked
 pub mod Feasible
 pub mod Bound
+pub mod NetPrices
+pub mod Tables
 pub mod Saturated
 pub mod Fill
 pub mod Canonical

@@ -1,22 +1,23 @@
 -- The ranges of a snapshot's numbers, as tests.
-use Rattle.std.specs.Prelude.{◌^◌, nat_le, Bool, ◌&&◌}
+use Rattle.std.specs.Prelude.{nat_le, Bool, ◌&&◌}
 use Rattle.std.specs.List.{list_all}
 use Rattle.plan_base.specs.declared.parts.Parts.{Parts}
 use Rattle.plan_base.specs.declared.parts.RequestPart.{RequestPart}
 use Rattle.plan_base.specs.declared.span.Span.{Span}
+use Rattle.plan_base.specs.Limits.{most_moment, most_seconds, most_value, most_slices}
 use Rattle.plan_base.specs.Faults.{all_requests}
 
 -- both ends are moments
 abbrev pub has_moments : Span → Bool
-has_moments w = nat_le w.from.0 (10 ^ 12) && nat_le w.to.0 (10 ^ 12)
+has_moments w = nat_le w.from.0 most_moment && nat_le w.to.0 most_moment
 
 -- the seconds and the value of the request are in their ranges
 abbrev pub has_ranges : RequestPart → Bool
-has_ranges q = nat_le 1 q.seconds && nat_le q.seconds 86400 && (nat_le 1 q.value && nat_le q.value 288000000)
+has_ranges q = nat_le 1 q.seconds && nat_le q.seconds most_seconds && (nat_le 1 q.value && nat_le q.value most_value)
 
 -- the numbers of the horizon are in their ranges
 abbrev pub has_horizon : Parts → Bool
-has_horizon s = nat_le s.version 524288 && (nat_le 60 s.len && nat_le s.len 3600) && nat_le s.first.0 4223371680 && (nat_le 1 s.slices && nat_le s.slices 1440)
+has_horizon s = nat_le s.version 524288 && (nat_le 60 s.len && nat_le s.len 3600) && nat_le s.first.0 4223371680 && (nat_le 1 s.slices && nat_le s.slices most_slices)
 
 -- all spans have moments at their ends
 abbrev pub has_all_moments : Parts → Bool

@@ -1,5 +1,5 @@
 -- Which parts are a snapshot, and the first fault of those that aren't.
-use Rattle.std.specs.Prelude.{◌≡◌, ℕ, ◌^◌, ◌≤◌, ◌<◌, nat_le, nat_lt, Bool, true, not, ◌&&◌, ◌||◌, ◌==◌, if◌then◌else◌, List, [], ◌∷◌, ◌++◌, length, map, drop, Option, Some, None, All, AllPairs, sum_by, find, position, ◌⊎◌}
+use Rattle.std.specs.Prelude.{◌≡◌, ℕ, ◌≤◌, ◌<◌, nat_le, nat_lt, Bool, true, not, ◌&&◌, ◌||◌, ◌==◌, if◌then◌else◌, List, [], ◌∷◌, ◌++◌, length, map, drop, Option, Some, None, All, AllPairs, sum_by, find, position, ◌⊎◌}
 use Rattle.std.specs.List.{flat_map, list_any, list_all, zip}
 use Rattle.std.specs.Option.{ForSome, option_map, option_or}
 use Rattle.plan_base.specs.declared.parts.Parts.{Parts}
@@ -13,11 +13,13 @@ use Rattle.plan_base.specs.declared.fault.Counted.{Counted}
 use Rattle.plan_base.specs.declared.fault.Counted.TheVariants.{Telescopes, Usable, Skies, Spans, Groups, Requests, Windows, Targets, Fits, Quotas}
 use Rattle.plan_base.specs.declared.fault.SnapshotFault.{SnapshotFault}
 use Rattle.plan_base.specs.declared.fault.SnapshotFault.TheVariants.{OverLimit, EmptySpan, NotApart, GroupOrder, RequestOrder, BadShape, NoSuchTelescope, FadeRange, NoSuchQuota, QuotaRange}
+use Rattle.plan_base.specs.Limits.{most_moment, most_slices, most_seconds, most_value, most_quota}
 use Rattle.plan_base.specs.Requests.{listed}
+use Rattle.plan_base.specs.Skies.{SkiesRise}
 
 -- a second before the last that a horizon may have
 abbrev pub IsMoment : ℕ → Type 0
-IsMoment x = x ≤ 10 ^ 12
+IsMoment x = x ≤ most_moment
 
 -- all spans of the usable times, then of the skies, then of the windows
 abbrev pub all_spans : Parts → List Span
@@ -30,9 +32,9 @@ pub record IsInRanges (s : Parts) : Type 0 where
   pub len_most : s.len ≤ 3600
   pub first : s.first.0 ≤ 4223371680
   pub slices_least : 1 ≤ s.slices
-  pub slices_most : s.slices ≤ 1440
-  pub seconds : All (λ x. (1 ≤ x.request.seconds) × (x.request.seconds ≤ 86400)) (listed s)
-  pub values : All (λ x. (1 ≤ x.request.value) × (x.request.value ≤ 288000000)) (listed s)
+  pub slices_most : s.slices ≤ most_slices
+  pub seconds : All (λ x. (1 ≤ x.request.seconds) × (x.request.seconds ≤ most_seconds)) (listed s)
+  pub values : All (λ x. (1 ≤ x.request.value) × (x.request.value ≤ most_value)) (listed s)
   pub moments : All (λ w. IsMoment w.from.0 × IsMoment w.to.0) (all_spans s)
 
 -- how many there may be
@@ -136,7 +138,7 @@ abbrev pub quota_fault : Parts → Option SnapshotFault
 quota_fault s = option_map (λ x. NoSuchQuota x.group) (find (λ x. not (names_quota (length s.quotas) x.quota)) s.groups)
 
 abbrev pub quota_range_fault : Parts → Option SnapshotFault
-quota_range_fault s = option_map (λ i. QuotaRange i) (position (λ q. nat_lt 100000000 q) s.quotas)
+quota_range_fault s = option_map (λ i. QuotaRange i) (position (λ q. nat_lt most_quota q) s.quotas)
 
 -- the first fault, each test over the whole before the next
 abbrev pub fault_of : Parts → Option SnapshotFault
@@ -160,7 +162,7 @@ pub record IsOrderly (s : Parts) : Type 0 where
   pub within : (what : Counted) → All (λ n. n ≤ limit_of what) (counts_of s what)
   pub usable : All (λ t. IsSortedApart t.usable) s.telescopes
   pub skies : All (λ y. IsSortedApart y.spans) s.skies
-  pub skies_rise : AllPairs (λ y z. (y.target.0 < z.target.0) ⊎ ((y.target.0 ≡ z.target.0) × (y.site.0 < z.site.0))) s.skies
+  pub skies_rise : SkiesRise s.skies
   pub windows : All (λ x. All (λ w. w.from.0 < w.to.0) x.request.windows) (listed s)
   pub groups_rise : AllPairs (λ x y. x.group.0 < y.group.0) s.groups
   pub requests_rise : AllPairs (λ x y. x.request.request.0 < y.request.request.0) (listed s)
@@ -169,4 +171,4 @@ pub record IsOrderly (s : Parts) : Type 0 where
   pub telescopes_rise : All (λ x. AllPairs (λ t u. t.0 < u.0) x.request.telescopes) (listed s)
   pub fades : All (λ x. x.request.fade ≤ 1000) (listed s)
   pub quotas : All (λ x. ForSome x.quota (λ q. q < length s.quotas)) s.groups
-  pub quota_ranges : All (λ q. q ≤ 100000000) s.quotas
+  pub quota_ranges : All (λ q. q ≤ most_quota) s.quotas

@@ -1,5 +1,5 @@
 -- Which claims are certified for a snapshot, and the first reason why another isn't.
-use Rattle.std.specs.Prelude.{◌≡◌, ◌≢◌, ℕ, ◌^◌, ◌≤◌, ◌<◌, ◌⊎◌, ℤ, pos, neg_ℤ, ◌≤ℤ◌, List, length, slice_get, slice_index_or, Option, Some, None, All, Contains, HoldsAt}
+use Rattle.std.specs.Prelude.{◌≡◌, ◌≢◌, ℕ, ◌≤◌, ◌<◌, ◌⊎◌, ℤ, pos, neg_ℤ, ◌≤ℤ◌, List, length, slice_get, slice_index_or, Option, Some, None, All, Contains, HoldsAt}
 use Rattle.plan_base.specs.declared.parts.Parts.{Parts}
 use Rattle.plan_base.specs.declared.parts.Op.TheVariants.{OneOf, And}
 use Rattle.plan_base.specs.declared.claim.Placement.{Placement}
@@ -8,14 +8,15 @@ use Rattle.plan_base.specs.declared.verdict.Reason.{Reason}
 use Rattle.plan_base.specs.declared.verdict.Reason.TheVariants.{UnknownRequest, PlacedTwice, NotPossible, Overlap, OneofTwice, AndPartial, QuotaOver, PriceCount, PriceRange, QuotaPriceCount, QuotaPriceRange, ValueDiffers, BoundDiffers}
 use Rattle.plan_base.specs.declared.verdict.Verdict.{Verdict}
 use Rattle.plan_base.specs.declared.verdict.Verdict.TheVariants.{Yes, No}
+use Rattle.plan_base.specs.Limits.{most_price, most_quota_price}
 use Rattle.plan_base.specs.Requests.{listed, IsKnown, IsOf, IsKind}
 use Rattle.plan_base.specs.Starts.{IsPossibleStart, ShareSlice, value_of_plan}
 use Rattle.plan_base.specs.Feasible.{requests_of, quota_seconds, quota_at, IsFeasible}
 use Rattle.plan_base.specs.Bound.{IsBound}
 
--- from -10^12 to 10^12
+-- not above the greatest size of a price
 abbrev pub IsPriceInRange : ℤ → Type 0
-IsPriceInRange p = (neg_ℤ (pos (10 ^ 12)) ≤ℤ p) × (p ≤ℤ pos (10 ^ 12))
+IsPriceInRange p = (neg_ℤ (pos most_price) ≤ℤ p) × (p ≤ℤ pos most_price)
 
 -- empty, or one for each quota
 abbrev pub IsQuotaPriceCount : Parts → List ℕ → Type 0
@@ -27,7 +28,7 @@ pub record IsCertified (s : Parts) (claim : Claim) : Type 0 where
   pub price_count : length claim.prices.0 ≡ length (listed s)
   pub price_range : All IsPriceInRange claim.prices.0
   pub quota_price_count : IsQuotaPriceCount s claim.quota_prices.0
-  pub quota_price_range : All (λ u. u ≤ 200000) claim.quota_prices.0
+  pub quota_price_range : All (λ u. u ≤ most_quota_price) claim.quota_prices.0
   pub value : claim.value ≡ value_of_plan s claim.placements
   pub bound : IsBound s claim.prices.0 claim.quota_prices.0 (pos claim.bound)
 
@@ -74,7 +75,7 @@ IsReason s claim (PriceCount given wanted) = (given ≡ length claim.prices.0) �
 IsReason s claim (PriceRange i) = IsFirst (λ j. (j < length claim.prices.0) × ¬ (IsPriceInRange (slice_index_or claim.prices.0 j (pos 0)))) i
 IsReason s claim (QuotaPriceCount given wanted) =
     (given ≡ length claim.quota_prices.0) × (wanted ≡ length s.quotas) × ¬ (IsQuotaPriceCount s claim.quota_prices.0)
-IsReason s claim (QuotaPriceRange i) = IsFirst (λ j. 200000 < slice_index_or claim.quota_prices.0 j 0) i
+IsReason s claim (QuotaPriceRange i) = IsFirst (λ j. most_quota_price < slice_index_or claim.quota_prices.0 j 0) i
 IsReason s claim (ValueDiffers claimed found) = (claimed ≡ claim.value) × (found ≡ value_of_plan s claim.placements) × (claimed ≢ found)
 IsReason s claim (BoundDiffers claimed found) = (claimed ≡ claim.bound) × IsBound s claim.prices.0 claim.quota_prices.0 (pos found) × (claimed ≢ found)
 

@@ -4,11 +4,13 @@ ghost use Rattle.std.specs.Prelude.{◌≡◌, ℕ, ◌+◌, ◌≤◌, ◌<◌,
 ghost use Rattle.std.specs.List.{list_any, list_all, zip, flat_map};
 ghost use Rattle.std.specs.Option.{option_map};
 ghost use Rattle.plan_base.specs.Snapshot.{all_spans, is_apart, sky_below, skies_rise, most_requests, has_shape, fits_after, names_quota, first_some, span_fault, apart_fault, group_fault, request_fault, shape_fault, telescope_fault, fade_fault, quota_fault, quota_range_fault};
+ghost use Rattle.plan_base.specs.Limits.{most_quota};
 ghost use Rattle.plan_base.specs.Rows.{rows_from};
 ghost use Rattle.plan_base.specs.declared.parts.Parts.{Parts};
 ghost use Rattle.plan_base.specs.Faults.{all_requests, has_empty, first_fall, first_unfit, unfit_in, fault_within_limits};
 
 use crate::fault::SnapshotFault;
+use crate::greatest::MOST_QUOTA;
 use crate::number::{RequestNo, TelescopeNo};
 use crate::parts::{GroupPart, Op, Parts, RequestPart, Sky};
 use crate::rows::Row;
@@ -300,8 +302,8 @@ fn quota_range_fault(parts: &Parts) -> Option<SnapshotFault>
 }
 
 fn excessive_quota(quotas: &[u64]) -> Option<usize>
-    ensures place { result ≡ position (λ q. nat_lt 100000000 q) quotas.now }
+    ensures place { result ≡ position (λ q. nat_lt most_quota q) quotas.now }
     ensures within { IfSome result (λ i. i < length quotas.now) }
 {
-    quotas.iter().position(|q| *q > 100_000_000)
+    quotas.iter().position(|q| *q > MOST_QUOTA)
 }

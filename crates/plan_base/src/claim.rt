@@ -12,17 +12,17 @@ pub struct Placement {
 }
 
 /// A price for each request of a snapshot, in their order: -10^12 to 10^12 in a claim that is certified.
-#[derive(Debug, Drop, PartialEq, Eq)]
+#[derive(Clone, Debug, Drop, PartialEq, Eq)]
 pub struct Prices(pub ListOf<i64>);
 
 /// A price for each second of each quota of a snapshot, 0 to 200,000 in a claim that is certified; the empty list
 /// stands for all 0.
-#[derive(Debug, Drop, PartialEq, Eq)]
+#[derive(Clone, Debug, Drop, PartialEq, Eq)]
 pub struct QuotaPrices(pub ListOf<u32>);
 
 /// A plan, and the prices by which no plan that is feasible is worth more than the bound (the Lagrangian dual bound of
 /// the model of Lampoudi, Saunders and Eastman 2015).
-#[derive(Debug, Drop, PartialEq, Eq)]
+#[derive(Clone, Debug, Drop, PartialEq, Eq)]
 pub struct Claim {
     pub placements: ListOf<Placement>,
     pub prices: Prices,

@@ -6,6 +6,7 @@ mod claim;
 mod copies;
 mod counts;
 mod fault;
+mod greatest;
 mod laws;
 mod list;
 mod name;
@@ -13,6 +14,7 @@ mod number;
 mod parts;
 mod ranges;
 mod rows;
+mod sky;
 mod slicing;
 mod snapshot;
 mod solved;
@@ -25,18 +27,25 @@ mod verdict;
 
 pub use claim::{Claim, Placement, Prices, QuotaPrices, Settings};
 pub use fault::{Counted, SnapshotFault};
-pub use laws::{bound_limit, empty_is_feasible, value_limit, weak_duality, worth_between};
-pub use list::ListOf;
+pub use greatest::{
+    MOST_MOMENT, MOST_PRICE, MOST_QUOTA, MOST_QUOTA_PRICE, MOST_REQUESTS, MOST_SECONDS,
+    MOST_SLICES, MOST_STARTS, MOST_TELESCOPES, MOST_VALUE,
+};
+pub use laws::{
+    bound_limit, bound_of_parts, empty_is_feasible, filled_is_saturated, table_has_bests,
+    value_limit, weak_duality, worth_between,
+};
+pub use list::{ListOf, repeated};
 pub use name::{NAME_BYTES, Name};
 pub use number::{GroupNo, RequestNo, Sec, SiteNo, SliceNo, TargetNo, TelescopeNo};
 pub use parts::{GroupPart, Op, Parts, RequestPart, Sky, TelescopePart};
-pub use slicing::{faded, least_from, slices_for};
+pub use slicing::{faded, larger, least_from, slices_for};
 pub use snapshot::Snapshot;
 pub use solved::Solved;
 pub use span::Span;
 pub use taken::{Outcome, Taken};
 pub use unique::{
     one_best, one_bound, one_canonical_use, one_filled_plan, one_rebate, one_repaired_plan,
-    one_round, one_verdict,
+    one_round, one_start_count, one_verdict,
 };
 pub use verdict::{Reason, Verdict};

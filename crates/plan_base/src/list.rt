@@ -1,10 +1,18 @@
 // The one list type of the public structs.
 
-ghost use Rattle.std.specs.Prelude.{◌≡◌, ℕ, ◌<◌, List, [], ◌∷◌, ◌++◌, length, slice_set, ◌==◌, IfOk, OnErr};
+ghost use Rattle.std.specs.Prelude.{◌≡◌, ℕ, ◌<◌, List, [], ◌∷◌, ◌++◌, length, replicate, slice_set, ◌==◌, IfOk, OnErr};
 ghost use Rattle.std.specs.Cmp.Lexicographic.{pointwise, lists_per, lists_equiv};
 
 use std::alloc::{AllocError, Global};
 use std::marker::Model;
+
+/// A vector of so many copies of an item. Fails only for want of memory.
+pub fn repeated<T: Copy + Drop>(alloc: Global, item: T, count: usize) -> Result<Vec<T>, AllocError>
+    requires { (a b : T) → T.is_clone a b → b ≡ a }
+    ensures { IfOk result (λ items. items.items ≡ replicate count item) }
+{
+    vec![in alloc; item; count]
+}
 
 /// A list, which contracts see as one.
 #[derive(Debug, Drop)]
@@ -83,13 +91,14 @@ impl<T: Drop> ListOf<T> {
     }
 }
 
-impl<T: Copy + Drop> ListOf<T> {
-    /// A list of the same elements. Fails only for want of memory.
-    pub fn copy(&self, alloc: Global) -> Result<Self, AllocError>
-        ensures { IfOk result (λ copy. copy ≡ self.now) }
-    {
+impl<T: Clone> Clone for ListOf<T> {
+    ghost use Rattle.std.specs.List.{AllZip};
+
+    ghost is_clone = { AllZip T.is_clone };
+
+    fn clone(&self) -> Result<Self, AllocError> {
         Ok(ListOf {
-            items: Vec::from_slice(alloc, self.items.as_slice())?,
+            items: self.items.clone()?,
         })
     }
 }

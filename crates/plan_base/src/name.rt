@@ -55,12 +55,13 @@ impl Name {
     {
         self.text.as_str()
     }
+}
 
-    /// The same name once more. Fails only for want of memory.
-    pub fn copy(&self, alloc: Global) -> Result<Name, AllocError>
-        ensures { IfOk result (λ copy. copy ≡ self.now) }
-    {
-        let text = String::from_str(alloc, self.text.as_str())?;
+impl Clone for Name {
+    ghost is_clone = { λ x y. y ≡ x };
+
+    fn clone(&self) -> Result<Name, AllocError> {
+        let text = self.text.clone()?;
         Ok(Name { text })
     }
 }

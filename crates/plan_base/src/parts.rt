@@ -1,8 +1,11 @@
 // What a snapshot holds: the telescopes, skies and groups of one desk at one version.
 
+ghost use Rattle.std.specs.Prelude.{◌≡◌};
+
 use crate::list::ListOf;
 use crate::number::{GroupNo, RequestNo, SiteNo, SliceNo, TargetNo, TelescopeNo};
 use crate::span::Span;
+use std::alloc::AllocError;
 
 /// How the requests of a group belong together.
 #[derive(Clone, Copy, Debug, PartialEq, Eq)]
@@ -18,7 +21,7 @@ pub enum Op {
 }
 
 /// A telescope; its number is its place in the snapshot's list.
-#[derive(Debug, Drop, PartialEq, Eq)]
+#[derive(Clone, Debug, Drop, PartialEq, Eq)]
 pub struct TelescopePart {
     pub site: SiteNo,
     /// When it can observe, sorted with gaps between the spans.
@@ -26,7 +29,7 @@ pub struct TelescopePart {
 }
 
 /// When a target can be observed from a site, sorted with gaps between the spans.
-#[derive(Debug, Drop, PartialEq, Eq)]
+#[derive(Clone, Debug, Drop, PartialEq, Eq)]
 pub struct Sky {
     pub target: TargetNo,
     pub site: SiteNo,
@@ -34,7 +37,7 @@ pub struct Sky {
 }
 
 /// An observation that is asked for.
-#[derive(Debug, Drop, PartialEq, Eq)]
+#[derive(Clone, Debug, Drop, PartialEq, Eq)]
 pub struct RequestPart {
     pub request: RequestNo,
     /// How long it takes, 1 to 86,400 seconds.
@@ -61,8 +64,22 @@ pub struct GroupPart {
     pub quota: Option<u16>,
 }
 
+// By hand, since a derived one says too little for a list of groups to be known as equal.
+impl Clone for GroupPart {
+    ghost is_clone = { λ x y. y ≡ x };
+
+    fn clone(&self) -> Result<GroupPart, AllocError> {
+        Ok(GroupPart {
+            group: self.group,
+            op: self.op,
+            requests: self.requests.clone()?,
+            quota: self.quota,
+        })
+    }
+}
+
 /// The parts of a snapshot. Requests are counted through the list of groups.
-#[derive(Debug, Drop, PartialEq, Eq)]
+#[derive(Clone, Debug, Drop, PartialEq, Eq)]
 pub struct Parts {
     /// How many changes the desk had accepted, 0 to 524,288.
     pub version: u64,

@@ -6,11 +6,9 @@ ghost use Rattle.plan_base.specs.Snapshot.{IsInRanges};
 ghost use Rattle.plan_base.specs.Faults.{all_requests};
 ghost use Rattle.plan_base.specs.Ranges.{has_moments, has_ranges, has_horizon, has_all_moments, is_in_ranges};
 
+use crate::greatest::{MOST_MOMENT, MOST_SECONDS, MOST_SLICES, MOST_VALUE};
 use crate::parts::{GroupPart, Parts, RequestPart, Sky, TelescopePart};
 use crate::span::Span;
-
-/// The last second that a span may name, since a horizon may end after the last moment of a document.
-const LAST_MOMENT: u64 = 1_000_000_000_000;
 
 impl Parts {
     /// Whether all numbers are in the ranges that a document allows them, as [`crate::Snapshot::build`] wants them:
@@ -34,7 +32,7 @@ fn has_horizon(parts: &Parts) -> bool
     parts.version <= 524_288
         && (60 <= parts.len && parts.len <= 3_600)
         && parts.first.0 <= 4_223_371_680
-        && (1 <= parts.slices && parts.slices <= 1_440)
+        && (1 <= parts.slices && parts.slices <= MOST_SLICES)
 }
 
 fn has_request_ranges(groups: &[GroupPart]) -> bool
@@ -50,8 +48,8 @@ fn has_ranges(request: &RequestPart) -> bool
     ensures { result ≡ has_ranges request.now }
 {
     1 <= request.seconds
-        && request.seconds <= 86_400
-        && (1 <= request.value && request.value <= 288_000_000)
+        && request.seconds <= MOST_SECONDS
+        && (1 <= request.value && request.value <= MOST_VALUE)
 }
 
 fn has_all_moments(parts: &Parts) -> bool
@@ -88,5 +86,5 @@ fn has_moments(spans: &[Span]) -> bool
 {
     spans
         .iter()
-        .all(|w| w.from.0 <= LAST_MOMENT && w.to.0 <= LAST_MOMENT)
+        .all(|w| w.from.0 <= MOST_MOMENT && w.to.0 <= MOST_MOMENT)
 }

@@ -1,6 +1,6 @@
-// Seconds as slices, and values that fade by the slice.
+// Seconds as slices, values that fade by the slice, and the larger of two.
 
-ghost use Rattle.std.specs.Prelude.{◌≡◌, ◌≤◌, map, fold, min, All};
+ghost use Rattle.std.specs.Prelude.{◌≡◌, ◌≤◌, ◌⊎◌, ◌≤ℤ◌, map, fold, min, All};
 ghost use Rattle.plan_base.specs.Snapshot.{IsMoment};
 ghost use Rattle.plan_base.specs.Starts.{slices_for, least_of, faded};
 
@@ -53,4 +53,13 @@ fn least_after(first: u64, windows: &[Span]) -> u64
         least = least.min(window.from.0);
     }
     least
+}
+
+/// The larger of two numbers.
+pub fn larger(a: i64, b: i64) -> i64
+    ensures first { a ≤ℤ result }
+    ensures second { b ≤ℤ result }
+    ensures one { (result ≡ a) ⊎ (result ≡ b) }
+{
+    if b > a { b } else { a }
 }

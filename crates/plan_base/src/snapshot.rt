@@ -1,15 +1,17 @@
 // Parts to which no fault applies, with a row for each request.
 
-ghost use Rattle.std.specs.Prelude.{◌≡◌, ◌≢◌, ◌≤◌, ◌<◌, length, None, Some, OnOk, IfOk, IfErr, SomeIff, HoldsAt};
+ghost use Rattle.std.specs.Prelude.{◌≡◌, ◌≢◌, ◌≤◌, ◌<◌, length, None, Some, All, Contains, OnOk, IfOk, IfErr, MatchOption, SomeIff, HoldsAt};
 ghost use Rattle.plan_base.specs.Requests.{listed, place_of, IsKnown};
+ghost use Rattle.plan_base.specs.Skies.{IsSkyOf};
 ghost use Rattle.plan_base.specs.Snapshot.{IsInRanges, IsSnapshot, IsOrderly, fault_of};
 
 use crate::build::fault_within_limits;
 use crate::counts::limit_fault;
 use crate::fault::SnapshotFault;
-use crate::number::RequestNo;
-use crate::parts::{Parts, RequestPart};
+use crate::number::{RequestNo, SiteNo, TargetNo};
+use crate::parts::{Parts, RequestPart, Sky};
 use crate::rows::{Row, rows_of, search_rows};
+use crate::sky::sky_of;
 use std::alloc::{AllocError, Global};
 use std::marker::Model;
 
@@ -107,13 +109,33 @@ impl Snapshot {
         &self.parts.groups.as_slice()[row.group].requests.as_slice()[row.place]
     }
 
-    /// The same snapshot once more. Fails only for want of memory.
-    pub fn copy(&self, alloc: Global) -> Result<Snapshot, AllocError>
-        ensures { IfOk result (λ copy. copy ≡ self.now) }
+    /// When the target can be observed from the site, if it has a sky there. It looks by halves.
+    pub fn sky_of(&self, target: TargetNo, site: SiteNo) -> Option<&Sky>
+        ensures { MatchOption result
+            (All (λ sky. ¬ (IsSkyOf target.0 site.0 sky)) self.now.skies)
+            (λ sky. Contains self.now.skies sky.now × IsSkyOf target.0 site.0 sky.now) }
     {
+        sky_of(self.parts().skies.as_slice(), target, site)
+    }
+
+    /// Recalls, where a proof needs it, what the type keeps of the parts. It does nothing.
+    pub fn recall_valid(&self)
+        ensures valid { IsSnapshot self.now }
+        ensures orderly { IsOrderly self.now }
+        ensures few { length (listed self.now) ≤ 1024 }
+    {
+        let _ = self.parts();
+        let _ = self.request_count();
+    }
+}
+
+impl Clone for Snapshot {
+    ghost is_clone = { λ x y. y ≡ x };
+
+    fn clone(&self) -> Result<Snapshot, AllocError> {
         Ok(Snapshot {
-            parts: self.parts.copy(alloc)?,
-            rows: Vec::from_slice(alloc, self.rows.as_slice())?,
+            parts: self.parts.copy()?,
+            rows: self.rows.clone()?,
         })
     }
 }

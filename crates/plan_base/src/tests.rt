@@ -115,7 +115,7 @@ fn spans_without_a_second_or_apart(rt: HostRuntime) -> Result<(), AllocError> {
         let mut parts = small(alloc)?;
         parts.telescopes.push(TelescopePart {
             site: SiteNo(1),
-            usable: usable.copy(alloc)?,
+            usable: usable.clone()?,
         })?;
         assert_eq!(rt; fault_of(&rt, alloc, parts), want);
         let mut parts = small(alloc)?;
@@ -269,7 +269,7 @@ fn readings_of_a_snapshot(rt: HostRuntime) -> Result<(), AllocError> {
         },
         snapshot,
     };
-    let taken = taken.copy(alloc)?;
+    let taken = taken.copy()?;
     assert_eq!(rt; taken.caller, 1);
     assert_eq!(rt; taken.settings.rounds, 8);
     assert_eq!(rt; taken.snapshot.request_count(), 5);

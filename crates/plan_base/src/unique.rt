@@ -1,9 +1,10 @@
-// Laws: for the same arguments there is one best, one rebate, one bound, one verdict, one canonical use, one filled
-// plan, one list of a round's prices and one repaired plan.
+// Laws: for the same arguments there is one best, one rebate, one bound, one verdict, one canonical use, one number
+// of possible starts, one filled plan, one list of a round's prices and one repaired plan.
 
 ghost use Rattle.std.specs.Prelude.{◌≡◌, ℕ, ℤ, List};
 ghost use Rattle.plan_base.specs.declared.claim.Placement.{Placement};
 ghost use Rattle.plan_base.specs.declared.verdict.Verdict.{Verdict};
+ghost use Rattle.plan_base.specs.Starts.{IsStartCount};
 ghost use Rattle.plan_base.specs.Bound.{IsBest, IsRebate, IsBound};
 ghost use Rattle.plan_base.specs.Canonical.{IsCanonicalUse};
 ghost use Rattle.plan_base.specs.Fill.{IsFilled};
@@ -38,8 +39,13 @@ pub fn one_verdict(snapshot: &Snapshot, claim: &Claim)
 pub fn one_canonical_use(snapshot: &Snapshot, prices: &Prices)
     ensures { (t : ℕ) (xs ys : List Placement) → IsCanonicalUse snapshot.now prices.now.0 t xs → IsCanonicalUse snapshot.now prices.now.0 t ys → xs ≡ ys }
 {
-    let _ = snapshot.parts();
+    snapshot.recall_valid();
 }
+
+/// A snapshot has one number of possible starts.
+pub fn one_start_count(snapshot: &Snapshot)
+    ensures { (m n : ℕ) → IsStartCount snapshot.now m → IsStartCount snapshot.now n → m ≡ n }
+{}
 
 /// A plan is filled in one way.
 pub fn one_filled_plan(snapshot: &Snapshot)
@@ -50,12 +56,12 @@ pub fn one_filled_plan(snapshot: &Snapshot)
 pub fn one_round(snapshot: &Snapshot)
     ensures { (lane round : ℕ) (a : List ℤ) (u : List ℕ) (b : List ℤ) (v : List ℕ) → IsRoundPrices snapshot.now lane round a u → IsRoundPrices snapshot.now lane round b v → (a ≡ b) × (u ≡ v) }
 {
-    let _ = snapshot.parts();
+    snapshot.recall_valid();
 }
 
 /// The same prices give one repaired plan.
 pub fn one_repaired_plan(snapshot: &Snapshot, prices: &Prices)
     ensures { (xs ys : List Placement) → IsRepaired snapshot.now prices.now.0 xs → IsRepaired snapshot.now prices.now.0 ys → xs ≡ ys }
 {
-    let _ = snapshot.parts();
+    snapshot.recall_valid();
 }

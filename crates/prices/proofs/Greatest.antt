@@ -5,7 +5,7 @@ use Rattle.std.proofs.lemmas.Bool.Decides.{nat_tests}
 use Rattle.std.proofs.lemmas.List.{get_or-take, get_or-drop, get_or_default, length-take, length-drop}
 use Rattle.std.proofs.lemmas.List.Folds.{list_all_at}
 use Rattle.std.proofs.lemmas.List.Sums.{list_all-from_AllPass}
-use Rattle.groups.specs.Prices.{is_first_greatest}
+use Rattle.plan_base.specs.NetPrices.{is_first_greatest}
 
 no_less : (m n : ℕ) → nat_lt m n ≡ false → nat_le n m ≡ true
 no_less m n h = grind (arith, nat_tests)

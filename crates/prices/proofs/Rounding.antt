@@ -13,7 +13,7 @@ use Rattle.plan_base.specs.Bound.{price, quota_cost, net_price}
 use Rattle.plan_base.specs.Verdict.{IsPriceInRange}
 use Rattle.plan_base.specs.Round.{is_taken, uses_of, demand_of, moved_price, moved_quota_price, next_prices, next_quota_prices}
 use Rattle.plan_base.proofs.Known.{IsListedAs, known_as}
-use Rattle.groups.specs.Prices.{net_prices}
+use Rattle.plan_base.specs.NetPrices.{net_prices}
 use Rattle.groups.proofs.Runs.{number_of, place_at}
 use Rattle.prices.specs.Rounds.{number_at, AreUses, stepped_price, step_size, prices_after}
 use Rattle.prices.specs.Takings.{AreTaken}

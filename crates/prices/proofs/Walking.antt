@@ -10,7 +10,7 @@ use Rattle.plan_base.specs.Requests.{Listed, listed_from, listed, place_of, IsKi
 use Rattle.plan_base.specs.Snapshot.{IsOrderly}
 use Rattle.plan_base.specs.Bound.{price}
 use Rattle.plan_base.specs.Round.{is_taken}
-use Rattle.groups.specs.Prices.{group_prices, IsGroupRun}
+use Rattle.plan_base.specs.NetPrices.{group_prices, IsGroupRun}
 use Rattle.groups.proofs.Runs.{IsRun, number_of, place_at}
 use Rattle.groups.proofs.Chosen.{taken_single, taken_many, taken_one, taken_and}
 use Rattle.prices.specs.Rounds.{number_at}

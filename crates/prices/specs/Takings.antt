@@ -5,7 +5,7 @@ use Rattle.plan_base.specs.declared.parts.Op.{Op}
 use Rattle.plan_base.specs.declared.parts.Op.TheVariants.{Single, Many, OneOf, And}
 use Rattle.plan_base.specs.Requests.{listed}
 use Rattle.plan_base.specs.Round.{is_taken}
-use Rattle.groups.specs.Prices.{price_sum, is_first_greatest}
+use Rattle.plan_base.specs.NetPrices.{price_sum, is_first_greatest}
 use Rattle.prices.specs.declared.taking.Taking.{Taking}
 use Rattle.prices.specs.declared.taking.Taking.TheVariants.{Priced, First, Whole}
 use Rattle.prices.specs.Rounds.{number_at}

@@ -6,7 +6,7 @@ ghost use Rattle.plan_base.specs.Requests.{listed};
 ghost use Rattle.plan_base.specs.Bound.{price, net_price};
 ghost use Rattle.plan_base.specs.Verdict.{IsPriceInRange};
 ghost use Rattle.plan_base.specs.Round.{demand_of, next_prices, next_quota_prices};
-ghost use Rattle.groups.specs.Prices.{net_prices};
+ghost use Rattle.plan_base.specs.NetPrices.{net_prices};
 ghost use Rattle.prices.specs.Rounds.{AreUses, step_size, prices_after};
 ghost use Rattle.prices.specs.Takings.{AreTaken};
 

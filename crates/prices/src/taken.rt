@@ -4,7 +4,7 @@ ghost use Rattle.std.specs.Prelude.{◌≡◌, ◌+◌, ◌≤◌, ◌<◌, ℕ,
 ghost use Rattle.plan_base.specs.Requests.{listed, members};
 ghost use Rattle.plan_base.specs.Bound.{price};
 ghost use Rattle.plan_base.specs.Round.{is_taken};
-ghost use Rattle.groups.specs.Prices.{IsGroupRun};
+ghost use Rattle.plan_base.specs.NetPrices.{IsGroupRun};
 ghost use Rattle.prices.specs.Takings.{takes_at, AreTaken};
 
 use crate::taking::Taking;

@@ -2,7 +2,7 @@
 
 ghost use Rattle.std.specs.Prelude.{◌≡◌, ◌≤◌, ◌<◌, ℕ, pos, int_lt, length, slice_index_or};
 ghost use Rattle.std.specs.List.{IsFirstBest};
-ghost use Rattle.groups.specs.Prices.{price_sum};
+ghost use Rattle.plan_base.specs.NetPrices.{price_sum};
 ghost use Rattle.prices.specs.Takings.{takes_at, takes_by};
 
 use plan_base::Op;

@@ -1,7 +1,7 @@
 // What groups of each kind give and take.
 
 ghost use Rattle.std.specs.Prelude.{◌≡◌, ◌↔◌, IsTrue, All};
-ghost use Rattle.groups.specs.Prices.{IsNetInRange};
+ghost use Rattle.plan_base.specs.NetPrices.{IsNetInRange};
 
 use super::desk::{Asked, snapshot_of};
 use crate::{choice, rebate};

@@ -1,7 +1,7 @@
 // Rounds are played one after another, and compared with a table.
 
 ghost use Rattle.std.specs.Prelude.{◌≡◌, ◌↔◌, ◌≤◌, ◌^◌, pos, neg_ℤ, ◌≤ℤ◌, length, unsigned_abs, IsTrue, IfOk, All};
-ghost use Rattle.groups.specs.Prices.{IsNetInRange, net_prices};
+ghost use Rattle.plan_base.specs.NetPrices.{IsNetInRange, net_prices};
 
 use super::desk::{Desk, VALUE, snapshot_of};
 use crate::{advance, lagrangian, step_of, zero_prices};

@@ -1,7 +1,7 @@
 use Rattle.std.proofs.Common.{rules, ◌≡◌, ◌⊎◌, inl, inr, ◌≤ℤ◌, ℤ, pos, length, slice_index_or, sym, ◌∙◌, subst, arith, w64}
 use Rattle.std.proofs.lemmas.Int.{ints, to_z-of_z}
 use Rattle.bound_checker.specs.Nets.{net_list}
-use Rattle.bound_checker.proofs.Growing.{IsGreatestSoFar, greatest_more, greatest_all}
+use Rattle.plan_base.proofs.Growing.{IsGreatestSoFar, greatest_more, greatest_all}
 use Rattle.bound_checker.proofs.Runs.{nets_length}
 use Rattle.bound_checker.proofs.nets.greatest_net.Goals as goal
 use mir.Val.{SFits}

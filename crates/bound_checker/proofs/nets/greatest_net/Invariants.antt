@@ -1,5 +1,5 @@
 use Rattle.bound_checker.specs.Nets.{net_list}
-use Rattle.bound_checker.proofs.Growing.{IsGreatestSoFar}
+use Rattle.plan_base.proofs.Growing.{IsGreatestSoFar}
 use Rattle.bound_checker.proofs.nets.greatest_net.Given as goal
 
 abbrev pub invariant-loop-place : goal.invariant-loop-place

@@ -1,7 +1,8 @@
 use Rattle.std.proofs.Common.{rules, ◌≡◌, ◌<◌, ◌*◌, ℤ, pos, ◌-ℤ◌, length, slice_index_or, sym, ◌∙◌, ap, subst, arith, w64}
 use Rattle.std.proofs.lemmas.Int.{to_z-of_z}
-use Rattle.bound_checker.specs.Nets.{IsNetInRange, net_list}
-use Rattle.bound_checker.proofs.Growing.{net_fits}
+use Rattle.plan_base.specs.NetPrices.{IsNetInRange}
+use Rattle.bound_checker.specs.Nets.{net_list}
+use Rattle.plan_base.proofs.Growing.{net_fits}
 use Rattle.bound_checker.proofs.Runs.{nets_get, net_range}
 use Rattle.bound_checker.proofs.nets.net_at.Goals as goal
 use Rattle.bound_checker.proofs.nets.net_at.Goals.{After-cost_of}

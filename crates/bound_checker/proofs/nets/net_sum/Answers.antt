@@ -2,8 +2,9 @@ use Rattle.std.proofs.Common.{◌≡◌, ◌+◌, ◌≤◌, ℤ, pos, ◌+ℤ�
 use Rattle.std.proofs.lemmas.Int.{ints}
 use Rattle.std.proofs.lemmas.List.{at_drop_more}
 use Rattle.plan_base.specs.Sums.{total}
-use Rattle.bound_checker.specs.Nets.{IsNetInRange, net_list, net_sum}
-use Rattle.bound_checker.proofs.Growing.{grown_all}
+use Rattle.plan_base.specs.NetPrices.{IsNetInRange, price_sum}
+use Rattle.bound_checker.specs.Nets.{net_list}
+use Rattle.plan_base.proofs.Growing.{grown_all}
 use Rattle.bound_checker.proofs.Runs.{nets_length}
 use Rattle.bound_checker.proofs.nets.net_sum.Goals as goal
 
@@ -23,6 +24,6 @@ loop-place-preserved c =
 pub returns : goal.returns
 returns c =
     let count : length (net_list c.args.nets.now) ≡ length c.args.nets.now.requests.now = nets_length c.args.nets.now.quota_price c.args.nets.now.requests.now c.args.nets.now.prices.now c.requires.count in
-    let all : c.loop-place.sum.value ≡ net_sum (net_list c.args.nets.now) = grown_all (λ x. x) (net_list c.args.nets.now) c.loop-place.place c.loop-place.sum.value (omega arith) c.loop-place.invariant in
+    let all : c.loop-place.sum.value ≡ price_sum (net_list c.args.nets.now) = grown_all (λ x. x) (net_list c.args.nets.now) c.loop-place.place c.loop-place.sum.value (omega arith) c.loop-place.invariant in
     let few : length c.args.nets.now.requests.now ≤ 256 = c.requires.few in
     omega (arith, ints)

@@ -1,5 +1,6 @@
-use Rattle.bound_checker.specs.Nets.{net_list, positive}
-use Rattle.bound_checker.proofs.Growing.{IsGrown}
+use Rattle.plan_base.specs.NetPrices.{positive}
+use Rattle.bound_checker.specs.Nets.{net_list}
+use Rattle.plan_base.proofs.Growing.{IsGrown}
 use Rattle.bound_checker.proofs.nets.net_sum.Given as goal
 
 abbrev pub invariant-loop-place : goal.invariant-loop-place

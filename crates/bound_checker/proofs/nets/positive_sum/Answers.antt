@@ -2,8 +2,9 @@ use Rattle.std.proofs.Common.{rules, ◌≡◌, ◌+◌, ◌≤◌, ℤ, pos, �
 use Rattle.std.proofs.lemmas.Int.{ints, to_z-of_z}
 use Rattle.std.proofs.lemmas.List.{at_drop_more}
 use Rattle.plan_base.specs.Sums.{total}
-use Rattle.bound_checker.specs.Nets.{IsNetInRange, net_list, positive, positive_sum}
-use Rattle.bound_checker.proofs.Growing.{grown_all, positive_in_range}
+use Rattle.plan_base.specs.NetPrices.{IsNetInRange, positive, positive_sum}
+use Rattle.bound_checker.specs.Nets.{net_list}
+use Rattle.plan_base.proofs.Growing.{grown_all, positive_in_range}
 use Rattle.bound_checker.proofs.Runs.{nets_length}
 use Rattle.bound_checker.proofs.nets.positive_sum.Goals as goal
 use mir.Val.{SFits}

@@ -9,7 +9,7 @@ use Rattle.bound_checker.specs.declared.sight.Sight.{Sight}
 use Rattle.bound_checker.specs.Offers.{IsOffer}
 use Rattle.bound_checker.specs.Sights.{StandsBelow}
 use Rattle.bound_checker.specs.Listings.{IsAdded, CanStart, IsListing, IsBefore}
-use Rattle.bound_checker.proofs.Here.{IsHere, request_here}
+use Rattle.plan_base.proofs.Here.{IsHere, request_here}
 use Rattle.bound_checker.proofs.Seen.{IsSightOf, site_read, usable_read, views_read, sight_clear, hidden_never}
 use Rattle.bound_checker.proofs.Telling.{listing_stays, unable_never, listing_more, ok_then}
 use Rattle.bound_checker.proofs.starts.list_request.Goals as goal

@@ -1,7 +1,7 @@
 use Rattle.std.proofs.Common.{◌≡◌, pos, length, sym, ◌∙◌, arith}
 use Rattle.std.proofs.lemmas.List.{length-map, ext_get_or}
 use Rattle.plan_base.specs.Requests.{listed}
-use Rattle.groups.specs.Prices.{net_prices}
+use Rattle.plan_base.specs.NetPrices.{net_prices}
 use Rattle.groups.proofs.nets.net.Goals as goal
 
 pub returns : goal.returns

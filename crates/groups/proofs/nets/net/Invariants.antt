@@ -1,6 +1,6 @@
 use Rattle.std.proofs.Common.{◌≡◌, ℕ, ◌<◌, pos, length, slice_index_or}
 use Rattle.plan_base.specs.Requests.{listed}
-use Rattle.groups.specs.Prices.{net_prices}
+use Rattle.plan_base.specs.NetPrices.{net_prices}
 use Rattle.groups.proofs.nets.net.Given as goal
 
 abbrev pub invariant-loop-place : goal.invariant-loop-place

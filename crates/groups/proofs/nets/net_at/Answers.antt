@@ -4,9 +4,9 @@ use Rattle.std.proofs.lemmas.List.{length-map}
 use Rattle.plan_base.specs.declared.parts.Parts.{Parts}
 use Rattle.plan_base.specs.Requests.{listed}
 use Rattle.plan_base.specs.Bound.{quota_cost}
-use Rattle.groups.specs.Prices.{IsNetInRange, net_prices}
+use Rattle.plan_base.specs.NetPrices.{IsNetInRange, net_prices}
 use Rattle.groups.proofs.Footed.{seconds_listed, net_here}
-use Rattle.groups.proofs.Growing.{net_fits}
+use Rattle.plan_base.proofs.Growing.{net_fits}
 use Rattle.groups.proofs.nets.net_at.Goals as goal
 use Rattle.groups.proofs.nets.net_at.Goals.{After-quota_cost}
 use mir.Val.{SFits}

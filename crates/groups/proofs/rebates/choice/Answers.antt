@@ -2,7 +2,7 @@ use Rattle.std.proofs.Common.{◌≡◌, inl, inr, Bool, true, false, ◌&&◌, 
 use Rattle.std.proofs.lemmas.Int.{to_z-of_z}
 use Rattle.plan_base.specs.declared.parts.Parts.{Parts}
 use Rattle.plan_base.specs.declared.parts.Op.TheVariants.{Single, Many, OneOf, And}
-use Rattle.groups.specs.Prices.{group_prices, price_sum, is_first_greatest}
+use Rattle.plan_base.specs.NetPrices.{group_prices, price_sum, is_first_greatest}
 use Rattle.groups.proofs.Chosen.{taken_single, taken_many, taken_one, taken_and}
 use Rattle.groups.proofs.Runs.{kind_read}
 use Rattle.groups.proofs.rebates.choice.Goals as goal

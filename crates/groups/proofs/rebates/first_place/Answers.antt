@@ -1,6 +1,6 @@
 use Rattle.std.proofs.Common.{ℕ, ◌∙◌, sym, ap, subst}
 use Rattle.plan_base.specs.declared.parts.Parts.{Parts}
-use Rattle.groups.specs.Prices.{IsGroupRun}
+use Rattle.plan_base.specs.NetPrices.{IsGroupRun}
 use Rattle.groups.proofs.Runs.{first_request}
 use Rattle.groups.proofs.rebates.first_place.Goals as goal
 

@@ -4,8 +4,8 @@ use Rattle.plan_base.specs.declared.parts.Parts.{Parts}
 use Rattle.plan_base.specs.declared.parts.Op.TheVariants.{Single, Many, OneOf, And}
 use Rattle.plan_base.specs.Requests.{IsKind}
 use Rattle.plan_base.specs.Bound.{price, IsRebate}
-use Rattle.groups.specs.Prices.{group_prices, positive, positive_sum, price_sum, IsGreatestPrice}
-use Rattle.groups.proofs.Rebated.{rebate_any, rebate_one, rebate_and}
+use Rattle.plan_base.specs.NetPrices.{group_prices, positive, positive_sum, price_sum, IsGreatestPrice}
+use Rattle.plan_base.proofs.GroupRebates.{rebate_any, rebate_one, rebate_and}
 use Rattle.groups.proofs.Runs.{kind_read}
 use Rattle.groups.proofs.rebates.rebate.Goals as goal
 use mir.Val.{SFits}
@@ -21,7 +21,7 @@ returns-in-Single c =
     in
     let is : c.positive_sum.result ≡ positive_sum (group_prices c.args.snapshot.now c.args.prices.now.0 c.args.group) = c.positive_sum.ensures ∙ ap positive_sum c.prices_of_group-prices.ensures.value in
     subst (λ (b : ℤ). IsRebate c.args.snapshot.now (price c.args.snapshot.now c.args.prices.now.0) c.args.group b) (sym (to_z-of_z w64 c.positive_sum.result fit ∙ is))
-    (rebate_any c.args.snapshot.now c.args.prices.now.0 c.args.group c.parts.ensures.orderly kind)
+    (rebate_any c.args.snapshot.now (price c.args.snapshot.now c.args.prices.now.0) c.args.group c.parts.ensures.orderly kind)
 
 pub returns-in-OneOf : goal.returns-in-OneOf
 returns-in-OneOf c =
@@ -31,7 +31,7 @@ returns-in-OneOf c =
     = subst (λ (ps : List ℤ). IsGreatestPrice ps c.greatest_price.result) c.prices_of_group-prices.ensures.value c.greatest_price.ensures
     in
     subst (λ (b : ℤ). IsRebate c.args.snapshot.now (price c.args.snapshot.now c.args.prices.now.0) c.args.group b) (sym (to_z-of_z w64 c.greatest_price.result fit))
-    (rebate_one c.args.snapshot.now c.args.prices.now.0 c.args.group c.greatest_price.result c.parts.ensures.orderly (kind_read c.args.snapshot.now _ c.args.group _ OneOf groups c.requires.group c.in-OneOf.is) greatest)
+    (rebate_one c.args.snapshot.now (price c.args.snapshot.now c.args.prices.now.0) c.args.group c.greatest_price.result c.parts.ensures.orderly (kind_read c.args.snapshot.now _ c.args.group _ OneOf groups c.requires.group c.in-OneOf.is) greatest)
 
 pub returns-in-And : goal.returns-in-And
 returns-in-And c =
@@ -42,4 +42,4 @@ returns-in-And c =
     = c.positive.ensures ∙ ap positive (to_z-of_z w64 c.price_sum.result fit_sum ∙ c.price_sum.ensures ∙ ap price_sum c.prices_of_group-prices.ensures.value)
     in
     subst (λ (b : ℤ). IsRebate c.args.snapshot.now (price c.args.snapshot.now c.args.prices.now.0) c.args.group b) (sym (to_z-of_z w64 c.positive.result fit ∙ is))
-    (rebate_and c.args.snapshot.now c.args.prices.now.0 c.args.group c.parts.ensures.orderly (kind_read c.args.snapshot.now _ c.args.group _ And groups c.requires.group c.in-And.is))
+    (rebate_and c.args.snapshot.now (price c.args.snapshot.now c.args.prices.now.0) c.args.group c.parts.ensures.orderly (kind_read c.args.snapshot.now _ c.args.group _ And groups c.requires.group c.in-And.is))

@@ -1,4 +1,4 @@
-use Rattle.groups.proofs.Growing.{IsGreatestSoFar}
+use Rattle.plan_base.proofs.Growing.{IsGreatestSoFar}
 use Rattle.groups.proofs.sums.greatest_price.Given as goal
 
 abbrev pub invariant-loop-price : goal.invariant-loop-price

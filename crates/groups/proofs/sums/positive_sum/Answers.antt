@@ -2,8 +2,8 @@ use Rattle.std.proofs.Common.{◌≡◌, ◌+◌, ◌≤◌, ℤ, pos, ◌+ℤ�
 use Rattle.std.proofs.lemmas.Int.{ints, to_z-of_z}
 use Rattle.std.proofs.lemmas.List.{at_drop_more}
 use Rattle.plan_base.specs.Sums.{total}
-use Rattle.groups.specs.Prices.{IsNetInRange, positive}
-use Rattle.groups.proofs.Growing.{positive_in_range}
+use Rattle.plan_base.specs.NetPrices.{IsNetInRange, positive}
+use Rattle.plan_base.proofs.Growing.{positive_in_range}
 use Rattle.groups.proofs.sums.positive_sum.Goals as goal
 use mir.Val.{SFits}
 

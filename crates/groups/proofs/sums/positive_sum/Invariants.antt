@@ -1,6 +1,6 @@
 use Rattle.std.proofs.Common.{◌≡◌, ◌*◌, ◌≤◌, pos, neg_ℤ, ◌+ℤ◌, ◌≤ℤ◌, drop}
-use Rattle.groups.specs.Prices.{positive}
-use Rattle.groups.proofs.Growing.{IsGrown}
+use Rattle.plan_base.specs.NetPrices.{positive}
+use Rattle.plan_base.proofs.Growing.{IsGrown}
 use Rattle.groups.proofs.sums.positive_sum.Given as goal
 
 abbrev pub invariant-loop-price : goal.invariant-loop-price

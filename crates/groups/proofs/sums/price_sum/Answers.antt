@@ -2,7 +2,7 @@ use Rattle.std.proofs.Common.{◌≡◌, ◌+◌, ◌≤◌, ℤ, pos, ◌+ℤ�
 use Rattle.std.proofs.lemmas.Int.{ints}
 use Rattle.std.proofs.lemmas.List.{at_drop_more}
 use Rattle.plan_base.specs.Sums.{total}
-use Rattle.groups.specs.Prices.{IsNetInRange}
+use Rattle.plan_base.specs.NetPrices.{IsNetInRange}
 use Rattle.groups.proofs.sums.price_sum.Goals as goal
 
 pub loop-price-preserved : goal.loop-price-preserved

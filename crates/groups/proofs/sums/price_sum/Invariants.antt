@@ -1,5 +1,5 @@
 use Rattle.std.proofs.Common.{◌≡◌, ◌*◌, ◌≤◌, pos, neg_ℤ, ◌+ℤ◌, ◌≤ℤ◌, drop}
-use Rattle.groups.proofs.Growing.{IsGrown}
+use Rattle.plan_base.proofs.Growing.{IsGrown}
 use Rattle.groups.proofs.sums.price_sum.Given as goal
 
 abbrev pub invariant-loop-price : goal.invariant-loop-price

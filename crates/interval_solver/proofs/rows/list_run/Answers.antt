@@ -3,7 +3,7 @@ use Rattle.plan_base.specs.declared.parts.Parts.{Parts}
 use Rattle.plan_base.specs.Requests.{IsKnown}
 use Rattle.interval_solver.specs.Offers.{IsOffer}
 use Rattle.interval_solver.specs.Listings.{AreAdded, IsOfFirst, IsListing}
-use Rattle.interval_solver.proofs.Here.{IsHere}
+use Rattle.plan_base.proofs.Here.{IsHere}
 use Rattle.interval_solver.proofs.Listed.{run_within, listing_stays, listing_more, found_here, found_number, ok_then}
 use Rattle.interval_solver.proofs.rows.list_run.Goals as goal
 
@@ -21,16 +21,16 @@ returns-in_default c =
     (λ p start is_in. c.in_default.ensures (subst (IsKnown c.args.snapshot.now) (ap (λ n. n.0) is_in.request) start.possible.known)) c.requires.listing
 
 pub offer_of-offer-requires-clause-seconds : goal.offer_of-offer-requires-clause-seconds
-offer_of-offer-requires-clause-seconds c = (found_here c.args.snapshot.now c.in-Some.request c.args.run.request.0 c.request_at.result.now c.parts-parts.ensures.orderly c.in-Some.ensures.0 c.in-Some.ensures.1 c.request_at.ensures).seconds_most
+offer_of-offer-requires-clause-seconds c = (found_here c.args.snapshot.now c.in-Some.request c.args.run.request.0 c.request_at.result.now c.parts-parts.ensures.orderly c.in-Some.ensures.0 c.in-Some.ensures.1 c.request_at.ensures).asked.seconds_most
 
 pub offer_of-offer-requires-clause-value : goal.offer_of-offer-requires-clause-value
-offer_of-offer-requires-clause-value c = (found_here c.args.snapshot.now c.in-Some.request c.args.run.request.0 c.request_at.result.now c.parts-parts.ensures.orderly c.in-Some.ensures.0 c.in-Some.ensures.1 c.request_at.ensures).value_most
+offer_of-offer-requires-clause-value c = (found_here c.args.snapshot.now c.in-Some.request c.args.run.request.0 c.request_at.result.now c.parts-parts.ensures.orderly c.in-Some.ensures.0 c.in-Some.ensures.1 c.request_at.ensures).asked.value
 
 pub offer_of-offer-requires-clause-fade : goal.offer_of-offer-requires-clause-fade
-offer_of-offer-requires-clause-fade c = (found_here c.args.snapshot.now c.in-Some.request c.args.run.request.0 c.request_at.result.now c.parts-parts.ensures.orderly c.in-Some.ensures.0 c.in-Some.ensures.1 c.request_at.ensures).fade_most
+offer_of-offer-requires-clause-fade c = (found_here c.args.snapshot.now c.in-Some.request c.args.run.request.0 c.request_at.result.now c.parts-parts.ensures.orderly c.in-Some.ensures.0 c.in-Some.ensures.1 c.request_at.ensures).asked.fade
 
 pub offer_of-offer-requires-clause-moments : goal.offer_of-offer-requires-clause-moments
-offer_of-offer-requires-clause-moments c = (found_here c.args.snapshot.now c.in-Some.request c.args.run.request.0 c.request_at.result.now c.parts-parts.ensures.orderly c.in-Some.ensures.0 c.in-Some.ensures.1 c.request_at.ensures).moments
+offer_of-offer-requires-clause-moments c = λ i d l. ((found_here c.args.snapshot.now c.in-Some.request c.args.run.request.0 c.request_at.result.now c.parts-parts.ensures.orderly c.in-Some.ensures.0 c.in-Some.ensures.1 c.request_at.ensures).asked.moments i d l).0
 
 pub push_starts-requires-clause-begins : goal.push_starts-requires-clause-begins
 push_starts-requires-clause-begins c =

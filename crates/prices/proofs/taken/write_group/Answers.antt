@@ -4,7 +4,7 @@ use Rattle.plan_base.specs.declared.parts.Parts.{Parts}
 use Rattle.plan_base.specs.declared.parts.Op.{Op}
 use Rattle.plan_base.specs.Requests.{members, IsKind}
 use Rattle.plan_base.specs.Bound.{price}
-use Rattle.groups.specs.Prices.{group_prices}
+use Rattle.plan_base.specs.NetPrices.{group_prices}
 use Rattle.groups.proofs.Runs.{run_prices, kind_read}
 use Rattle.prices.specs.Takings.{takes_at}
 use Rattle.prices.proofs.Walking.{takes_is}

@@ -1,7 +1,7 @@
 use Rattle.std.proofs.Common.{◌≡◌, ◌+◌, ◌≤◌, length, ◌∙◌, ap, arith}
 use Rattle.plan_base.specs.declared.parts.Parts.{Parts}
 use Rattle.plan_base.specs.Requests.{listed, members}
-use Rattle.groups.specs.Prices.{IsGroupRun}
+use Rattle.plan_base.specs.NetPrices.{IsGroupRun}
 use Rattle.prices.proofs.Walking.{walked_more, walked_all, group_within, few_requests}
 use Rattle.prices.proofs.taken.write_taken.Goals as goal
 

@@ -6,7 +6,7 @@ use Rattle.std.proofs.lemmas.Bool.Decides.{nat_tests}
 use Rattle.std.proofs.lemmas.List.{get_or_default}
 use Rattle.plan_base.specs.declared.parts.Sky.{Sky}
 use Rattle.plan_base.specs.BySpans.{HasAll}
-use Rattle.snapshot_starts.specs.Skies.{IsSkyOf, IsSkyBelow, SkiesRise, is_below, IsCountBelow}
+use Rattle.plan_base.specs.Skies.{IsSkyOf, IsSkyBelow, SkiesRise, is_below, IsCountBelow}
 
 below_same_above : (i j : ℕ) → ((i < j) ⊎ (j < i)) ⊎ (i ≡ j)
 below_same_above i j = grind arith
@@ -55,7 +55,7 @@ pair_at skies i j y z rise below l e d =
     subst (IsSkyBelow y) (get_or_default skies j y z l ∙ d) (subst (λ (x : Sky). IsSkyBelow x (slice_index_or skies j y)) e pair)
 
 -- a target has one sky at a site
-one_sky : (skies : List Sky) (target site : ℕ) (y z : Sky) → SkiesRise skies → Contains skies y → Contains skies z → IsSkyOf target site y → IsSkyOf target site z → y ≡ z
+pub one_sky : (skies : List Sky) (target site : ℕ) (y z : Sky) → SkiesRise skies → Contains skies y → Contains skies z → IsSkyOf target site y → IsSkyOf target site z → y ≡ z
 one_sky skies target site y z rise (i, l, e) (j, m, d) (yt, ys) (zt, zs) = elim (below_same_above i j) [
   | inl (inl below) ↦ absurd (not_twice y.target.0 y.site.0 z.target.0 z.site.0 (pair_at skies i j y z rise below m e d) (yt ∙ sym zt) (ys ∙ sym zs))
   | inl (inr above) ↦ absurd (not_twice z.target.0 z.site.0 y.target.0 y.site.0 (pair_at skies j i z y rise above l d e) (zt ∙ sym yt) (zs ∙ sym ys))

@@ -1,9 +1,9 @@
 use Rattle.std.proofs.Common.{subst, sym, ◌∙◌}
 use Rattle.std.proofs.lemmas.List.{get_or_default}
 use Rattle.std.proofs.lemmas.Bool.{false≢true}
-use Rattle.snapshot_starts.specs.Skies.{IsSkyOf}
-use Rattle.snapshot_starts.proofs.Skies.{no_sky}
-use Rattle.snapshot_starts.proofs.sky.sky_of.Goals as goal
+use Rattle.plan_base.specs.Skies.{IsSkyOf}
+use Rattle.plan_base.proofs.Skies.{no_sky}
+use Rattle.plan_base.proofs.sky.sky_of.Goals as goal
 
 pub returns-else-is_sky_of : goal.returns-else-is_sky_of
 returns-else-is_sky_of c =

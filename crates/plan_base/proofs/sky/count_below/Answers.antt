@@ -1,8 +1,8 @@
 use Rattle.std.proofs.Common.{arith, rules}
 use Rattle.std.proofs.lemmas.List.Sorted.{IsPartitionPoint-from_clause}
-use Rattle.snapshot_starts.specs.Skies.{is_below}
-use Rattle.snapshot_starts.proofs.Skies.{partitioned}
-use Rattle.snapshot_starts.proofs.sky.count_below.Goals as goal
+use Rattle.plan_base.specs.Skies.{is_below}
+use Rattle.plan_base.proofs.Skies.{partitioned}
+use Rattle.plan_base.proofs.sky.count_below.Goals as goal
 
 pub returns : goal.returns
 returns c =

@@ -1,14 +1,15 @@
--- The prices of a group's requests, and the numbers that are made of them.
+-- Net prices, the prices of a group's requests, and the numbers that are made of them.
 use Rattle.std.specs.Prelude.{◌≡◌, ℕ, ◌+◌, ◌*◌, ◌≤◌, ◌<◌, ◌^◌, Bool, ◌&&◌, int_lt, int_le, if◌then◌else◌, ◌⊎◌, ℤ, pos, neg_ℤ, ◌≤ℤ◌, List, length, map, take, drop, slice_index_or, All, Contains}
 use Rattle.std.specs.List.{list_all}
 use Rattle.plan_base.specs.declared.parts.Parts.{Parts}
+use Rattle.plan_base.specs.Limits.{most_net_price}
 use Rattle.plan_base.specs.Sums.{total}
 use Rattle.plan_base.specs.Requests.{listed, place_of, members}
 use Rattle.plan_base.specs.Bound.{price, net_price}
 
--- a net price from -2 * 10^12 to 2 * 10^12
+-- not above the greatest size of a net price
 abbrev pub IsNetInRange : ℤ → Type 0
-IsNetInRange c = (neg_ℤ (pos (2 * 10 ^ 12)) ≤ℤ c) × (c ≤ℤ pos (2 * 10 ^ 12))
+IsNetInRange c = (neg_ℤ (pos most_net_price) ≤ℤ c) × (c ≤ℤ pos most_net_price)
 
 -- the prices of the requests of the group at place g, in their order
 abbrev pub group_prices : Parts → List ℤ → ℕ → List ℤ

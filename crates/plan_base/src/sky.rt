@@ -1,9 +1,10 @@
 // The sky of a target at a site.
 
 ghost use Rattle.std.specs.Prelude.{◌≡◌, ◌↔◌, IsTrue, All, Contains, MatchOption};
-ghost use Rattle.snapshot_starts.specs.Skies.{SkiesRise, IsSkyOf, IsCountBelow};
+ghost use Rattle.plan_base.specs.Skies.{SkiesRise, IsSkyOf, IsCountBelow};
 
-use plan_base::{SiteNo, Sky, TargetNo};
+use crate::number::{SiteNo, TargetNo};
+use crate::parts::Sky;
 
 /// The sky of the target at the site, of skies in rising order of target, then site. It looks by halves.
 pub(crate) fn sky_of(skies: &[Sky], target: TargetNo, site: SiteNo) -> Option<&Sky>

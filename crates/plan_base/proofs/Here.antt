@@ -1,16 +1,20 @@
 -- The request at a place, as the snapshot knows it by its number.
-use Rattle.std.proofs.Common.{◌≡◌, ℕ, zero, suc, ◌<◌, ◌≤◌, ◌⊎◌, inl, inr, List, [], ◌∷◌, ◌++◌, length, slice_index_or, All, Contains, refl, sym, ◌∙◌, ap, subst, arith}
+use Rattle.std.proofs.Common.{◌≡◌, ◌≢◌, ℕ, zero, suc, ◌+◌, ◌<◌, ◌≤◌, ◌⊎◌, inl, inr, List, [], ◌∷◌, ◌++◌, length, map, slice_index_or, All, AllPairs, Contains, refl, sym, ◌∙◌, ap, subst, arith}
 use Rattle.std.specs.Prelude.{HoldsAt}
 use Rattle.std.specs.List.{flat_map}
+use Rattle.std.proofs.lemmas.List.{get_or_default, get_or-map}
 use Rattle.std.proofs.lemmas.List.Elements.{All-contains, Contains-get_or, Contains-append_left, Contains-append_right}
 use Rattle.plan_base.specs.declared.parts.Parts.{Parts}
+use Rattle.plan_base.specs.declared.parts.TelescopePart.{TelescopePart}
+use Rattle.plan_base.specs.declared.parts.Sky.{Sky}
 use Rattle.plan_base.specs.declared.parts.RequestPart.{RequestPart}
 use Rattle.plan_base.specs.declared.span.Span.{Span}
 use Rattle.plan_base.specs.Requests.{Listed, listed, place_of, IsKnown, seconds_of, request_value, fade_of, windows_of, telescopes_of, targets_of}
 use Rattle.plan_base.specs.Snapshot.{IsMoment, IsOrderly, all_spans}
 use Rattle.plan_base.proofs.Orders.{contains_cases}
-use Rattle.plan_base.proofs.Known.{IsListedAs, known_or_is}
+use Rattle.plan_base.proofs.Known.{IsListedAs, known_as, known_or_is}
 use Rattle.plan_base.proofs.Members.{listed_known, listed_as}
+use Rattle.plan_base.specs.Asked.{IsAsked}
 
 -- the request q stands at a place, and is known by its number
 pub record IsHere (s : Parts) (place : ℕ) (q : RequestPart) : Type 0 where
@@ -22,10 +26,7 @@ pub record IsHere (s : Parts) (place : ℕ) (q : RequestPart) : Type 0 where
   pub windows : windows_of s q.request.0 ≡ q.windows
   pub telescopes : telescopes_of s q.request.0 ≡ q.telescopes
   pub targets : targets_of s q.request.0 ≡ q.targets
-  pub seconds_most : q.seconds ≤ 86400
-  pub value_most : q.value ≤ 288000000
-  pub fade_most : q.fade ≤ 1000
-  pub moments : All (λ w. IsMoment w.from.0) q.windows
+  pub asked : IsAsked q
 
 abbrev number_of : Listed → ℕ
 number_of x = x.request.request.0
@@ -70,6 +71,13 @@ window_spans s = flat_map (λ x. x.request.windows) (listed s)
 span_moments : (s : Parts) (w : Span) → IsOrderly s → Contains (usable_spans s ++ sky_spans s ++ window_spans s) w → IsMoment w.from.0 × IsMoment w.to.0
 span_moments s w o c = All-contains (λ v. IsMoment v.from.0 × IsMoment v.to.0) (all_spans s) w o.ranges.moments c
 
+pub usable_moments : (s : Parts) (x : TelescopePart) (w : Span) → IsOrderly s → Contains s.telescopes x → Contains x.usable w → IsMoment w.from.0 × IsMoment w.to.0
+usable_moments s x w o c d =
+    span_moments s w o (Contains-append_left (usable_spans s ++ sky_spans s) (window_spans s) w (Contains-append_left (usable_spans s) (sky_spans s) w (contains_flat_map (λ y. y.usable) s.telescopes x w c d)))
+
+pub sky_moments : (s : Parts) (x : Sky) (w : Span) → IsOrderly s → Contains s.skies x → Contains x.spans w → IsMoment w.from.0 × IsMoment w.to.0
+sky_moments s x w o c d = span_moments s w o (Contains-append_left (usable_spans s ++ sky_spans s) (window_spans s) w (Contains-append_right (usable_spans s) (sky_spans s) w (contains_flat_map (λ y. y.spans) s.skies x w c d)))
+
 pub window_moments : (s : Parts) (x : Listed) (w : Span) → IsOrderly s → Contains (listed s) x → Contains x.request.windows w → IsMoment w.from.0 × IsMoment w.to.0
 window_moments s x w o c d = span_moments s w o (Contains-append_right (usable_spans s ++ sky_spans s) (window_spans s) w (contains_flat_map (λ y. y.request.windows) (listed s) x w c d))
 
@@ -90,8 +98,11 @@ request_here s place q o l at =
       windows = ap (windows_of s) (sym number) ∙ known_or_is (λ y. y.request.windows) [] s (number_of x.0) x.0 known listing ∙ ap (λ (p : RequestPart). p.windows) same;
       telescopes = ap (telescopes_of s) (sym number) ∙ known_or_is (λ y. y.request.telescopes) [] s (number_of x.0) x.0 known listing ∙ ap (λ (p : RequestPart). p.telescopes) same;
       targets = ap (targets_of s) (sym number) ∙ known_or_is (λ y. y.request.targets) [] s (number_of x.0) x.0 known listing ∙ ap (λ (p : RequestPart). p.targets) same;
-      seconds_most = subst (λ (p : RequestPart). p.seconds ≤ 86400) same (All-contains (λ y. (1 ≤ y.request.seconds) × (y.request.seconds ≤ 86400)) (listed s) x.0 o.ranges.seconds in_list).1;
-      value_most = subst (λ (p : RequestPart). p.value ≤ 288000000) same (All-contains (λ y. (1 ≤ y.request.value) × (y.request.value ≤ 288000000)) (listed s) x.0 o.ranges.values in_list).1;
-      fade_most = subst (λ (p : RequestPart). p.fade ≤ 1000) same (All-contains (λ y. y.request.fade ≤ 1000) (listed s) x.0 o.fades in_list);
-      moments = subst (λ (p : RequestPart). All (λ w. IsMoment w.from.0) p.windows) same (λ i d m. (window_moments s x.0 (slice_index_or x.0.request.windows i d) o in_list (Contains-get_or x.0.request.windows i d m)).0);
+      asked = subst IsAsked same (record {
+        seconds_least = (All-contains (λ y. (1 ≤ y.request.seconds) × (y.request.seconds ≤ 86400)) (listed s) x.0 o.ranges.seconds in_list).0;
+        seconds_most = (All-contains (λ y. (1 ≤ y.request.seconds) × (y.request.seconds ≤ 86400)) (listed s) x.0 o.ranges.seconds in_list).1;
+        value = (All-contains (λ y. (1 ≤ y.request.value) × (y.request.value ≤ 288000000)) (listed s) x.0 o.ranges.values in_list).1;
+        fade = All-contains (λ y. y.request.fade ≤ 1000) (listed s) x.0 o.fades in_list;
+        moments = λ i d m. window_moments s x.0 (slice_index_or x.0.request.windows i d) o in_list (Contains-get_or x.0.request.windows i d m);
+      });
     }

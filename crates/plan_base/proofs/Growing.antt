@@ -1,11 +1,11 @@
 -- What the loops over prices keep.
-use Rattle.std.proofs.Common.{◌≡◌, ℕ, suc, ◌+◌, ◌*◌, ◌<◌, ◌≤◌, ◌⊎◌, inl, inr, Bool, true, false, cond, int_lt, ℤ, pos, negsuc, neg_ℤ, w64, ◌+ℤ◌, ◌≤ℤ◌, List, length, drop, slice_index_or, All, Contains, sym, ◌∙◌, subst, below_more, arith}
+use Rattle.std.proofs.Common.{◌≡◌, ℕ, ◌+◌, ◌*◌, ◌<◌, ◌≤◌, ◌⊎◌, inl, inr, Bool, true, false, cond, int_lt, ℤ, pos, negsuc, neg_ℤ, w64, ◌+ℤ◌, ◌≤ℤ◌, List, length, drop, slice_index_or, Contains, sym, ◌∙◌, subst, below_more, arith}
 use Rattle.std.proofs.lemmas.Int.{ints}
 use Rattle.std.proofs.lemmas.List.{at_drop_more, at_drop_all, get_or_default}
 use Rattle.std.proofs.lemmas.List.Elements.{Contains-get_or}
 use Rattle.plan_base.specs.Sums.{total}
 use mir.Val.{SFits}
-use Rattle.bound_checker.specs.Nets.{IsNetInRange, IsGreatestNet, positive}
+use Rattle.plan_base.specs.NetPrices.{IsNetInRange, IsGreatestPrice, positive}
 
 -- the sum of what f gives of the first i prices
 pub record IsGrown (f : ℤ → ℤ) (prices : List ℤ) (i : ℕ) (sum : ℤ) : Type 0 where
@@ -51,7 +51,7 @@ greatest_more prices i a b l first second one so_far = record {
   ];
 }
 
-pub greatest_all : (prices : List ℤ) (i : ℕ) (b : ℤ) → length prices ≤ i → IsGreatestSoFar prices i b → IsGreatestNet prices b
+pub greatest_all : (prices : List ℤ) (i : ℕ) (b : ℤ) → length prices ≤ i → IsGreatestSoFar prices i b → IsGreatestPrice prices b
 greatest_all prices i b l so_far = record {
   least = so_far.least;
   above = λ k d h. subst (λ (c : ℤ). c ≤ℤ b) (get_or_default prices k (pos 0) d h) (so_far.above k (omega arith));

@@ -1,0 +1,42 @@
+-- The greatest numbers of snapshots, plans and claims, each named once.
+use Rattle.std.specs.Prelude.{ℕ, ◌*◌, ◌^◌}
+
+-- the greatest size of a price in a claim
+abbrev pub most_price : ℕ
+most_price = 10 ^ 12
+
+-- the greatest size of a price less what its request's seconds cost of a quota
+abbrev pub most_net_price : ℕ
+most_net_price = 2 * 10 ^ 12
+
+-- the greatest price of a second of a quota
+abbrev pub most_quota_price : ℕ
+most_quota_price = 200000
+
+-- the most seconds that a quota may have
+abbrev pub most_quota : ℕ
+most_quota = 100000000
+
+-- the longest observation, in seconds
+abbrev pub most_seconds : ℕ
+most_seconds = 86400
+
+-- the greatest value of a request
+abbrev pub most_value : ℕ
+most_value = 288000000
+
+-- the last second that a span may name
+abbrev pub most_moment : ℕ
+most_moment = 10 ^ 12
+
+-- the most slices of a horizon
+abbrev pub most_slices : ℕ
+most_slices = 1440
+
+-- the most possible starts of a snapshot that is planned
+abbrev pub most_starts : ℕ
+most_starts = 1048576
+
+-- no bound reaches it
+abbrev pub bound_limit : ℕ
+bound_limit = 10 ^ 17

@@ -1,0 +1,31 @@
+// The greatest numbers of snapshots, plans and claims, each named once.
+
+/// The greatest size of a price in a claim that is certified.
+pub const MOST_PRICE: i64 = 1_000_000_000_000;
+
+/// The greatest price of a second of a quota in a claim that is certified.
+pub const MOST_QUOTA_PRICE: u32 = 200_000;
+
+/// The most seconds that a quota may have.
+pub const MOST_QUOTA: u64 = 100_000_000;
+
+/// The longest observation, in seconds: a day.
+pub const MOST_SECONDS: u32 = 86_400;
+
+/// The greatest value of a request.
+pub const MOST_VALUE: u32 = 288_000_000;
+
+/// The last second that a span may name, since a horizon may end after the last moment of a document.
+pub const MOST_MOMENT: u64 = 1_000_000_000_000;
+
+/// The most slices of a horizon.
+pub const MOST_SLICES: u32 = 1_440;
+
+/// The most requests of a snapshot, and the most groups and quotas.
+pub const MOST_REQUESTS: usize = 1_024;
+
+/// The most telescopes of a snapshot.
+pub const MOST_TELESCOPES: usize = 32;
+
+/// The most possible starts of a snapshot that is planned.
+pub const MOST_STARTS: u64 = 1_048_576;
