@@ -4,7 +4,7 @@ use Rattle.std.proofs.lemmas.List.Elements.{Contains-append_left, Contains-appen
 use Rattle.plan_base.proofs.Orders.{contains_first, contains_cases}
 use Rattle.bound_checker.specs.declared.table.Start.{Start}
 use Rattle.bound_checker.specs.declared.worth.Offer.{Offer}
-use Rattle.bound_checker.specs.Tables.{row}
+use Rattle.plan_base.specs.Tables.{row}
 use Rattle.bound_checker.specs.Listings.{start_in, IsAdded}
 
 pub added_none : (o : Offer) (first : ℕ) (P : ℕ → Type 0) (rows : List (List Start)) → ((k : ℕ) → ¬ (P k)) → IsAdded o first P rows rows

@@ -4,7 +4,8 @@ use Rattle.std.proofs.lemmas.Int.{ints}
 use Rattle.std.proofs.lemmas.List.{get_or_default}
 use Rattle.std.proofs.lemmas.List.Elements.{Contains-get_or, All-contains}
 use Rattle.bound_checker.specs.declared.table.Start.{Start}
-use Rattle.bound_checker.specs.Tables.{IsWeight, IsEntry, entry, row, gain, IsFitting, DoRowsFit, IsGreatestAt, IsRecursion}
+use Rattle.plan_base.specs.Tables.{entry, row}
+use Rattle.bound_checker.specs.Tables.{IsWeight, IsEntry, gain, IsFitting, DoRowsFit, IsGreatestAt, IsRecursion}
 
 -- the greatest of `least` and of what g gives of the first i elements
 pub record IsMostOf (xs : List Start) (g : Start → ℤ) (i : ℕ) (least most : ℤ) : Type 0 where

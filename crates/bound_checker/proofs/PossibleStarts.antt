@@ -11,6 +11,7 @@ use Rattle.plan_base.specs.declared.claim.Placement.{Placement}
 use Rattle.plan_base.specs.declared.number.TelescopeNo.{TelescopeNo}
 use Rattle.plan_base.specs.declared.number.TargetNo.{TargetNo}
 use Rattle.plan_base.specs.Requests.{IsKnown, seconds_of, windows_of, telescopes_of, targets_of}
+use Rattle.plan_base.specs.Skies.{IsSkyBelow}
 use Rattle.plan_base.specs.Snapshot.{IsOrderly}
 use Rattle.plan_base.specs.Starts.{size_of, slices_for, start_second, end_second, site_of, IsPossibleStart}
 use Rattle.plan_base.specs.BySpans.{HasAll, usable_of, IsVisibleThrough, IsPossibleBySpans}
@@ -61,15 +62,12 @@ module _ (s : Parts) (p : Placement) (q : RequestPart) (a b : ℕ) (known : IsKn
 below_same_above : (i j : ℕ) → ((i < j) ⊎ (j < i)) ⊎ (i ≡ j)
 below_same_above i j = grind arith
 
-abbrev StandsBelow : Sky → Sky → Type 0
-StandsBelow y z = (y.target.0 < z.target.0) ⊎ ((y.target.0 ≡ z.target.0) × (y.site.0 < z.site.0))
-
-not_below : (target site : ℕ) (y z : Sky) → IsSkyOf target site y → IsSkyOf target site z → StandsBelow y z → ⊥
+not_below : (target site : ℕ) (y z : Sky) → IsSkyOf target site y → IsSkyOf target site z → IsSkyBelow y z → ⊥
 not_below target site y z (a, b) (c, d) (inl h) = omega arith
 not_below target site y z (a, b) (c, d) (inr (e, h)) = omega arith
 
 -- a target has one sky at a site
-one_sky : (skies : List Sky) (target site i j : ℕ) (d : Sky) → AllPairs StandsBelow skies → i < length skies → j < length skies → IsSkyOf target site (slice_index_or skies i d) → IsSkyOf target site (slice_index_or skies j d)
+one_sky : (skies : List Sky) (target site i j : ℕ) (d : Sky) → AllPairs IsSkyBelow skies → i < length skies → j < length skies → IsSkyOf target site (slice_index_or skies i d) → IsSkyOf target site (slice_index_or skies j d)
     → i ≡ j
 one_sky skies target site i j d rise l m a b = elim (below_same_above i j) [
   | inl (inl below) ↦ absurd (not_below target site (slice_index_or skies i d) (slice_index_or skies j d) a b (rise i j d below m))
@@ -78,7 +76,7 @@ one_sky skies target site i j d rise l m a b = elim (below_same_above i j) [
 ]
 
 -- what is visible through a sky is so through the one at this place
-pub seen_in_sky : (skies : List Sky) (target site a b place : ℕ) (sky : Sky) → AllPairs StandsBelow skies → place < length skies → HoldsAt (IsSkyOf target site) skies place → sky ≡ slice_index_or skies place sky
+pub seen_in_sky : (skies : List Sky) (target site a b place : ℕ) (sky : Sky) → AllPairs IsSkyBelow skies → place < length skies → HoldsAt (IsSkyOf target site) skies place → sky ≡ slice_index_or skies place sky
     → Any (λ y. (y.target.0 ≡ target) × (y.site.0 ≡ site) × HasAll y.spans a b) skies → HasAll sky.spans a b
 seen_in_sky skies target site a b place sky rise l of at (k, y, m, there, (t, st, all)) =
     let same : k ≡ place = one_sky skies target site k place y rise m l (subst (IsSkyOf target site) (sym there) (t, st)) (of y) in

@@ -20,7 +20,8 @@ use Rattle.bound_checker.specs.declared.worth.Offer.{Offer}
 use Rattle.bound_checker.specs.declared.sight.Sight.{Sight}
 use Rattle.bound_checker.specs.Stretches.{DoesFit}
 use Rattle.bound_checker.specs.Offers.{IsOffer}
-use Rattle.bound_checker.specs.Sights.{StandsBelow, IsSkyAt, AreViews, IsClearSpans, spans_at, IsClear, IsInSight}
+use Rattle.plan_base.specs.Skies.{IsSkyBelow, IsSkyAt}
+use Rattle.bound_checker.specs.Sights.{AreViews, IsClearSpans, spans_at, IsClear, IsInSight}
 use Rattle.bound_checker.specs.Listings.{CanStart}
 use Rattle.plan_base.proofs.Here.{IsHere, element_at, usable_moments, sky_moments}
 
@@ -84,16 +85,16 @@ same_fit ws vs a b c d e f g h =
 below_same_above : (a b : ℕ) → ((a < b) ⊎ (b < a)) ⊎ (a ≡ b)
 below_same_above a b = grind arith
 
-not_both : (y z : Sky) → StandsBelow y z → y.target.0 ≡ z.target.0 → y.site.0 ≡ z.site.0 → ⊥
+not_both : (y z : Sky) → IsSkyBelow y z → y.target.0 ≡ z.target.0 → y.site.0 ≡ z.site.0 → ⊥
 not_both y z (inl h) target site = omega arith
 not_both y z (inr (e, h)) target site = omega arith
 
 -- a target has one sky at a site
-one_sky : (skies : List Sky) (target site v w : ℕ) (y z : Sky) → AllPairs StandsBelow skies → v < length skies → slice_index_or skies v y ≡ y → w < length skies → slice_index_or skies w z ≡ z
+one_sky : (skies : List Sky) (target site v w : ℕ) (y z : Sky) → AllPairs IsSkyBelow skies → v < length skies → slice_index_or skies v y ≡ y → w < length skies → slice_index_or skies w z ≡ z
     → y.target.0 ≡ target → y.site.0 ≡ site → z.target.0 ≡ target → z.site.0 ≡ site → y ≡ z
 one_sky skies target site v w y z rise l e m d yt ys zt zs = elim (below_same_above v w) [
-  | inl (inl below) ↦ absurd (not_both y z (subst (StandsBelow y) (get_or_default skies w y z m ∙ d) (subst (λ (x : Sky). StandsBelow x (slice_index_or skies w y)) e (rise v w y below m))) (yt ∙ sym zt) (ys ∙ sym zs))
-  | inl (inr above) ↦ absurd (not_both z y (subst (StandsBelow z) (get_or_default skies v z y l ∙ e) (subst (λ (x : Sky). StandsBelow x (slice_index_or skies v z)) d (rise w v z above l))) (zt ∙ sym yt) (zs ∙ sym ys))
+  | inl (inl below) ↦ absurd (not_both y z (subst (IsSkyBelow y) (get_or_default skies w y z m ∙ d) (subst (λ (x : Sky). IsSkyBelow x (slice_index_or skies w y)) e (rise v w y below m))) (yt ∙ sym zt) (ys ∙ sym zs))
+  | inl (inr above) ↦ absurd (not_both z y (subst (IsSkyBelow z) (get_or_default skies v z y l ∙ e) (subst (λ (x : Sky). IsSkyBelow x (slice_index_or skies v z)) d (rise w v z above l))) (zt ∙ sym yt) (zs ∙ sym ys))
   | inr at ↦ sym e ∙ ap (λ (k : ℕ). slice_index_or skies k y) at ∙ get_or_default skies w y z m ∙ d
 ]
 
@@ -152,7 +153,7 @@ module _ (s : Parts) (t place : ℕ) (q : RequestPart) (site : SiteNo) (x : Sigh
           skies = λ n l.
               let count : length x.views.now ≡ length q.targets = sight.views.count refl in
               let within : n < length q.targets = omega arith in
-              let view : IsSkyAt s.skies (slice_index_or q.targets n d) site (slice_index_or x.views.now n 0) = sight.views.each refl n d within in
+              let view : IsSkyAt s.skies (slice_index_or q.targets n d).0 site.0 (slice_index_or x.views.now n 0) = sight.views.each refl n d within in
               let there = seen n d within in
               let one : there.1 ≡ view.0 = one_sky s.skies (slice_index_or q.targets n d).0 site.0 there.0 (slice_index_or x.views.now n 0) there.1 view.0 orderly.skies_rise there.2 there.3 view.1 view.2 there.4.0 (there.4.1 ∙ site_same) view.3 view.4 in
               same_fit there.1.spans (spans_at x.skies.now (slice_index_or x.views.now n 0)) (start_second s p) (end_second s p) _ _ (ap (λ (z : Sky). z.spans) one ∙ view_spans (slice_index_or x.views.now n 0) view.0 view.1 view.2) begins_same ends_same there.4.2;
@@ -172,7 +173,7 @@ module _ (s : Parts) (t place : ℕ) (q : RequestPart) (site : SiteNo) (x : Sigh
         usable = same_fit x.usable.now (usable_of s p.telescope.0) _ _ (start_second s p) (end_second s p) (sym usable_same) (sym begins_same) (sym ends_same) can.in_sight.usable;
         visible = subst (All (λ target. IsVisibleThrough s target.0 (site_of s p.telescope.0) (start_second s p) (end_second s p))) (sym targets_same) (λ n e l.
             let count : length x.views.now ≡ length q.targets = sight.views.count refl in
-            let view : IsSkyAt s.skies (slice_index_or q.targets n e) site (slice_index_or x.views.now n 0) = sight.views.each refl n e l in (
+            let view : IsSkyAt s.skies (slice_index_or q.targets n e).0 site.0 (slice_index_or x.views.now n 0) = sight.views.each refl n e l in (
               slice_index_or x.views.now n 0,
               view.0,
               view.1,

@@ -6,7 +6,7 @@ use Rattle.bound_checker.specs.declared.table.Start.{Start}
 use Rattle.bound_checker.specs.declared.worth.Offer.{Offer}
 use Rattle.bound_checker.specs.declared.sight.Sight.{Sight}
 use Rattle.bound_checker.specs.declared.stretches.Stretch.{Stretch}
-use Rattle.bound_checker.specs.Tables.{row}
+use Rattle.plan_base.specs.Tables.{row}
 use Rattle.bound_checker.specs.Stretches.{IsStretch}
 use Rattle.bound_checker.specs.Sights.{IsInSight}
 use Rattle.bound_checker.specs.Listings.{start_in, IsAdded, CanStart}

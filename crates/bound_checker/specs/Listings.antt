@@ -8,7 +8,7 @@ use Rattle.plan_base.specs.Bound.{weight}
 use Rattle.bound_checker.specs.declared.table.Start.{Start}
 use Rattle.bound_checker.specs.declared.worth.Offer.{Offer}
 use Rattle.bound_checker.specs.declared.sight.Sight.{Sight}
-use Rattle.bound_checker.specs.Tables.{row}
+use Rattle.plan_base.specs.Tables.{row}
 use Rattle.bound_checker.specs.Offers.{offer_weight}
 use Rattle.bound_checker.specs.Sights.{IsInSight}
 

@@ -4,28 +4,17 @@ use Rattle.plan_base.specs.declared.span.Span.{Span}
 use Rattle.plan_base.specs.declared.parts.Sky.{Sky}
 use Rattle.plan_base.specs.declared.number.TargetNo.{TargetNo}
 use Rattle.plan_base.specs.declared.number.SiteNo.{SiteNo}
+use Rattle.plan_base.specs.Skies.{IsSkyAt}
 use Rattle.plan_base.specs.Snapshot.{IsMoment, IsSortedApart}
 use Rattle.bound_checker.specs.declared.stretches.Observation.{Observation}
 use Rattle.bound_checker.specs.declared.sight.Sight.{Sight}
 use Rattle.bound_checker.specs.Stretches.{DoesFit}
 
--- sky y stands below sky z by target, then site
-abbrev pub StandsBelow : Sky → Sky → Type 0
-StandsBelow y z = (y.target.0 < z.target.0) ⊎ ((y.target.0 ≡ z.target.0) × (y.site.0 < z.site.0))
-
--- sky y stands below the one of the target at the site
-abbrev pub is_below : Sky → TargetNo → SiteNo → Bool
-is_below y target site = nat_lt y.target.0 target.0 || ((y.target.0 == target.0) && nat_lt y.site.0 site.0)
-
--- the sky at place v is the target's at the site
-abbrev pub IsSkyAt : List Sky → TargetNo → SiteNo → ℕ → Type 0
-IsSkyAt skies target site v = (y : Sky) × (v < length skies) × (slice_index_or skies v y ≡ y) × (y.target.0 ≡ target.0) × (y.site.0 ≡ site.0)
-
 -- the views are the skies of the targets at the site, or, where `found` is false, a target has none there
 pub record AreViews (skies : List Sky) (site : SiteNo) (targets : List TargetNo) (found : Bool) (views : List ℕ) : Type 0 where
   pub count : found ≡ true → length views ≡ length targets
-  pub each : found ≡ true → (n : ℕ) (d : TargetNo) → n < length targets → IsSkyAt skies (slice_index_or targets n d) site (slice_index_or views n 0)
-  pub hidden : found ≡ false → (n : ℕ) × (n < length targets) × ((d : TargetNo) (v : ℕ) → ¬ (IsSkyAt skies (slice_index_or targets n d) site v))
+  pub each : found ≡ true → (n : ℕ) (d : TargetNo) → n < length targets → IsSkyAt skies (slice_index_or targets n d).0 site.0 (slice_index_or views n 0)
+  pub hidden : found ≡ false → (n : ℕ) × (n < length targets) × ((d : TargetNo) (v : ℕ) → ¬ (IsSkyAt skies (slice_index_or targets n d).0 site.0 v))
 
 -- moments, with gaps between the spans
 pub record IsClearSpans (spans : List Span) : Type 0 where

@@ -1,5 +1,6 @@
 -- Tables of numbers, one a slice, over rows of starts.
 use Rattle.std.specs.Prelude.{◌≡◌, ℕ, ◌+◌, ◌*◌, ◌≤◌, ◌<◌, ◌^◌, ◌⊎◌, ℤ, pos, neg_ℤ, ◌+ℤ◌, ◌≤ℤ◌, List, [], length, slice_index_or, Contains}
+use Rattle.plan_base.specs.Tables.{row, gain_from, IsGreatestOf, IsRowTable}
 use Rattle.bound_checker.specs.declared.table.Start.{Start}
 
 -- what a start may weigh
@@ -10,17 +11,9 @@ IsWeight w = (neg_ℤ (pos (10 ^ 12)) ≤ℤ w) × (w ≤ℤ pos 1000288000000)
 abbrev pub IsEntry : ℤ → Type 0
 IsEntry b = (pos 0 ≤ℤ b) × (b ≤ℤ pos (1440 * 1000288000000))
 
--- the number from slice k on
-abbrev pub entry : List ℤ → ℕ → ℤ
-entry table k = slice_index_or table k (pos 0)
-
--- the starts at slice k
-abbrev pub row : List (List Start) → ℕ → List Start
-row rows k = slice_index_or rows k []
-
 -- what a start gives, where the table has what follows it
 abbrev pub gain : List ℤ → Start → ℤ
-gain table x = x.weight +ℤ entry table x.after
+gain table x = gain_from (λ y. y.weight) (λ y. y.after) table x
 
 -- a start at slice k ends after it and within n slices
 pub record IsFitting (n k : ℕ) (x : Start) : Type 0 where
@@ -33,12 +26,9 @@ abbrev pub DoRowsFit : List (List Start) → Type 0
 DoRowsFit rows = (k : ℕ) (x : Start) → Contains (row rows k) x → IsFitting (length rows) k x
 
 -- entry k is the greatest of the next one and of what the starts at slice k give
-pub record IsGreatestAt (rows : List (List Start)) (table : List ℤ) (k : ℕ) : Type 0 where
-  pub falling : entry table (k + 1) ≤ℤ entry table k
-  pub above : (x : Start) → Contains (row rows k) x → gain table x ≤ℤ entry table k
-  pub reached : (entry table k ≡ entry table (k + 1)) ⊎ ((x : Start) × Contains (row rows k) x × (entry table k ≡ gain table x))
+abbrev pub IsGreatestAt : List (List Start) → List ℤ → ℕ → Type 0
+IsGreatestAt rows table k = IsGreatestOf (λ y. y.weight) (λ y. y.after) rows table k
 
 -- 0 at the end, and before it the greatest at each slice
-pub record IsRecursion (rows : List (List Start)) (table : List ℤ) : Type 0 where
-  pub at_end : entry table (length rows) ≡ pos 0
-  pub each : (k : ℕ) → k < length rows → IsGreatestAt rows table k
+abbrev pub IsRecursion : List (List Start) → List ℤ → Type 0
+IsRecursion rows table = IsRowTable (λ y. y.weight) (λ y. y.after) rows table

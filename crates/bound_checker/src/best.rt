@@ -28,7 +28,7 @@ pub fn best_of(
     requires range { All IsPriceInRange prices.now.0 }
     ensures { IfOk result (λ best. IsBest snapshot.now prices.now.0 telescope.0 snapshot.now.first.0 best) }
 {
-    let _ = snapshot.parts();
+    snapshot.recall_valid();
     let rows = starts_of(alloc, snapshot, telescope, prices)?;
     let mut table = empty_table(alloc, rows.len() + 1)?;
     Ok(fill_table(rows.as_slice(), table.as_mut_slice()))

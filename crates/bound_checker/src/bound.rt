@@ -32,7 +32,7 @@ pub fn bound_of(
     requires quota_range { All (λ u. u ≤ 200000) quota_prices.now.0 }
     ensures { IfOk result (λ bound. IsBound snapshot.now prices.now.0 quota_prices.now.0 (pos bound)) }
 {
-    let _ = snapshot.parts();
+    snapshot.recall_valid();
     let bests = best_sum(alloc, snapshot, prices)?;
     let rebates = rebate_sum(snapshot, prices, quota_prices);
     let quotas = quota_sum(snapshot, quota_prices);
@@ -57,7 +57,7 @@ fn best_sum(alloc: Global, snapshot: &Snapshot, prices: &Prices) -> Result<i64, 
 {
     let mut sum = Sum { value: 0 };
     for telescope in 0..snapshot.parts().telescopes.len() {
-        let _ = snapshot.parts();
+        snapshot.recall_valid();
         let best = best_of(alloc, snapshot, TelescopeNo(telescope as u16), prices)?;
         sum.value += best;
     }
@@ -73,7 +73,7 @@ fn rebate_sum(snapshot: &Snapshot, prices: &Prices, quota_prices: &QuotaPrices) 
 {
     let mut sum = Sum { value: 0 };
     for group in 0..snapshot.parts().groups.len() {
-        let _ = snapshot.parts();
+        snapshot.recall_valid();
         sum.value += rebate_of(snapshot, group, prices, quota_prices);
     }
     sum.value

@@ -62,7 +62,7 @@ pub(crate) fn request_of(snapshot: &Snapshot, request: RequestNo) -> &RequestPar
     ensures is { IsRequestOf snapshot.now request.0 result.now }
     ensures ranges { IsRequestInRanges (length snapshot.now.telescopes) result.now }
 {
-    let _ = snapshot.parts();
+    snapshot.recall_valid();
     snapshot.request_at(snapshot.known_place(request))
 }
 

@@ -1,9 +1,10 @@
 // When an observation of a request may begin on a telescope.
 
-ghost use Rattle.std.specs.Prelude.{◌≡◌, ℕ, ◌<◌, ◌^◌, ◌↔◌, IsTrue, true, false, All, AllPairs, MatchOption, IfOk, length};
+ghost use Rattle.std.specs.Prelude.{◌≡◌, ℕ, ◌<◌, ◌^◌, ◌↔◌, IsTrue, true, false, All, MatchOption, IfOk, length};
 ghost use Rattle.std.specs.List.Sorted.{IsPartitionPoint};
 ghost use Rattle.bound_checker.specs.Stretches.{IsObservation, IsStretch, both};
-ghost use Rattle.bound_checker.specs.Sights.{is_below, StandsBelow, IsSkyAt, AreViews, IsClearSpans, IsClear, IsInSkies, IsInSight};
+ghost use Rattle.plan_base.specs.Skies.{is_below, SkiesRise, IsSkyAt};
+ghost use Rattle.bound_checker.specs.Sights.{AreViews, IsClearSpans, IsClear, IsInSkies, IsInSight};
 
 use crate::stretches::{Observation, Stretch, stretch_in_any, stretch_in_sorted};
 use plan_base::{SiteNo, Sky, Span, TargetNo};
@@ -84,7 +85,7 @@ pub(crate) fn find_views(
     targets: &[TargetNo],
     views: &mut Vec<usize>,
 ) -> Result<bool, AllocError>
-    requires { AllPairs StandsBelow skies.now }
+    requires { SkiesRise skies.now }
     ensures { IfOk result (λ found. AreViews skies.now site targets.now found views.new.items) }
 {
     views.clear();
@@ -99,8 +100,8 @@ pub(crate) fn find_views(
 
 /// The place of the target's sky at a site, if it has one there.
 pub(crate) fn find_sky(skies: &[Sky], target: TargetNo, site: SiteNo) -> Option<usize>
-    requires { AllPairs StandsBelow skies.now }
-    ensures { MatchOption result ((v : ℕ) → ¬ (IsSkyAt skies.now target site v)) (IsSkyAt skies.now target site) }
+    requires { SkiesRise skies.now }
+    ensures { MatchOption result ((v : ℕ) → ¬ (IsSkyAt skies.now target.0 site.0 v)) (IsSkyAt skies.now target.0 site.0) }
 {
     let place = first_not_below(skies, target, site);
     if is_sky_at(skies, place, target, site) {
@@ -112,7 +113,7 @@ pub(crate) fn find_sky(skies: &[Sky], target: TargetNo, site: SiteNo) -> Option<
 
 /// Whether the target's sky at a site stands at a place.
 fn is_sky_at(skies: &[Sky], place: usize, target: TargetNo, site: SiteNo) -> bool
-    ensures { IsTrue result ↔ IsSkyAt skies.now target site place }
+    ensures { IsTrue result ↔ IsSkyAt skies.now target.0 site.0 place }
 {
     match skies.get(place) {
         Some(sky) => sky.target == target && sky.site == site,
@@ -122,15 +123,15 @@ fn is_sky_at(skies: &[Sky], place: usize, target: TargetNo, site: SiteNo) -> boo
 
 /// How many skies stand below the one of a target at a site.
 fn first_not_below(skies: &[Sky], target: TargetNo, site: SiteNo) -> usize
-    requires { AllPairs StandsBelow skies.now }
-    ensures { IsPartitionPoint (λ y. is_below y target site ≡ true) (λ y. is_below y target site ≡ false) skies.now result }
+    requires { SkiesRise skies.now }
+    ensures { IsPartitionPoint (λ y. is_below target.0 site.0 y ≡ true) (λ y. is_below target.0 site.0 y ≡ false) skies.now result }
 {
     skies.partition_point(|sky| is_below(sky, target, site))
 }
 
 /// Whether a sky stands below the one of a target at a site.
 fn is_below(sky: &Sky, target: TargetNo, site: SiteNo) -> bool
-    ensures { result ≡ is_below sky.now target site }
+    ensures { result ≡ is_below target.0 site.0 sky.now }
 {
     sky.target.0 < target.0 || (sky.target.0 == target.0 && sky.site.0 < site.0)
 }

@@ -3,7 +3,7 @@
 ghost use Rattle.std.specs.Prelude.{◌≡◌, ◌+◌, ◌<◌, ◌≤◌, ℕ, [], length, All, Contains, IfOk, OnOk, IsTrue, ◌↔◌};
 ghost use Rattle.plan_base.specs.Requests.{listed};
 ghost use Rattle.plan_base.specs.Verdict.{IsPriceInRange};
-ghost use Rattle.bound_checker.specs.Tables.{row};
+ghost use Rattle.plan_base.specs.Tables.{row};
 ghost use Rattle.bound_checker.specs.Offers.{IsOfferRange};
 ghost use Rattle.bound_checker.specs.Sights.{IsClear};
 ghost use Rattle.bound_checker.specs.Listings.{IsAdded, CanStart, IsListing, IsBefore};

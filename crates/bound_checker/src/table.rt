@@ -1,7 +1,8 @@
 // The greatest surplus from each slice on.
 
 ghost use Rattle.std.specs.Prelude.{◌≡◌, ℕ, ◌+◌, ◌<◌, ◌≤◌, ◌⊎◌, ℤ, pos, ◌≤ℤ◌, length, All, Contains};
-ghost use Rattle.bound_checker.specs.Tables.{IsWeight, IsEntry, entry, gain, DoRowsFit, IsRecursion};
+ghost use Rattle.plan_base.specs.Tables.{entry};
+ghost use Rattle.bound_checker.specs.Tables.{IsWeight, IsEntry, gain, DoRowsFit, IsRecursion};
 
 use plan_base::ListOf;
 

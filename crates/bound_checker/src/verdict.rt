@@ -185,7 +185,7 @@ fn sum_reason(
     requires prices { AreAllPricesFit snapshot.now claim.now }
     ensures { IfOk result (IsFirstReason snapshot.now claim.now) }
 {
-    let _ = snapshot.parts();
+    snapshot.recall_valid();
     let claimed = claim.value;
     let found = value_of(snapshot, claim.placements.as_slice());
     if claimed != found {

@@ -41,4 +41,4 @@ abbrev pub IsFirstPartly : List GroupPart → List ℕ → Option ℕ → Type 0
 IsFirstPartly groups counts None = (g : ℕ) → g < length groups → ¬ (HoldsAt (λ x. IsPartly x (slice_index_or counts g 0)) groups g)
 IsFirstPartly groups counts (Some place) =
     (place < length groups) × HoldsAt (λ x. IsPartly x (slice_index_or counts place 0)) groups place
-        × ((g : ℕ) → g < place → ¬ (HoldsAt (λ x. IsPartly x (slice_index_or counts g 0)) groups g))
+    × ((g : ℕ) → g < place → ¬ (HoldsAt (λ x. IsPartly x (slice_index_or counts g 0)) groups g))

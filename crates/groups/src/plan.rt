@@ -76,7 +76,7 @@ impl<'a> PlanBuild<'a> {
         ensures { self.new ≡ record { snapshot = self.old.snapshot; placed = self.old.placed ++ placement ∷ [] } }
     {
         let footprint = footprint_of(self.snapshot, placement);
-        let _ = self.snapshot.parts();
+        self.snapshot.recall_valid();
         self.tables.take(&footprint);
         self.placements.push_reserved(placement);
     }
@@ -92,7 +92,7 @@ impl<'a> PlanBuild<'a> {
             return false;
         };
         let footprint = footprint_of(self.snapshot, placement);
-        let _ = self.snapshot.parts();
+        self.snapshot.recall_valid();
         self.tables.release(&footprint);
         self.placements
             .retain(|placement| placement.request.0 != request.0);
@@ -161,7 +161,7 @@ fn release_all(snapshot: &Snapshot, placements: &[Placement], tables: &mut Table
     requires tables { AreTables snapshot.now placements.now tables.old }
     ensures { AreTables snapshot.now [] tables.new }
 {
-    let _ = snapshot.parts();
+    snapshot.recall_valid();
     for placement in placements {
         let footprint = footprint_of(snapshot, *placement);
         tables.release(&footprint);

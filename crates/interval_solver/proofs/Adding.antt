@@ -2,7 +2,7 @@
 use Rattle.std.proofs.Common.{◌≡◌, ◌≢◌, ℕ, ◌+◌, ◌<◌, ◌≤◌, ◌⊎◌, inl, inr, List, [], ◌∷◌, ◌++◌, length, slice_set, refl, sym, ◌∙◌, ap, get_or-set_other, get_or-set_same, length-set, arith}
 use Rattle.interval_solver.specs.declared.start.Start.{Start}
 use Rattle.interval_solver.specs.declared.offer.Offer.{Offer}
-use Rattle.interval_solver.specs.Tables.{row}
+use Rattle.plan_base.specs.Tables.{row}
 use Rattle.interval_solver.specs.Listings.{start_in, AreAdded}
 
 same_or_not : (a b : ℕ) → (a ≡ b) ⊎ (a ≢ b)

@@ -6,7 +6,8 @@ use Rattle.std.proofs.lemmas.List.Elements.{Contains-get_or}
 use Rattle.plan_base.specs.Verdict.{IsPriceInRange}
 use Rattle.plan_base.proofs.Limits.{price_in_range}
 use Rattle.interval_solver.specs.declared.start.Start.{Start}
-use Rattle.interval_solver.specs.Tables.{IsWeight, IsEntry, entry, row, start_weight, gain, IsFitting, DoRowsFit, IsGreatestAt}
+use Rattle.plan_base.specs.Tables.{entry, row}
+use Rattle.interval_solver.specs.Tables.{IsWeight, IsEntry, start_weight, gain, IsFitting, DoRowsFit, IsGreatestAt}
 
 -- a worth less a price in its range
 difference_between : (w : ℕ) (c : ℤ) → w ≤ 288000000 → IsPriceInRange c → IsWeight (pos w -ℤ c)

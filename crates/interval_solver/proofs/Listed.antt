@@ -18,7 +18,7 @@ use Rattle.snapshot_starts.specs.Runs.{start_at, starts_of_run, starts_of, IsRun
 use Rattle.snapshot_starts.proofs.InRuns.{pairs_append, IsIn, in_run, from_run, in_starts, from_starts}
 use Rattle.interval_solver.specs.declared.start.Start.{Start}
 use Rattle.interval_solver.specs.declared.offer.Offer.{Offer}
-use Rattle.interval_solver.specs.Tables.{row}
+use Rattle.plan_base.specs.Tables.{row}
 use Rattle.interval_solver.specs.Offers.{IsOffer}
 use Rattle.interval_solver.specs.Listings.{start_in, AreAdded, AreAllRuns, IsOfFirst, IsStartOf, IsToldBy, IsStartAt, IsListing}
 use Rattle.std.specs.Prelude.{HoldsAt}

@@ -11,9 +11,11 @@ use Rattle.plan_base.specs.Snapshot.{IsOrderly}
 use Rattle.plan_base.specs.Starts.{IsPossibleStart}
 use Rattle.plan_base.specs.Canonical.{IsIdle, IsTight, IsIdleUpTo, StartsLowest, IsCanonicalFrom, IsCanonicalUse}
 use Rattle.plan_base.proofs.OneFill.{same_placement}
-use Rattle.plan_base.proofs.Tables.{slice_after, horizon_end, idle_from_table, table_from_idle, tight_from_table, table_from_tight}
+use Rattle.plan_base.specs.Tables.{slice_after, horizon_end}
+use Rattle.plan_base.proofs.Tables.{idle_from_table, table_from_idle, tight_from_table, table_from_tight}
 use Rattle.interval_solver.specs.declared.start.Start.{Start}
-use Rattle.interval_solver.specs.Tables.{entry, row, gain, IsRecursion, IsFirstTight}
+use Rattle.plan_base.specs.Tables.{entry, row}
+use Rattle.interval_solver.specs.Tables.{gain, IsRecursion, IsFirstTight}
 use Rattle.interval_solver.specs.Listings.{IsToldBy, IsStartAt, IsListing}
 use Rattle.interval_solver.proofs.Filling.{row_read}
 use Rattle.interval_solver.proofs.Tabled.{rows_fit, from_slice, gain_is, is_table}

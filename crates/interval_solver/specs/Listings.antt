@@ -9,7 +9,7 @@ use Rattle.snapshot_starts.specs.Runs.{starts_of_run, starts_of, IsRunBefore}
 use Rattle.interval_solver.specs.declared.start.Start.{Start}
 use Rattle.interval_solver.specs.declared.offer.Offer.{Offer}
 use Rattle.interval_solver.specs.Offers.{offer_worth}
-use Rattle.interval_solver.specs.Tables.{row}
+use Rattle.plan_base.specs.Tables.{row}
 
 -- the start of an offer in row i, where the rows begin at the slice `first`
 abbrev pub start_in : Offer → ℕ → ℕ → Start

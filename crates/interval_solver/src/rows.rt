@@ -3,7 +3,7 @@
 ghost use Rattle.std.specs.Prelude.{◌≡◌, ◌+◌, ◌<◌, ◌≤◌, ℕ, [], length, HoldsAt, IfOk, OnOk};
 ghost use Rattle.plan_base.specs.Starts.{IsPossibleStart};
 ghost use Rattle.snapshot_starts.specs.Runs.{AreAllStarts};
-ghost use Rattle.interval_solver.specs.Tables.{row};
+ghost use Rattle.plan_base.specs.Tables.{row};
 ghost use Rattle.interval_solver.specs.Offers.{IsOfferRange};
 ghost use Rattle.interval_solver.specs.Listings.{AreAdded, AreAllRuns, IsOfFirst, IsListing};
 
@@ -66,7 +66,7 @@ fn list_run(
     let Some(request) = snapshot.place_of(run.request) else {
         return Ok(());
     };
-    let _ = snapshot.request_count();
+    snapshot.recall_valid();
     let offer = offer_of(parts.len, request as u32, snapshot.request_at(request));
     let from = u64::from(run.first.0);
     let to = from + u64::from(run.count);

@@ -75,7 +75,7 @@ impl<'a> Solver<'a> {
         ensures same_snapshot { self.new.snapshot ≡ self.old.snapshot }
         ensures same_telescope { self.new.telescope ≡ self.old.telescope }
     {
-        let _ = self.snapshot.parts();
+        self.snapshot.recall_valid();
         let prices = prices.0.as_slice();
         let best = fill_table(self.rows.as_slice(), prices, self.table.as_mut_slice());
         walk(
@@ -104,7 +104,7 @@ impl<'a> Solver<'a> {
         requires { member < length (listed self.now.snapshot) }
         ensures { HoldsAt (λ x. result ≡ uses_of self.now.chosen x.request.request.0) (listed self.now.snapshot) member }
     {
-        let _ = self.snapshot.parts();
+        self.snapshot.recall_valid();
         self.uses.count(member)
     }
 }

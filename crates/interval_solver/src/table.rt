@@ -2,7 +2,8 @@
 
 ghost use Rattle.std.specs.Prelude.{◌≡◌, ◌+◌, ◌<◌, ◌≤◌, ◌⊎◌, ◌≤ℤ◌, length, All, Contains};
 ghost use Rattle.plan_base.specs.Verdict.{IsPriceInRange};
-ghost use Rattle.interval_solver.specs.Tables.{IsEntry, entry, gain, DoRowsFit, IsRecursion};
+ghost use Rattle.plan_base.specs.Tables.{entry};
+ghost use Rattle.interval_solver.specs.Tables.{IsEntry, gain, DoRowsFit, IsRecursion};
 
 use crate::start::Start;
 use plan_base::ListOf;

@@ -5,7 +5,8 @@ ghost use Rattle.plan_base.specs.Requests.{listed};
 ghost use Rattle.plan_base.specs.Starts.{IsPossibleStart};
 ghost use Rattle.plan_base.specs.Canonical.{IsCanonicalUse};
 ghost use Rattle.plan_base.specs.Verdict.{IsPriceInRange};
-ghost use Rattle.interval_solver.specs.Tables.{IsEntry, entry, gain, IsRecursion, IsFirstTight};
+ghost use Rattle.plan_base.specs.Tables.{entry};
+ghost use Rattle.interval_solver.specs.Tables.{IsEntry, gain, IsRecursion, IsFirstTight};
 ghost use Rattle.interval_solver.specs.Listings.{IsListing};
 ghost use Rattle.interval_solver.specs.Uses.{AreUsesOf};
 

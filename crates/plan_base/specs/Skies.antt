@@ -19,7 +19,7 @@ is_below target site sky = nat_lt sky.target.0 target || ((sky.target.0 == targe
 
 -- the sky at place n is that of the target at the site
 abbrev pub IsSkyAt : List Sky → ℕ → ℕ → ℕ → Type 0
-IsSkyAt skies target site n = (sky : Sky) × (n < length skies) × (slice_index_or skies n sky ≡ sky) × IsSkyOf target site sky
+IsSkyAt skies target site n = (sky : Sky) × (n < length skies) × (slice_index_or skies n sky ≡ sky) × (sky.target.0 ≡ target) × (sky.site.0 ≡ site)
 
 -- the skies before place n stand below that of the target at the site, and those from it on don't
 pub record IsCountBelow (skies : List Sky) (target site n : ℕ) : Type 0 where

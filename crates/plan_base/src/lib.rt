@@ -39,6 +39,7 @@ pub use list::{ListOf, repeated};
 pub use name::{NAME_BYTES, Name};
 pub use number::{GroupNo, RequestNo, Sec, SiteNo, SliceNo, TargetNo, TelescopeNo};
 pub use parts::{GroupPart, Op, Parts, RequestPart, Sky, TelescopePart};
+pub use sky::sky_of;
 pub use slicing::{faded, larger, least_from, slices_for};
 pub use snapshot::Snapshot;
 pub use solved::Solved;

@@ -7,7 +7,7 @@ use crate::number::{SiteNo, TargetNo};
 use crate::parts::Sky;
 
 /// The sky of the target at the site, of skies in rising order of target, then site. It looks by halves.
-pub(crate) fn sky_of(skies: &[Sky], target: TargetNo, site: SiteNo) -> Option<&Sky>
+pub fn sky_of(skies: &[Sky], target: TargetNo, site: SiteNo) -> Option<&Sky>
     requires { SkiesRise skies.now }
     ensures { MatchOption result
         (All (λ sky. ¬ (IsSkyOf target.0 site.0 sky)) skies.now)

@@ -59,7 +59,7 @@ fn taken_flags(snapshot: &Snapshot, net: &[i64]) -> [bool; MOST_REQUESTS]
     ensures room { length (listed snapshot.now) ≤ 1024 }
     ensures taken { AreTaken snapshot.now (price snapshot.now net.now) result }
 {
-    let _few = snapshot.request_count();
+    snapshot.recall_valid();
     let mut taken = [false; MOST_REQUESTS];
     write_taken(snapshot, net, &mut taken);
     taken
@@ -72,7 +72,7 @@ fn demands_of(snapshot: &Snapshot, taken: &[bool]) -> [u64; MOST_QUOTAS]
     ensures room { length snapshot.now.quotas ≤ 1024 }
     ensures demand { (c : ℕ → ℤ) (q : ℕ) → AreTaken snapshot.now c taken.now → slice_index_or result q 0 ≡ demand_of snapshot.now c q }
 {
-    let _parts = snapshot.parts();
+    snapshot.recall_valid();
     let mut demands = [0; MOST_QUOTAS];
     add_demands(snapshot, taken, &mut demands);
     demands

@@ -1,4 +1,3 @@
-pub mod Skies
 pub mod Begun
 pub mod Pairing
 pub mod Open

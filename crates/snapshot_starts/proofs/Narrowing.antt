@@ -13,9 +13,9 @@ use Rattle.plan_base.specs.Snapshot.{IsOrderly, IsSortedApart}
 use Rattle.plan_base.specs.BySpans.{HasAll, IsVisibleThrough}
 use Rattle.interval_set.specs.Spans.{span_has, has, IsSetOf, IsMeet}
 use Rattle.snapshot_starts.specs.Slices.{AreSlices, IsHorizonFor}
-use Rattle.snapshot_starts.specs.Skies.{IsSkyOf}
+use Rattle.plan_base.specs.Skies.{IsSkyOf}
 use Rattle.snapshot_starts.specs.Pairs.{IsTimely, IsOpen}
-use Rattle.snapshot_starts.proofs.Skies.{seen_by, seen_one}
+use Rattle.plan_base.proofs.Skies.{seen_by, seen_one}
 use Rattle.snapshot_starts.proofs.Sets.{set_slices, meet_slices, same_slices}
 
 or_false : (b : Bool) → (b || false) ≡ b

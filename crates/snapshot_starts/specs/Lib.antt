@@ -1,6 +1,5 @@
 pub mod Runs
 pub mod Kept
-pub mod Skies
 pub mod Pairs
 pub mod Slices
 pub mod Found

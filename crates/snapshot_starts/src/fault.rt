@@ -9,7 +9,7 @@ use thiserror::Error;
 /// Why possible starts aren't listed.
 #[derive(Clone, Copy, Debug, PartialEq, Eq, Error)]
 pub enum StartFault {
-    /// There are more than [`crate::MOST_STARTS`]; the count is exact.
+    /// There are more than [`plan_base::MOST_STARTS`]; the count is exact.
     #[error("{count} possible starts are too many")]
     TooManyStarts { count: u64 },
     /// Memory ran out.

@@ -7,9 +7,9 @@ ghost use Rattle.snapshot_starts.specs.Found.{IsFoundFor, AreFound};
 
 use crate::fault::StartFault;
 use crate::found::{count_starts, runs_of};
-use crate::list::{MOST_STARTS, Starts};
+use crate::list::Starts;
 use crate::pair::{Pair, PairSlices, pairs_of, slices_of_pair};
-use plan_base::Snapshot;
+use plan_base::{MOST_STARTS, Snapshot};
 use rayon::prelude::*;
 use std::alloc::{AllocError, Global};
 use std::thread::Threads;
@@ -26,7 +26,7 @@ pub fn starts<R: Threads + Sync>(
     ensures few { IfOk result (λ starts. length starts ≤ 1048576) }
     ensures err { IfErr result (λ fault. IsCauseOf snapshot.now fault) }
 {
-    let _ = snapshot.parts();
+    snapshot.recall_valid();
     let found = find_all(rt, alloc, snapshot)?;
     let count = count_starts(found.as_slice());
     if count > MOST_STARTS {

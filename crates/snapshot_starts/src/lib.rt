@@ -9,7 +9,6 @@ mod observation;
 mod pair;
 mod possible;
 mod run;
-mod sky;
 mod slices;
 mod telescope;
 #[cfg(test)]
@@ -17,6 +16,6 @@ mod tests;
 
 pub use fault::StartFault;
 pub use find::starts;
-pub use list::{MOST_STARTS, Starts};
+pub use list::Starts;
 pub use possible::is_possible;
 pub use run::Run;

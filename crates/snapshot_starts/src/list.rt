@@ -10,9 +10,6 @@ use plan_base::{Placement, SliceNo};
 use std::alloc::{AllocError, Global};
 use std::marker::Model;
 
-/// The most possible starts that are listed.
-pub const MOST_STARTS: u64 = 1_048_576;
-
 /// Possible starts in the order of request, telescope and slice. Contracts see the list of them; kept are their runs.
 #[derive(Debug, Drop)]
 pub struct Starts {

@@ -3,10 +3,9 @@
 ghost use Rattle.std.specs.Prelude.{◌≡◌, ◌+◌, ◌*◌, ◌≤◌, ◌<◌, ◌↔◌, IsTrue, Any, All};
 ghost use Rattle.plan_base.specs.Snapshot.{IsSortedApart, IsInRanges};
 ghost use Rattle.plan_base.specs.BySpans.{HasAll};
-ghost use Rattle.snapshot_starts.specs.Skies.{SkiesRise, IsSkyOf};
+ghost use Rattle.plan_base.specs.Skies.{SkiesRise, IsSkyOf};
 
-use crate::sky::sky_of;
-use plan_base::{Sec, SiteNo, Sky, SliceNo, Span, TargetNo};
+use plan_base::{Sec, SiteNo, Sky, SliceNo, Span, TargetNo, sky_of};
 
 /// The seconds of an observation that begins with a slice.
 pub(crate) fn times_of(len: u32, seconds: u32, slice: SliceNo) -> Span

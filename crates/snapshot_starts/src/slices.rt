@@ -7,11 +7,10 @@ ghost use Rattle.interval_set.specs.Spans.{has};
 ghost use Rattle.snapshot_starts.specs.Slices.{AreSlices, AreSlicesIn, IsHorizonFor};
 ghost use Rattle.snapshot_starts.specs.Pairs.{IsTimely, IsOpen, CanStart};
 
-use crate::sky::sky_of;
 use crate::telescope::{is_able, telescope_at};
 use interval_set::Spans;
 use plan_base::{
-    Parts, RequestPart, Sec, SiteNo, Span, TargetNo, TelescopeNo, TelescopePart, slices_for,
+    Parts, RequestPart, Sec, SiteNo, Span, TargetNo, TelescopeNo, TelescopePart, sky_of, slices_for,
 };
 use std::alloc::{AllocError, Global};
 

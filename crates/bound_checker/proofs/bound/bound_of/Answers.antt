@@ -8,7 +8,7 @@ use mir.Val.{SFits}
 
 pub sum_of-requires-clause-bests : goal.sum_of-requires-clause-bests
 sum_of-requires-clause-bests c =
-    let few : length c.args.snapshot.now.telescopes ≤ 32 = few_telescopes c.args.snapshot.now c.parts.ensures.orderly in
+    let few : length c.args.snapshot.now.telescopes ≤ 32 = few_telescopes c.args.snapshot.now c.recall_valid.ensures.orderly in
     let least : pos 0 ≤ℤ c.in_ok-bests.bests = c.in_ok-bests.ensures.least in
     let most : c.in_ok-bests.bests ≤ℤ pos (length c.args.snapshot.now.telescopes * 1440414720000000) = c.in_ok-bests.ensures.most in
     let both : IsPartSum c.in_ok-bests.bests = (least, omega (arith, ints)) in
@@ -17,7 +17,7 @@ sum_of-requires-clause-bests c =
 
 pub sum_of-requires-clause-rebates : goal.sum_of-requires-clause-rebates
 sum_of-requires-clause-rebates c =
-    let few : length c.args.snapshot.now.groups ≤ 1024 = few_groups c.args.snapshot.now c.parts.ensures.orderly in
+    let few : length c.args.snapshot.now.groups ≤ 1024 = few_groups c.args.snapshot.now c.recall_valid.ensures.orderly in
     let least : pos 0 ≤ℤ c.rebate_sum-rebates.result = c.rebate_sum-rebates.ensures.least in
     let most : c.rebate_sum-rebates.result ≤ℤ pos (length c.args.snapshot.now.groups * 1024000000000000) = c.rebate_sum-rebates.ensures.most in
     let both : IsPartSum c.rebate_sum-rebates.result = (least, omega (arith, ints)) in
@@ -26,7 +26,7 @@ sum_of-requires-clause-rebates c =
 
 pub sum_of-requires-clause-quotas : goal.sum_of-requires-clause-quotas
 sum_of-requires-clause-quotas c =
-    let few : length c.args.snapshot.now.quotas ≤ 1024 = few_quotas c.args.snapshot.now c.parts.ensures.orderly in
+    let few : length c.args.snapshot.now.quotas ≤ 1024 = few_quotas c.args.snapshot.now c.recall_valid.ensures.orderly in
     let least : pos 0 ≤ℤ c.quota_sum-quotas.result = c.quota_sum-quotas.ensures.least in
     let most : c.quota_sum-quotas.result ≤ℤ pos (length c.args.snapshot.now.quotas * 20000000000000) = c.quota_sum-quotas.ensures.most in
     let both : IsPartSum c.quota_sum-quotas.result = (least, omega (arith, ints)) in
@@ -35,9 +35,9 @@ sum_of-requires-clause-quotas c =
 
 pub returns : goal.returns
 returns c =
-    let first : length c.args.snapshot.now.telescopes ≤ 32 = few_telescopes c.args.snapshot.now c.parts.ensures.orderly in
-    let second : length c.args.snapshot.now.groups ≤ 1024 = few_groups c.args.snapshot.now c.parts.ensures.orderly in
-    let third : length c.args.snapshot.now.quotas ≤ 1024 = few_quotas c.args.snapshot.now c.parts.ensures.orderly in
+    let first : length c.args.snapshot.now.telescopes ≤ 32 = few_telescopes c.args.snapshot.now c.recall_valid.ensures.orderly in
+    let second : length c.args.snapshot.now.groups ≤ 1024 = few_groups c.args.snapshot.now c.recall_valid.ensures.orderly in
+    let third : length c.args.snapshot.now.quotas ≤ 1024 = few_quotas c.args.snapshot.now c.recall_valid.ensures.orderly in
     let one : c.in_ok-bests.bests ≤ℤ pos (length c.args.snapshot.now.telescopes * 1440414720000000) = c.in_ok-bests.ensures.most in
     let two : c.rebate_sum-rebates.result ≤ℤ pos (length c.args.snapshot.now.groups * 1024000000000000) = c.rebate_sum-rebates.ensures.most in
     let three : c.quota_sum-quotas.result ≤ℤ pos (length c.args.snapshot.now.quotas * 20000000000000) = c.quota_sum-quotas.ensures.most in

@@ -11,5 +11,5 @@ returns-clause-is c =
 
 pub returns-clause-ranges : goal.returns-clause-ranges
 returns-clause-ranges c =
-    request_in_ranges c.args.snapshot.now c.args.request.0 c.request_at.result.now c.parts.ensures.orderly c.requires
+    request_in_ranges c.args.snapshot.now c.args.request.0 c.request_at.result.now c.recall_valid.ensures.orderly c.requires
     (subst (λ (k : ℕ). HoldsAt (λ x. x.request ≡ c.request_at.result.now) (listed c.args.snapshot.now) k) c.known_place.ensures.value c.request_at.ensures)

@@ -5,7 +5,7 @@ use Rattle.plan_base.specs.declared.parts.Sky.{Sky}
 use Rattle.plan_base.specs.declared.span.Span.{Span}
 use Rattle.plan_base.specs.BySpans.{HasAll}
 use Rattle.bound_checker.specs.Claims.{IsSkyOf}
-use Rattle.bound_checker.specs.Sights.{IsSkyAt}
+use Rattle.plan_base.specs.Skies.{IsSkyAt}
 use Rattle.bound_checker.proofs.PossibleStarts.{seen_in_sky, sky_has}
 use Rattle.bound_checker.proofs.possible.is_visible.Goals as goal
 
@@ -13,7 +13,7 @@ pub returns-in-Some : goal.returns-in-Some
 returns-in-Some c =
     let skies : List Sky = c.args.parts.now.skies in
     let place : ℕ = c.in-Some.place in
-    let found : IsSkyAt skies c.args.target c.args.site place = subst (λ (ys : List Sky). IsSkyAt ys c.args.target c.args.site place) c.as_slice-skies.ensures c.in-Some.ensures in
+    let found : IsSkyAt skies c.args.target.0 c.args.site.0 place = subst (λ (ys : List Sky). IsSkyAt ys c.args.target.0 c.args.site.0 place) c.as_slice-skies.ensures c.in-Some.ensures in
     let there : (place < length skies) × HoldsAt (IsSkyOf c.args.target.0 c.args.site.0) skies place = (found.1, λ d. subst (IsSkyOf c.args.target.0 c.args.site.0) (sym (get_or_default skies place d found.0 found.1 ∙ found.2)) (found.3, found.4)) in
     let at : c.index-skies-place.result ≡ slice_index_or skies place c.index-skies-place.result = c.index-skies-place.is ∙ ap (λ (ys : List Sky). slice_index_or ys place c.index-skies-place.result) c.as_slice-skies.ensures in
     let spans : c.as_slice.result.now ≡ c.index-skies-place.result.spans = c.as_slice.ensures ∙ ap (λ (y : Sky). y.spans) (sym c.index-skies-place.is) in
@@ -27,6 +27,6 @@ pub returns-in-None : goal.returns-in-None
 returns-in-None c = (
   λ yes. absurd (cc),
   λ seen.
-      let none : (v : ℕ) → ¬ (IsSkyAt c.args.parts.now.skies c.args.target c.args.site v) = subst (λ (ys : List Sky). (v : ℕ) → ¬ (IsSkyAt ys c.args.target c.args.site v)) c.as_slice-skies.ensures c.in-None.ensures in
+      let none : (v : ℕ) → ¬ (IsSkyAt c.args.parts.now.skies c.args.target.0 c.args.site.0 v) = subst (λ (ys : List Sky). (v : ℕ) → ¬ (IsSkyAt ys c.args.target.0 c.args.site.0 v)) c.as_slice-skies.ensures c.in-None.ensures in
       absurd (none seen.0 (seen.1, seen.2, seen.3, seen.4.0, seen.4.1)),
 )

@@ -1,5 +1,5 @@
 use Rattle.std.proofs.Common.{◌≡◌, ℕ, ◌-◌, ◌≤◌, [], length}
-use Rattle.bound_checker.specs.Tables.{row}
+use Rattle.plan_base.specs.Tables.{row}
 use Rattle.bound_checker.proofs.starts.empty_rows.Given as goal
 
 abbrev pub invariant-loop-alloc : goal.invariant-loop-alloc

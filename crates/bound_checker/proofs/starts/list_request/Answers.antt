@@ -7,7 +7,7 @@ use Rattle.plan_base.specs.declared.number.TelescopeNo.{TelescopeNo}
 use Rattle.plan_base.specs.Starts.{site_of}
 use Rattle.bound_checker.specs.declared.sight.Sight.{Sight}
 use Rattle.bound_checker.specs.Offers.{IsOffer}
-use Rattle.bound_checker.specs.Sights.{StandsBelow}
+use Rattle.plan_base.specs.Skies.{SkiesRise}
 use Rattle.bound_checker.specs.Listings.{IsAdded, CanStart, IsListing, IsBefore}
 use Rattle.plan_base.proofs.Here.{IsHere, request_here}
 use Rattle.bound_checker.proofs.Seen.{IsSightOf, site_read, usable_read, views_read, sight_clear, hidden_never}
@@ -25,7 +25,7 @@ returns-then-not-has_telescope c =
 pub find_views-requires : goal.find_views-requires
 find_views-requires c =
     let skies : c.as_slice-skies.result.now ≡ c.args.snapshot.now.skies = c.as_slice-skies.ensures ∙ ap (λ (s : Parts). s.skies) c.parts-parts.ensures.value in
-    subst (λ (ys : List Sky). AllPairs StandsBelow ys) (sym skies) c.parts-parts.ensures.orderly.skies_rise
+    subst (λ (ys : List Sky). SkiesRise ys) (sym skies) c.parts-parts.ensures.orderly.skies_rise
 
 pub returns-then-not-branch : goal.returns-then-not-branch
 returns-then-not-branch c =

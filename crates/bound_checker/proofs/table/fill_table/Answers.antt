@@ -2,7 +2,8 @@ use Rattle.std.proofs.Common.{rules, arith, ◌≡◌, ◌+◌, ◌-◌, ◌<◌
 use Rattle.std.proofs.lemmas.Int.{to_z-of_z}
 use Rattle.std.proofs.lemmas.List.{get_or_default}
 use Rattle.bound_checker.specs.declared.table.Start.{Start}
-use Rattle.bound_checker.specs.Tables.{IsEntry, entry, row, gain, IsFitting}
+use Rattle.plan_base.specs.Tables.{entry, row}
+use Rattle.bound_checker.specs.Tables.{IsEntry, gain, IsFitting}
 use Rattle.bound_checker.proofs.Filling.{IsMostOf, IsFilledFrom, filled_entry, filled_more, row_fits, row_read}
 use Rattle.bound_checker.proofs.table.fill_table.Goals as goal
 use mir.Val.{SFits}

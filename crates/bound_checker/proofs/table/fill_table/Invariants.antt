@@ -1,5 +1,5 @@
 use Rattle.std.proofs.Common.{◌≡◌, ℕ, ◌+◌, ◌<◌, pos, length}
-use Rattle.bound_checker.specs.Tables.{entry}
+use Rattle.plan_base.specs.Tables.{entry}
 use Rattle.bound_checker.proofs.Filling.{IsFilledFrom}
 use Rattle.bound_checker.proofs.table.fill_table.Given as goal
 

@@ -9,7 +9,7 @@ pub value_of-found-requires-clause-few : goal.value_of-found-requires-clause-few
 value_of-found-requires-clause-few c =
     let s = c.args.snapshot.now in
     let plan = c.args.claim.now.placements in
-    let few = few_feasible s plan c.parts.ensures.orderly c.requires.feasible in
+    let few = few_feasible s plan c.recall_valid.ensures.orderly c.requires.feasible in
     let same : length c.as_slice.result.now ≡ length plan = ap (λ (xs : List Placement). length xs) c.as_slice.ensures in
     omega arith
 

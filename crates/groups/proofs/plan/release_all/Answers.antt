@@ -6,7 +6,7 @@ use Rattle.groups.proofs.plan.release_all.Goals as goal
 
 pub release-requires-clause-within : goal.release-requires-clause-within
 release-requires-clause-within c =
-    in_tables c.args.snapshot.now (drop c.loop-placement.placement-index c.args.placements.now) _ c.footprint_of-footprint.result c.loop-placement.tables c.parts.ensures.orderly (c.requires.possible c.loop-placement.placement-index _ c.loop-placement-test.true) c.loop-placement.invariant c.footprint_of-footprint.ensures
+    in_tables c.args.snapshot.now (drop c.loop-placement.placement-index c.args.placements.now) _ c.footprint_of-footprint.result c.loop-placement.tables c.recall_valid.ensures.orderly (c.requires.possible c.loop-placement.placement-index _ c.loop-placement-test.true) c.loop-placement.invariant c.footprint_of-footprint.ensures
 
 pub release-requires-clause-taken_up : goal.release-requires-clause-taken_up
 release-requires-clause-taken_up c =

@@ -1,5 +1,5 @@
 use Rattle.std.proofs.Common.{◌≡◌, ℕ, ◌-◌, ◌≤◌, [], length}
-use Rattle.interval_solver.specs.Tables.{row}
+use Rattle.plan_base.specs.Tables.{row}
 use Rattle.interval_solver.proofs.rows.empty_rows.Given as goal
 
 abbrev pub invariant-loop-alloc : goal.invariant-loop-alloc

@@ -2,7 +2,8 @@ use Rattle.std.proofs.Common.{rules, arith, ◌≡◌, ◌+◌, ◌-◌, pos, Li
 use Rattle.std.proofs.lemmas.Int.{to_z-of_z}
 use Rattle.std.proofs.lemmas.List.{get_or_default}
 use Rattle.interval_solver.specs.declared.start.Start.{Start}
-use Rattle.interval_solver.specs.Tables.{IsEntry, entry, row, gain}
+use Rattle.plan_base.specs.Tables.{entry, row}
+use Rattle.interval_solver.specs.Tables.{IsEntry, gain}
 use Rattle.interval_solver.proofs.Filling.{IsMostOf, IsFilledFrom, filled_entry, filled_more, row_fits, row_read}
 use Rattle.interval_solver.proofs.table.fill_table.Goals as goal
 use mir.Val.{SFits}

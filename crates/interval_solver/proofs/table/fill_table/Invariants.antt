@@ -1,5 +1,5 @@
 use Rattle.std.proofs.Common.{◌≡◌, ℕ, ◌+◌, ◌<◌, pos, length}
-use Rattle.interval_solver.specs.Tables.{entry}
+use Rattle.plan_base.specs.Tables.{entry}
 use Rattle.interval_solver.proofs.Filling.{IsFilledFrom}
 use Rattle.interval_solver.proofs.table.fill_table.Given as goal
 

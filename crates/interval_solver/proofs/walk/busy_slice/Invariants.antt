@@ -1,5 +1,5 @@
 use Rattle.std.proofs.Common.{◌≡◌, ℕ, ◌+◌, ◌-◌, ◌<◌, ◌≤◌, length}
-use Rattle.interval_solver.specs.Tables.{entry}
+use Rattle.plan_base.specs.Tables.{entry}
 use Rattle.interval_solver.proofs.walk.busy_slice.Given as goal
 
 abbrev pub invariant-loop-slice : goal.invariant-loop-slice

@@ -4,7 +4,8 @@ use Rattle.std.proofs.lemmas.List.{length_push}
 use Rattle.plan_base.specs.declared.parts.Parts.{Parts}
 use Rattle.plan_base.specs.declared.claim.Placement.{Placement}
 use Rattle.interval_solver.specs.declared.start.Start.{Start}
-use Rattle.interval_solver.specs.Tables.{entry, row, IsFirstTight}
+use Rattle.plan_base.specs.Tables.{entry, row}
+use Rattle.interval_solver.specs.Tables.{IsFirstTight}
 use Rattle.interval_solver.specs.Uses.{Started, AreUsesOf}
 use Rattle.interval_solver.proofs.Filling.{row_fits, row_read}
 use Rattle.interval_solver.proofs.Tabled.{rows_fit}

@@ -1,5 +1,5 @@
 use Rattle.std.proofs.Common.{◌≢◌, ◌+◌, ◌-◌, ◌<◌, ◌≤◌, length}
-use Rattle.interval_solver.specs.Tables.{entry}
+use Rattle.plan_base.specs.Tables.{entry}
 use Rattle.interval_solver.specs.Uses.{AreUsesOf}
 use Rattle.interval_solver.proofs.Walking.{IsWalked}
 use Rattle.interval_solver.proofs.walk.walk.Given as goal

@@ -4,7 +4,7 @@ use Rattle.plan_base.specs.declared.parts.Sky.{Sky}
 use Rattle.plan_base.specs.declared.span.Span.{Span}
 use Rattle.plan_base.specs.BySpans.{HasAll}
 use Rattle.interval_set.specs.Spans.{IsSortedApart}
-use Rattle.snapshot_starts.proofs.Skies.{seen_by, seen_one}
+use Rattle.plan_base.proofs.Skies.{seen_by, seen_one}
 use Rattle.snapshot_starts.proofs.observation.is_visible.Goals as goal
 
 pub lies_in_sorted-requires : goal.lies_in_sorted-requires

@@ -4,7 +4,7 @@ use Rattle.std.proofs.lemmas.Bool.{false≢true}
 use Rattle.std.proofs.lemmas.List.{get_or_default}
 use Rattle.plan_base.specs.declared.number.TargetNo.{TargetNo}
 use Rattle.plan_base.specs.declared.parts.Sky.{Sky}
-use Rattle.snapshot_starts.proofs.Skies.{IsSeen}
+use Rattle.plan_base.proofs.Skies.{IsSeen}
 use Rattle.snapshot_starts.proofs.possible.are_visible.Goals as goal
 
 pub returns-then-not-is_visible : goal.returns-then-not-is_visible

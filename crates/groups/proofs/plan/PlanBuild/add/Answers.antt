@@ -12,14 +12,14 @@ pub take-requires-clause-within : goal.take-requires-clause-within
 take-requires-clause-within c =
     let at : c.self.inside.snapshot.now ≡ c.args.self.now.snapshot = ap (λ (b : Building). b.snapshot) c.self.view_is in
     let possible : IsPossibleStart c.self.inside.snapshot.now c.args.placement = subst (λ (s : Parts). IsPossibleStart s c.args.placement) (sym at) c.requires.possible in
-    in_tables c.self.inside.snapshot.now c.self.inside.placements.items c.args.placement c.footprint_of-footprint.result c.self.inside.tables c.parts.ensures.orderly possible c.self.invariant.tables c.footprint_of-footprint.ensures
+    in_tables c.self.inside.snapshot.now c.self.inside.placements.items c.args.placement c.footprint_of-footprint.result c.self.inside.tables c.recall_valid.ensures.orderly possible c.self.invariant.tables c.footprint_of-footprint.ensures
 
 pub take-requires-clause-left_out : goal.take-requires-clause-left_out
 take-requires-clause-left_out c =
     let at : c.self.inside.snapshot.now ≡ c.args.self.now.snapshot = ap (λ (b : Building). b.snapshot) c.self.view_is in
     let possible : IsPossibleStart c.self.inside.snapshot.now c.args.placement = subst (λ (s : Parts). IsPossibleStart s c.args.placement) (sym at) c.requires.possible in
     let after : IsFeasibleSoFar c.self.inside.snapshot.now (c.self.inside.placements.items ++ c.args.placement ∷ []) = subst (λ (b : Building). IsFeasibleSoFar b.snapshot (b.placed ++ c.args.placement ∷ [])) (sym c.self.view_is) c.requires.fits in
-    left_out c.self.inside.snapshot.now c.self.inside.placements.items c.args.placement c.footprint_of-footprint.result c.self.inside.tables c.parts.ensures.orderly c.self.invariant.so_far possible c.self.invariant.tables c.footprint_of-footprint.ensures after
+    left_out c.self.inside.snapshot.now c.self.inside.placements.items c.args.placement c.footprint_of-footprint.result c.self.inside.tables c.recall_valid.ensures.orderly c.self.invariant.so_far possible c.self.invariant.tables c.footprint_of-footprint.ensures after
 
 pub push_reserved-requires : goal.push_reserved-requires
 push_reserved-requires c =

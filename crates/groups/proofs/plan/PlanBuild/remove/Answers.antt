@@ -36,7 +36,7 @@ footprint_of-footprint-requires c = possible c
 
 pub release-requires-clause-within : goal.release-requires-clause-within
 release-requires-clause-within c =
-    in_tables c.self.inside.snapshot.now c.self.inside.placements.items c.in-Some.placement c.footprint_of-footprint.result c.self.inside.tables c.parts.ensures.orderly (possible (goal.at.release-requires-clause-within c).In-Some) c.self.invariant.tables c.footprint_of-footprint.ensures
+    in_tables c.self.inside.snapshot.now c.self.inside.placements.items c.in-Some.placement c.footprint_of-footprint.result c.self.inside.tables c.recall_valid.ensures.orderly (possible (goal.at.release-requires-clause-within c).In-Some) c.self.invariant.tables c.footprint_of-footprint.ensures
 
 pub release-requires-clause-taken_up : goal.release-requires-clause-taken_up
 release-requires-clause-taken_up c =

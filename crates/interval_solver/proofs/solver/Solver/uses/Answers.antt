@@ -10,4 +10,4 @@ pub returns : goal.returns
 returns c =
     let within : c.args.member < length (listed c.self.inside.snapshot.now) = subst (λ (b : Solving). c.args.member < length (listed b.snapshot)) (sym c.self.view_is) c.requires in
     subst (λ (b : Solving). HoldsAt (λ x. c.count.result ≡ uses_of b.chosen x.request.request.0) (listed b.snapshot) c.args.member) c.self.view_is
-    (counted_uses c.self.inside.snapshot.now c.self.inside.uses c.args.member c.count.result c.parts.ensures.orderly c.self.invariant.uses within c.count.ensures)
+    (counted_uses c.self.inside.snapshot.now c.self.inside.uses c.args.member c.count.result c.recall_valid.ensures.orderly c.self.invariant.uses within c.count.ensures)
