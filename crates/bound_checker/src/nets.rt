@@ -7,7 +7,7 @@ ghost use Rattle.plan_base.specs.Verdict.{IsPriceInRange};
 ghost use Rattle.plan_base.specs.NetPrices.{IsNetInRange, positive, positive_sum, price_sum, IsGreatestPrice};
 ghost use Rattle.bound_checker.specs.Nets.{IsNets, net_list, price_of};
 
-use plan_base::{Prices, QuotaPrices, RequestPart, Snapshot};
+use plan_base::{Prices, QuotaPrices, RequestPart, Snapshot, larger};
 
 /// The requests of a group with their prices, and the price of a second of the group's quota.
 #[derive(Clone, Copy)]
@@ -128,12 +128,4 @@ pub(crate) fn positive(net: i64) -> i64
     ensures { result ≡ positive net }
 {
     if net > 0 { net } else { 0 }
-}
-
-fn larger(a: i64, b: i64) -> i64
-    ensures first { a ≤ℤ result }
-    ensures second { b ≤ℤ result }
-    ensures one { (result ≡ a) ⊎ (result ≡ b) }
-{
-    if b > a { b } else { a }
 }

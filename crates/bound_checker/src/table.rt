@@ -4,7 +4,7 @@ ghost use Rattle.std.specs.Prelude.{◌≡◌, ℕ, ◌+◌, ◌<◌, ◌≤◌,
 ghost use Rattle.plan_base.specs.Tables.{entry};
 ghost use Rattle.bound_checker.specs.Tables.{IsWeight, IsEntry, gain, DoRowsFit, IsRecursion};
 
-use plan_base::ListOf;
+use plan_base::{ListOf, larger};
 
 /// A possible start, in the row of its slice.
 #[derive(Clone, Copy, Debug)]
@@ -64,12 +64,4 @@ fn gain_of(start: Start, table: &[i64]) -> i64
     ensures { result ≡ gain table.now start }
 {
     start.weight + table[start.after]
-}
-
-fn larger(a: i64, b: i64) -> i64
-    ensures first { a ≤ℤ result }
-    ensures second { b ≤ℤ result }
-    ensures one { (result ≡ a) ⊎ (result ≡ b) }
-{
-    if b > a { b } else { a }
 }

@@ -18,6 +18,7 @@ use Rattle.plan_base.proofs.Orders.{pairs_head, pairs_tail}
 use Rattle.plan_base.proofs.Totals.{total_map}
 use Rattle.plan_base.proofs.Members.{is_of_member, members_rise}
 use Rattle.plan_base.specs.NetPrices.{group_prices, price_sum, is_first_greatest}
+use Rattle.groups.specs.Takings.{takes_at}
 
 -- what the group at place g takes of its requests
 pub taken_at : (s : Parts) (c : ℕ → ℤ) (g i : ℕ) (op : Op) → IsOrderly s → g < length s.groups → i < length (members s g) → IsKind s op g
@@ -88,3 +89,11 @@ taken_one s prices g i o l k kind =
     ap (λ (p : ℤ). int_lt (pos 0) p && (list_all (λ x. int_lt x p) (take i (group_prices s prices g)) && list_all (λ x. int_le x p) (drop i (group_prices s prices g)))) is
     ∙ ap (λ (b : Bool). int_lt (pos 0) (c r) && b) (sym (beats_all c (c r) r (members s g) i (members_rise s g o) k refl))
     ∙ sym (taken_at s c g i OneOf o l k kind)
+
+-- what a group takes at the net prices of its requests
+pub takes_is : (s : Parts) (net : List ℤ) (g i : ℕ) (op : Op) → IsOrderly s → g < length s.groups → i < length (members s g) → IsKind s op g
+    → takes_at op (group_prices s net g) i ≡ is_taken s (price s net) (slice_index_or (members s g) i 0)
+takes_is s net g i Single o l k kind = taken_single s net g i o l k kind
+takes_is s net g i Many o l k kind = taken_many s net g i o l k kind
+takes_is s net g i OneOf o l k kind = taken_one s net g i o l k kind
+takes_is s net g i And o l k kind = taken_and s net g i o l k kind

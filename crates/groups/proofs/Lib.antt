@@ -1,10 +1,14 @@
 pub mod Chosen
 pub mod Footed
+pub mod Greatest
 pub mod Keeping
 pub mod NetRanges
 pub mod Opens
+pub mod PlacedFlags
+pub mod Rebating
 pub mod Rooms
 pub mod Runs
 pub mod Shares
 pub mod Starting
 pub mod Told
+pub mod Wide

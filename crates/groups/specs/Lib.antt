@@ -2,3 +2,4 @@ pub mod Building
 pub mod Footprints
 pub mod Kept
 pub mod Tables
+pub mod Takings

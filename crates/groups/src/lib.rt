@@ -7,9 +7,11 @@ mod plan;
 mod rebates;
 mod sums;
 mod tables;
+mod taking;
 #[cfg(test)]
 mod tests;
 
 pub use nets::net;
 pub use plan::PlanBuild;
 pub use rebates::{choice, rebate};
+pub use taking::Taking;

@@ -1,9 +1,10 @@
 // Plans that are built placement by placement.
 
-ghost use Rattle.std.specs.Prelude.{◌≡◌, ◌==◌, ◌↔◌, false, [], ◌∷◌, ◌++◌, length, find, All, Contains, IsTrue, IfOk, IfSome, IfNone};
+ghost use Rattle.std.specs.Prelude.{◌≡◌, ◌<◌, ◌==◌, ◌↔◌, false, [], ◌∷◌, ◌++◌, length, find, All, Contains, IsTrue, IfOk, IfSome, IfNone};
 ghost use Rattle.plan_base.specs.Starts.{IsPossibleStart};
 ghost use Rattle.plan_base.specs.Feasible.{requests_of, IsFeasible};
 ghost use Rattle.plan_base.specs.FeasibleSoFar.{IsFeasibleSoFar};
+ghost use Rattle.plan_base.specs.Saturated.{HasNonePlaced};
 ghost use Rattle.groups.specs.Building.{without, IsPartly, IsFirstPartly, IsOpenAnd};
 ghost use Rattle.groups.specs.Tables.{AreTables};
 
@@ -55,6 +56,25 @@ impl<'a> PlanBuild<'a> {
         ensures so_far { IsFeasibleSoFar self.now.snapshot self.now.placed }
     {
         self.placements.as_slice()
+    }
+
+    /// Whether a request is placed. It looks by halves for the request, and not through the plan.
+    pub fn is_placed(&self, request: RequestNo) -> bool
+        ensures { IsTrue result ↔ Contains (requests_of self.now.placed) request.0 }
+    {
+        match self.snapshot.place_of(request) {
+            Some(place) => self.tables.placed[place],
+            None => false,
+        }
+    }
+
+    /// Whether no request of the group at a place is placed, which is known at once.
+    pub fn has_none_placed(&self, group: usize) -> bool
+        requires { group < length self.now.snapshot.groups }
+        ensures { IsTrue result ↔ HasNonePlaced self.now.snapshot self.now.placed group }
+    {
+        self.snapshot.recall_valid();
+        self.tables.members[group] == 0
     }
 
     /// Whether the plan with this possible start added is feasible but for its ANDs: the request isn't placed, its

@@ -1,13 +1,13 @@
 // What a group gives at net prices, and which of its requests it takes.
 
-ghost use Rattle.std.specs.Prelude.{◌≡◌, ◌<◌, ◌≤◌, int_lt, int_le, length, slice_index, All};
-ghost use Rattle.std.specs.List.{list_all};
+ghost use Rattle.std.specs.Prelude.{◌≡◌, ◌<◌, ◌≤◌, ℕ, ℤ, pos, ◌≤ℤ◌, List, length, slice_index, All};
 ghost use Rattle.plan_base.specs.Requests.{listed, members};
-ghost use Rattle.plan_base.specs.Bound.{price, IsRebate};
+ghost use Rattle.plan_base.specs.Bound.{price, net_price, IsRebate};
 ghost use Rattle.plan_base.specs.Round.{is_taken};
-ghost use Rattle.plan_base.specs.NetPrices.{IsNetInRange, group_prices, is_first_greatest, IsGroupRun};
+ghost use Rattle.plan_base.specs.NetPrices.{IsNetInRange, group_prices, net_prices, IsGroupRun};
 
 use crate::sums::{greatest_price, positive, positive_sum, price_sum};
+use crate::taking::Taking;
 use plan_base::{Op, Prices, Snapshot};
 
 /// The greatest sum of net prices over all choices that the kind of the group at this place allows. There is one net
@@ -16,7 +16,10 @@ pub fn rebate(snapshot: &Snapshot, group: usize, prices: &Prices) -> i64
     requires group { group < length snapshot.now.groups }
     requires count { length prices.now.0 ≡ length (listed snapshot.now) }
     requires range { All IsNetInRange prices.now.0 }
-    ensures { IsRebate snapshot.now (price snapshot.now prices.now.0) group result }
+    ensures rebate { IsRebate snapshot.now (price snapshot.now prices.now.0) group result }
+    ensures at_net { (given : List ℤ) (quota_prices : List ℕ) → length given ≡ length (listed snapshot.now)
+        → prices.now.0 ≡ net_prices snapshot.now given quota_prices → IsRebate snapshot.now (net_price snapshot.now given quota_prices) group result }
+    ensures least { pos 0 ≤ℤ result }
 {
     let op = snapshot.parts().groups.as_slice()[group].op;
     let prices = prices_of_group(snapshot, group, prices);
@@ -27,10 +30,8 @@ pub fn rebate(snapshot: &Snapshot, group: usize, prices: &Prices) -> i64
     }
 }
 
-/// Whether the group at this place takes the request at a place among its own. At net prices a SINGLE or a MANY takes
-/// what has a price above 0, a ONEOF the first of its greatest price if that is above 0, and an AND all of its
-/// requests where the sum of their prices is above 0. There is one net price for each request, from -2 * 10^12 to
-/// 2 * 10^12.
+/// Whether the group at this place takes the request at a place among its own, as [`Taking`] says. There is one net
+/// price for each request, from -2 * 10^12 to 2 * 10^12.
 pub fn choice(snapshot: &Snapshot, group: usize, prices: &Prices, member: usize) -> bool
     requires group { group < length snapshot.now.groups }
     requires member { member < length (members snapshot.now group) }
@@ -40,32 +41,7 @@ pub fn choice(snapshot: &Snapshot, group: usize, prices: &Prices, member: usize)
 {
     let op = snapshot.parts().groups.as_slice()[group].op;
     let prices = prices_of_group(snapshot, group, prices);
-    match op {
-        Op::Single | Op::Many => prices[member] > 0,
-        Op::OneOf => prices[member] > 0 && is_first_greatest(prices, member),
-        Op::And => price_sum(prices) > 0,
-    }
-}
-
-/// Whether each price before the one at a place is below it, and none after it above it.
-fn is_first_greatest(prices: &[i64], place: usize) -> bool
-    requires { place < length prices.now }
-    ensures { result ≡ is_first_greatest prices.now place }
-{
-    let price = prices[place];
-    are_below(&prices[..place], price) && are_at_most(&prices[place..], price)
-}
-
-fn are_below(prices: &[i64], price: i64) -> bool
-    ensures { result ≡ list_all (λ c. int_lt c price) prices.now }
-{
-    prices.iter().all(|other| *other < price)
-}
-
-fn are_at_most(prices: &[i64], price: i64) -> bool
-    ensures { result ≡ list_all (λ c. int_le c price) prices.now }
-{
-    prices.iter().all(|other| *other <= price)
+    Taking::at(op, prices).takes(prices[member], member)
 }
 
 /// The prices of the requests of the group at this place: they stand side by side.

@@ -3,6 +3,8 @@
 ghost use Rattle.std.specs.Prelude.{◌≡◌, ◌⊎◌, ◌≤◌, ◌*◌, ◌^◌, pos, neg_ℤ, ◌+ℤ◌, ◌≤ℤ◌, length, All};
 ghost use Rattle.plan_base.specs.NetPrices.{IsNetInRange, positive, positive_sum, price_sum, IsGreatestPrice};
 
+use plan_base::larger;
+
 /// A sum that grows.
 #[derive(Clone, Copy)]
 struct Sum {
@@ -51,12 +53,4 @@ pub(crate) fn greatest_price(prices: &[i64]) -> i64
         greatest.value = larger(greatest.value, *price);
     }
     greatest.value
-}
-
-fn larger(a: i64, b: i64) -> i64
-    ensures first { a ≤ℤ result }
-    ensures second { b ≤ℤ result }
-    ensures one { (result ≡ a) ⊎ (result ≡ b) }
-{
-    if b > a { b } else { a }
 }

@@ -6,7 +6,7 @@ ghost use Rattle.plan_base.specs.Tables.{entry};
 ghost use Rattle.interval_solver.specs.Tables.{IsEntry, gain, DoRowsFit, IsRecursion};
 
 use crate::start::Start;
-use plan_base::ListOf;
+use plan_base::{ListOf, larger};
 
 /// The greatest number so far.
 #[derive(Clone, Copy)]
@@ -64,12 +64,4 @@ pub(crate) fn gain_of(start: Start, prices: &[i64], table: &[i64]) -> i64
     ensures { result ≡ gain prices.now table.now start }
 {
     i64::from(start.worth) - prices[start.place as usize] + table[start.after as usize]
-}
-
-fn larger(a: i64, b: i64) -> i64
-    ensures first { a ≤ℤ result }
-    ensures second { b ≤ℤ result }
-    ensures one { (result ≡ a) ⊎ (result ≡ b) }
-{
-    if b > a { b } else { a }
 }

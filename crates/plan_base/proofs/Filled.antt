@@ -1,20 +1,20 @@
 -- A filled plan is feasible, where it began so, and saturated.
 use Rattle.std.proofs.Common.{◌≡◌, ◌≢◌, ℕ, zero, suc, ◌+◌, ◌<◌, ◌≤◌, ◌⊎◌, inl, inr, Bool, true, false, cond, ◌==◌, List, [], ◌∷◌, ◌++◌, length, map, slice_index_or, Option, Some, None, All, AllPairs, Contains, length-append, refl, sym, ◌∙◌, ap, subst, arith}
 use Rattle.std.proofs.lemmas.Bool.{eqb-true}
-use Rattle.std.proofs.lemmas.List.{get_or_default, length-map, get_or-map}
-use Rattle.std.proofs.lemmas.List.Elements.{All-nil, All-head, All-tail, All-cons, All-contains, All-weaker, Contains-append_left, Contains-append_cases, Contains-push, Contains-push_cases, Contains-get_or}
+use Rattle.std.proofs.lemmas.List.{get_or_default, length-map}
+use Rattle.std.proofs.lemmas.List.Elements.{All-nil, All-head, All-tail, All-cons, All-contains, All-weaker, Contains-append_left, Contains-append_cases, Contains-push_cases, Contains-get_or}
 use Rattle.plan_base.specs.declared.parts.Parts.{Parts}
 use Rattle.plan_base.specs.declared.parts.GroupPart.{GroupPart}
 use Rattle.plan_base.specs.declared.parts.Op.{Op}
 use Rattle.plan_base.specs.declared.parts.Op.TheVariants.{Single, Many, OneOf, And}
 use Rattle.plan_base.specs.declared.claim.Placement.{Placement}
-use Rattle.plan_base.specs.Requests.{IsKnown, group_of, quota_of, seconds_of, IsOf, IsKind, members_of, members, AllOrNone}
+use Rattle.plan_base.specs.Requests.{quota_of, seconds_of, IsOf, IsKind, members_of, members, AllOrNone}
 use Rattle.plan_base.specs.Snapshot.{IsOrderly, most_requests}
 use Rattle.plan_base.specs.Starts.{ShareSlice}
-use Rattle.plan_base.specs.Feasible.{requests_of, AreOfOneOneOf, is_quota, quota_seconds, quota_at, IsAndWhole, IsFeasible}
+use Rattle.plan_base.specs.Feasible.{requests_of, AreOfOneOneOf, is_quota, quota_seconds, quota_at, IsFeasible}
 use Rattle.plan_base.specs.FeasibleSoFar.{IsFeasibleSoFar}
-use Rattle.plan_base.specs.Saturated.{IsFree, HasNoFree, HasNonePlaced, IsUntouched, IsAbsent, IsEarliestFree, TakesEach, IsSaturated}
-use Rattle.plan_base.specs.Fill.{IsFillOrder, IsMemberOrder, TriesOne, TriesEach, TriesUntilOne, TakesAllOrNone, VisitsGroup, VisitsEach, IsPass, PassesTo, IsFilled}
+use Rattle.plan_base.specs.Saturated.{IsFree, HasNoFree, HasNonePlaced, IsUntouched, TakesEach, IsSaturated}
+use Rattle.plan_base.specs.Fill.{TriesOne, TriesEach, TriesUntilOne, VisitsGroup, VisitsEach, PassesTo}
 use Rattle.plan_base.proofs.Orders.{contains_cases, contains_first, contains_rest, pairs_head, pairs_tail}
 use Rattle.plan_base.proofs.Known.{group_known}
 use Rattle.plan_base.proofs.Members.{is_of_member, member_is_of, members_rise}

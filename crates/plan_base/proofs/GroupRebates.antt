@@ -1,15 +1,14 @@
 -- From the prices of a group's requests to its rebate.
-use Rattle.std.proofs.Common.{◌≡◌, ◌≢◌, ℕ, zero, suc, ◌<◌, ◌≤◌, ◌⊎◌, inl, inr, Bool, true, false, cond, ℤ, pos, ◌+ℤ◌, ◌≤ℤ◌, int_lt, List, [], ◌∷◌, length, map, slice_index_or, All, Contains, refl, sym, ◌∙◌, ap, subst, arith}
+use Rattle.std.proofs.Common.{ℕ, ◌⊎◌, inl, inr, ℤ, ◌≤ℤ◌, List, [], ◌∷◌, map, All, sym, subst}
 use Rattle.std.proofs.lemmas.List.Elements.{All-nil, All-cons, All-head, All-tail}
 use Rattle.plan_base.specs.declared.parts.Parts.{Parts}
 use Rattle.plan_base.specs.declared.parts.Op.TheVariants.{Single, Many, OneOf, And}
-use Rattle.plan_base.specs.Sums.{total}
 use Rattle.plan_base.specs.Requests.{IsKind, members}
 use Rattle.plan_base.specs.Snapshot.{IsOrderly}
 use Rattle.plan_base.specs.Bound.{IsRebate}
 use Rattle.plan_base.proofs.Totals.{total_map}
 use Rattle.plan_base.proofs.Members.{are_members, contains_from_map}
-use Rattle.plan_base.proofs.Rebates.{IsGreatestOrZero, rebate_of_any, rebate_of_one, rebate_of_and}
+use Rattle.plan_base.proofs.Rebates.{rebate_of_any, rebate_of_one, rebate_of_and}
 use Rattle.plan_base.specs.NetPrices.{positive, positive_sum, price_sum, IsGreatestPrice}
 
 pub rebate_any : (s : Parts) (c : ℕ → ℤ) (g : ℕ) → IsOrderly s → IsKind s Single g ⊎ IsKind s Many g → IsRebate s c g (positive_sum (map c (members s g)))

@@ -1,8 +1,7 @@
 -- The request at a place, as the snapshot knows it by its number.
-use Rattle.std.proofs.Common.{◌≡◌, ◌≢◌, ℕ, zero, suc, ◌+◌, ◌<◌, ◌≤◌, ◌⊎◌, inl, inr, List, [], ◌∷◌, ◌++◌, length, map, slice_index_or, All, AllPairs, Contains, refl, sym, ◌∙◌, ap, subst, arith}
+use Rattle.std.proofs.Common.{◌≡◌, ℕ, zero, suc, ◌<◌, ◌≤◌, ◌⊎◌, inl, inr, List, [], ◌∷◌, ◌++◌, length, slice_index_or, Contains, refl, sym, ◌∙◌, ap, subst, arith}
 use Rattle.std.specs.Prelude.{HoldsAt}
 use Rattle.std.specs.List.{flat_map}
-use Rattle.std.proofs.lemmas.List.{get_or_default, get_or-map}
 use Rattle.std.proofs.lemmas.List.Elements.{All-contains, Contains-get_or, Contains-append_left, Contains-append_right}
 use Rattle.plan_base.specs.declared.parts.Parts.{Parts}
 use Rattle.plan_base.specs.declared.parts.TelescopePart.{TelescopePart}
@@ -12,7 +11,7 @@ use Rattle.plan_base.specs.declared.span.Span.{Span}
 use Rattle.plan_base.specs.Requests.{Listed, listed, place_of, IsKnown, seconds_of, request_value, fade_of, windows_of, telescopes_of, targets_of}
 use Rattle.plan_base.specs.Snapshot.{IsMoment, IsOrderly, all_spans}
 use Rattle.plan_base.proofs.Orders.{contains_cases}
-use Rattle.plan_base.proofs.Known.{IsListedAs, known_as, known_or_is}
+use Rattle.plan_base.proofs.Known.{IsListedAs, known_or_is}
 use Rattle.plan_base.proofs.Members.{listed_known, listed_as}
 use Rattle.plan_base.specs.Asked.{IsAsked}
 

@@ -14,6 +14,7 @@ pub mod Known
 pub mod Limits
 pub mod Lists
 pub mod Members
+pub mod NetLists
 pub mod OneFill
 pub mod OneRound
 pub mod OneSpan

@@ -1,5 +1,5 @@
 -- What the absence of faults says of a snapshot's parts.
-use Rattle.std.proofs.Common.{◌≡◌, ℕ, ◌<◌, ◌≤◌, ◌⊎◌, inl, inr, Bool, true, false, cond, not, ◌&&◌, List, [], ◌∷◌, ◌++◌, length, slice_index_or, map, drop, refl, sym, ap, ◌∙◌, arith, lit<, nat_lt, nat_le, Option, Some, None}
+use Rattle.std.proofs.Common.{◌≡◌, ℕ, ◌<◌, ◌≤◌, inl, inr, Bool, true, false, cond, not, ◌&&◌, List, [], ◌∷◌, ◌++◌, length, slice_index_or, map, drop, refl, sym, ap, ◌∙◌, arith, lit<, nat_lt, nat_le, Option, Some, None}
 use Rattle.std.specs.List.{find, flat_map, zip, list_any, list_all, position, position_or_len, All, AllPairs}
 use Rattle.std.specs.Option.{option_map, option_or, ForSome}
 use Rattle.std.proofs.lemmas.List.Elements.{All-cons, All-nil, All-head, All-tail, All-weaker}

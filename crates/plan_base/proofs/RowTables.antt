@@ -1,11 +1,11 @@
 -- A table over the rows of a telescope's starts has its bests.
-use Rattle.std.proofs.Common.{◌≡◌, ℕ, suc, ◌+◌, ◌-◌, ◌<◌, ◌≤◌, inl, inr, ℤ, pos, ◌+ℤ◌, ◌≤ℤ◌, List, length, sym, ◌∙◌, ap, subst, arith}
+use Rattle.std.proofs.Common.{◌≡◌, ℕ, suc, ◌+◌, ◌-◌, ◌<◌, ◌≤◌, inl, inr, ℤ, ◌+ℤ◌, ◌≤ℤ◌, List, length, sym, ◌∙◌, ap, subst, arith}
 use Rattle.plan_base.specs.declared.parts.Parts.{Parts}
 use Rattle.plan_base.specs.declared.claim.Placement.{Placement}
 use Rattle.plan_base.specs.Snapshot.{IsOrderly}
 use Rattle.plan_base.specs.Starts.{size_of}
 use Rattle.plan_base.specs.Bound.{weight, IsBest}
-use Rattle.plan_base.specs.Tables.{IsStartOn, slice_after, horizon_end, IsTable, entry, gain_from, IsGreatestOf, IsRowTable, IsRowStart, AreStartRows}
+use Rattle.plan_base.specs.Tables.{slice_after, horizon_end, IsTable, entry, gain_from, IsGreatestOf, IsRowTable, IsRowStart, AreStartRows}
 use Rattle.plan_base.proofs.Sizes.{start_size_above}
 use Rattle.plan_base.proofs.Tables.{table_best}
 

@@ -1,5 +1,5 @@
 -- What is known of the numbers of a request.
-use Rattle.std.specs.Prelude.{ℕ, ◌≤◌, All}
+use Rattle.std.specs.Prelude.{◌≤◌, All}
 use Rattle.plan_base.specs.declared.parts.RequestPart.{RequestPart}
 use Rattle.plan_base.specs.Limits.{most_seconds, most_value}
 use Rattle.plan_base.specs.Snapshot.{IsMoment}

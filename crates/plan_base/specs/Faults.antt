@@ -12,7 +12,21 @@ use Rattle.plan_base.specs.declared.fault.Counted.TheVariants.{Telescopes, Usabl
 use Rattle.plan_base.specs.declared.fault.SnapshotFault.{SnapshotFault}
 use Rattle.plan_base.specs.declared.fault.SnapshotFault.TheVariants.{OverLimit}
 use Rattle.plan_base.specs.Requests.{listed}
-use Rattle.plan_base.specs.Snapshot.{limit_of, fits_after, with_last, first_some, span_fault, apart_fault, group_fault, request_fault, shape_fault, telescope_fault, fade_fault, quota_fault, quota_range_fault}
+use Rattle.plan_base.specs.Snapshot.{
+  limit_of,
+  fits_after,
+  with_last,
+  first_some,
+  span_fault,
+  apart_fault,
+  group_fault,
+  request_fault,
+  shape_fault,
+  telescope_fault,
+  fade_fault,
+  quota_fault,
+  quota_range_fault,
+}
 
 -- the requests of all groups, one after another
 abbrev pub all_requests : List GroupPart → List RequestPart

@@ -1,5 +1,36 @@
 -- The rounds of a lane: from prices to the next by a subgradient step.
-use Rattle.std.specs.Prelude.{◌≡◌, ℕ, zero, suc, ◌+◌, ◌-◌, ◌*◌, ◌/◌, ◌^◌, min, max, Bool, cond, ◌&&◌, ◌==◌, nat_lt, int_lt, int_le, if◌then◌else◌, ℤ, pos, ◌+ℤ◌, ◌-ℤ◌, List, map, slice_index_or, filter, sum_by, count_by, fold}
+use Rattle.std.specs.Prelude.{
+  ◌≡◌,
+  ℕ,
+  zero,
+  suc,
+  ◌+◌,
+  ◌-◌,
+  ◌*◌,
+  ◌/◌,
+  ◌^◌,
+  min,
+  max,
+  Bool,
+  cond,
+  ◌&&◌,
+  ◌==◌,
+  nat_lt,
+  int_lt,
+  int_le,
+  if◌then◌else◌,
+  ℤ,
+  pos,
+  ◌+ℤ◌,
+  ◌-ℤ◌,
+  List,
+  map,
+  slice_index_or,
+  filter,
+  sum_by,
+  count_by,
+  fold,
+}
 use Rattle.std.specs.List.{list_all, enumerate_from}
 use Rattle.plan_base.specs.declared.parts.Parts.{Parts}
 use Rattle.plan_base.specs.declared.parts.Op.{Op}
@@ -16,7 +47,8 @@ use Rattle.plan_base.specs.Canonical.{IsCanonicalStarts}
 abbrev pub op_at : Parts → ℕ → Op
 op_at s g = slice_index_or (map (λ x. x.op) s.groups) g Single
 
--- a group of this kind and these members takes request r at the net prices c: a SINGLE or MANY where its price is above 0, a ONEOF the first of its greatest price if that is above 0, an AND all where the sum is above 0
+-- a group of this kind and these members takes request r at the net prices c: a SINGLE or MANY where its price is above 0, a ONEOF the first of its
+-- greatest price if that is above 0, an AND all where the sum is above 0
 abbrev pub takes : Op → (ℕ → ℤ) → List ℕ → ℕ → Bool
 takes Single c ms r = int_lt (pos 0) (c r)
 takes Many c ms r = int_lt (pos 0) (c r)

@@ -1,5 +1,5 @@
 -- Which parts are a snapshot, and the first fault of those that aren't.
-use Rattle.std.specs.Prelude.{◌≡◌, ℕ, ◌≤◌, ◌<◌, nat_le, nat_lt, Bool, true, not, ◌&&◌, ◌||◌, ◌==◌, if◌then◌else◌, List, [], ◌∷◌, ◌++◌, length, map, drop, Option, Some, None, All, AllPairs, sum_by, find, position, ◌⊎◌}
+use Rattle.std.specs.Prelude.{◌≡◌, ℕ, ◌≤◌, ◌<◌, nat_le, nat_lt, Bool, true, not, ◌&&◌, ◌||◌, ◌==◌, if◌then◌else◌, List, [], ◌∷◌, ◌++◌, length, map, drop, Option, Some, None, All, AllPairs, sum_by, find, position}
 use Rattle.std.specs.List.{flat_map, list_any, list_all, zip}
 use Rattle.std.specs.Option.{ForSome, option_map, option_or}
 use Rattle.plan_base.specs.declared.parts.Parts.{Parts}
@@ -12,7 +12,18 @@ use Rattle.plan_base.specs.declared.number.TelescopeNo.{TelescopeNo}
 use Rattle.plan_base.specs.declared.fault.Counted.{Counted}
 use Rattle.plan_base.specs.declared.fault.Counted.TheVariants.{Telescopes, Usable, Skies, Spans, Groups, Requests, Windows, Targets, Fits, Quotas}
 use Rattle.plan_base.specs.declared.fault.SnapshotFault.{SnapshotFault}
-use Rattle.plan_base.specs.declared.fault.SnapshotFault.TheVariants.{OverLimit, EmptySpan, NotApart, GroupOrder, RequestOrder, BadShape, NoSuchTelescope, FadeRange, NoSuchQuota, QuotaRange}
+use Rattle.plan_base.specs.declared.fault.SnapshotFault.TheVariants.{
+  OverLimit,
+  EmptySpan,
+  NotApart,
+  GroupOrder,
+  RequestOrder,
+  BadShape,
+  NoSuchTelescope,
+  FadeRange,
+  NoSuchQuota,
+  QuotaRange,
+}
 use Rattle.plan_base.specs.Limits.{most_moment, most_slices, most_seconds, most_value, most_quota}
 use Rattle.plan_base.specs.Requests.{listed}
 use Rattle.plan_base.specs.Skies.{SkiesRise}

@@ -1,5 +1,30 @@
 -- Possible starts, the slices that they occupy, and what they are worth.
-use Rattle.std.specs.Prelude.{◌≡◌, ◌≢◌, ℕ, ◌+◌, ◌-◌, ◌*◌, ◌/◌, ◌≤◌, ◌<◌, min, max, List, [], ◌∷◌, length, map, slice_index_or, All, AllPairs, Any, Contains, sum_by, fold, ◌⊎◌}
+use Rattle.std.specs.Prelude.{
+  ◌≡◌,
+  ◌≢◌,
+  ℕ,
+  ◌+◌,
+  ◌-◌,
+  ◌*◌,
+  ◌/◌,
+  ◌≤◌,
+  ◌<◌,
+  min,
+  max,
+  List,
+  [],
+  ◌∷◌,
+  length,
+  map,
+  slice_index_or,
+  All,
+  AllPairs,
+  Any,
+  Contains,
+  sum_by,
+  fold,
+  ◌⊎◌,
+}
 use Rattle.plan_base.specs.declared.parts.Parts.{Parts}
 use Rattle.plan_base.specs.declared.span.Span.{Span}
 use Rattle.plan_base.specs.declared.claim.Placement.{Placement}

@@ -1,11 +1,46 @@
 -- Which claims are certified for a snapshot, and the first reason why another isn't.
-use Rattle.std.specs.Prelude.{◌≡◌, ◌≢◌, ℕ, ◌≤◌, ◌<◌, ◌⊎◌, ℤ, pos, neg_ℤ, ◌≤ℤ◌, List, length, slice_get, slice_index_or, Option, Some, None, All, Contains, HoldsAt}
+use Rattle.std.specs.Prelude.{
+  ◌≡◌,
+  ◌≢◌,
+  ℕ,
+  ◌≤◌,
+  ◌<◌,
+  ◌⊎◌,
+  ℤ,
+  pos,
+  neg_ℤ,
+  ◌≤ℤ◌,
+  List,
+  length,
+  slice_get,
+  slice_index_or,
+  Option,
+  Some,
+  None,
+  All,
+  Contains,
+  HoldsAt,
+}
 use Rattle.plan_base.specs.declared.parts.Parts.{Parts}
 use Rattle.plan_base.specs.declared.parts.Op.TheVariants.{OneOf, And}
 use Rattle.plan_base.specs.declared.claim.Placement.{Placement}
 use Rattle.plan_base.specs.declared.claim.Claim.{Claim}
 use Rattle.plan_base.specs.declared.verdict.Reason.{Reason}
-use Rattle.plan_base.specs.declared.verdict.Reason.TheVariants.{UnknownRequest, PlacedTwice, NotPossible, Overlap, OneofTwice, AndPartial, QuotaOver, PriceCount, PriceRange, QuotaPriceCount, QuotaPriceRange, ValueDiffers, BoundDiffers}
+use Rattle.plan_base.specs.declared.verdict.Reason.TheVariants.{
+  UnknownRequest,
+  PlacedTwice,
+  NotPossible,
+  Overlap,
+  OneofTwice,
+  AndPartial,
+  QuotaOver,
+  PriceCount,
+  PriceRange,
+  QuotaPriceCount,
+  QuotaPriceRange,
+  ValueDiffers,
+  BoundDiffers,
+}
 use Rattle.plan_base.specs.declared.verdict.Verdict.{Verdict}
 use Rattle.plan_base.specs.declared.verdict.Verdict.TheVariants.{Yes, No}
 use Rattle.plan_base.specs.Limits.{most_price, most_quota_price}

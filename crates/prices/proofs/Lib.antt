@@ -1,5 +1,4 @@
 pub mod Demanding
-pub mod Greatest
 pub mod Playing
 pub mod Rounding
 pub mod Setting

@@ -12,12 +12,6 @@ pub record IsSummed (numbers : List ℤ) (i : ℕ) (sum : ℤ) : Type 0 where
   pub rest : sum +ℤ total (λ c. c) (drop i numbers) ≡ total (λ c. c) numbers
   pub least : pos 0 ≤ℤ sum
 
--- the sum of the first i numbers of 64 bits
-pub record IsWide (numbers : List ℤ) (i : ℕ) (sum : ℤ) : Type 0 where
-  pub rest : sum +ℤ total (λ c. c) (drop i numbers) ≡ total (λ c. c) numbers
-  pub least : neg_ℤ (pos (i * 2 ^ 63)) ≤ℤ sum
-  pub most : sum ≤ℤ pos (i * 2 ^ 63)
-
 -- a sum of numbers that aren't negative is at most that of all
 pub summed_most : (numbers : List ℤ) (i : ℕ) (sum : ℤ) → All (λ c. pos 0 ≤ℤ c) numbers → IsSummed numbers i sum → sum ≤ℤ total (λ c. c) numbers
 summed_most numbers i sum a h =
@@ -33,23 +27,10 @@ summed_more numbers i sum l a h =
     let least : pos 0 ≤ℤ sum = h.least in
     record { rest = omega (arith, ints); least = omega (arith, ints) }
 
-pub wide_more : (numbers : List ℤ) (i : ℕ) (sum : ℤ) → i < length numbers → neg_ℤ (pos (2 ^ 63)) ≤ℤ slice_index_or numbers i (pos 0) → slice_index_or numbers i (pos 0) ≤ℤ pos (2 ^ 63) → IsWide numbers i sum
-    → IsWide numbers (i + 1) (sum +ℤ slice_index_or numbers i (pos 0))
-wide_more numbers i sum l low high h =
-    let step : total (λ c. c) (drop i numbers) ≡ slice_index_or numbers i (pos 0) +ℤ total (λ c. c) (drop (i + 1) numbers) = at_drop_more (total (λ c. c)) numbers i (pos 0) l in
-    let whole : sum +ℤ total (λ c. c) (drop i numbers) ≡ total (λ c. c) numbers = h.rest in
-    let least : neg_ℤ (pos (i * 2 ^ 63)) ≤ℤ sum = h.least in
-    let most : sum ≤ℤ pos (i * 2 ^ 63) = h.most in
-    record { rest = omega (arith, ints); least = omega (arith, ints); most = omega (arith, ints) }
-
 -- a sum that is at most 10^17 fits 64 bits
 pub sum_fits : (z : ℤ) → pos 0 ≤ℤ z → z ≤ℤ pos (10 ^ 17) → SFits w64 z
 sum_fits (pos n) low high = record { sfits = omega (arith, ints) }
 sum_fits (negsuc n) low high = absurd (omega (arith, ints))
-
-pub between : (z : ℤ) → SFits w64 z → (neg_ℤ (pos (2 ^ 63)) ≤ℤ z) × (z ≤ℤ pos (2 ^ 63))
-between (pos n) fit = let small = fit.sfits in (omega (arith, ints), omega (arith, ints))
-between (negsuc n) fit = let small = fit.sfits in (omega (arith, ints), omega (arith, ints))
 
 three_most : (a b c : ℤ) → pos 0 ≤ℤ a → pos 0 ≤ℤ b → pos 0 ≤ℤ c → (a +ℤ b +ℤ c) ≤ℤ pos (10 ^ 17) → (a ≤ℤ pos (10 ^ 17)) × (b ≤ℤ pos (10 ^ 17)) × (c ≤ℤ pos (10 ^ 17))
 three_most a b c la lb lc most = (omega (arith, ints), omega (arith, ints), omega (arith, ints))

@@ -12,9 +12,8 @@ use Rattle.plan_base.specs.Bound.{price}
 use Rattle.plan_base.specs.Round.{is_taken}
 use Rattle.plan_base.specs.NetPrices.{group_prices, IsGroupRun}
 use Rattle.groups.proofs.Runs.{IsRun, number_of, place_at}
-use Rattle.groups.proofs.Chosen.{taken_single, taken_many, taken_one, taken_and}
 use Rattle.prices.specs.Rounds.{number_at}
-use Rattle.prices.specs.Takings.{takes_at, AreTaken}
+use Rattle.prices.specs.Takings.{AreTaken}
 use Rattle.prices.proofs.Demanding.{nothing}
 
 -- how many requests the groups before place g have
@@ -87,14 +86,6 @@ number_here s g i l k =
     let run : IsRun 0 s.groups g (offset s.groups g) = run_at 0 s.groups g l in
     let within : offset s.groups g + length (members s g) ≤ length (listed s) = run.within in
     get_or-map (λ x. x.request.request.0) (listed s) (offset s.groups g + i) nothing 0 (omega arith) ∙ run.each i nothing k
-
--- what a group takes at the net prices of its requests
-pub takes_is : (s : Parts) (net : List ℤ) (g i : ℕ) (op : Op) → IsOrderly s → g < length s.groups → i < length (members s g) → IsKind s op g
-    → takes_at op (group_prices s net g) i ≡ is_taken s (price s net) (slice_index_or (members s g) i 0)
-takes_is s net g i Single o l k kind = taken_single s net g i o l k kind
-takes_is s net g i Many o l k kind = taken_many s net g i o l k kind
-takes_is s net g i OneOf o l k kind = taken_one s net g i o l k kind
-takes_is s net g i And o l k kind = taken_and s net g i o l k kind
 
 -- the flags of the requests of the first g groups are written
 pub record IsWalked (s : Parts) (net : List ℤ) (old flags : List Bool) (first g : ℕ) : Type 0 where

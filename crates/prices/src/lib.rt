@@ -7,7 +7,6 @@ mod moves;
 mod round;
 mod steps;
 mod taken;
-mod taking;
 #[cfg(test)]
 mod tests;
 mod zeros;

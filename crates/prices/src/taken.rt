@@ -5,9 +5,10 @@ ghost use Rattle.plan_base.specs.Requests.{listed, members};
 ghost use Rattle.plan_base.specs.Bound.{price};
 ghost use Rattle.plan_base.specs.Round.{is_taken};
 ghost use Rattle.plan_base.specs.NetPrices.{IsGroupRun};
-ghost use Rattle.prices.specs.Takings.{takes_at, AreTaken};
+ghost use Rattle.groups.specs.Takings.{takes_at};
+ghost use Rattle.prices.specs.Takings.{AreTaken};
 
-use crate::taking::Taking;
+use groups::Taking;
 use plan_base::{Op, Snapshot};
 
 /// Writes for each request whether its group takes it at the net prices. What each group takes is sought once.

@@ -6,8 +6,8 @@ use Rattle.plan_base.specs.Requests.{members, IsKind}
 use Rattle.plan_base.specs.Bound.{price}
 use Rattle.plan_base.specs.NetPrices.{group_prices}
 use Rattle.groups.proofs.Runs.{run_prices, kind_read}
-use Rattle.prices.specs.Takings.{takes_at}
-use Rattle.prices.proofs.Walking.{takes_is}
+use Rattle.groups.specs.Takings.{takes_at}
+use Rattle.groups.proofs.Chosen.{takes_is}
 use Rattle.prices.proofs.taken.write_group.Goals as goal
 
 pub returns-clause-group : goal.returns-clause-group

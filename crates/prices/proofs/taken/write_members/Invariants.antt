@@ -1,5 +1,5 @@
 use Rattle.std.proofs.Common.{pos, false, slice_index_or}
-use Rattle.prices.specs.Takings.{takes_by}
+use Rattle.groups.specs.Takings.{takes_by}
 use Rattle.prices.proofs.Setting.{IsWrittenFrom}
 use Rattle.prices.proofs.taken.write_members.Given as goal
 

@@ -1,7 +1,7 @@
 use Rattle.std.proofs.Common.{◌≡◌, ◌+◌, ◌≤◌, pos, ◌+ℤ◌, length, slice_index_or, rules, arith, w64}
 use Rattle.std.proofs.lemmas.Int.{ints, to_z-of_z}
-use Rattle.prices.proofs.Summing.{IsWide, between, wide_more}
-use Rattle.prices.proofs.taking.price_sum.Goals as goal
+use Rattle.groups.proofs.Wide.{IsWide, between, wide_more}
+use Rattle.groups.proofs.taking.wide_sum.Goals as goal
 use mir.Val.{SFits}
 
 pub loop-price-preserved : goal.loop-price-preserved

@@ -1,15 +1,15 @@
-// What a group takes of its requests.
+// What a group takes of its requests at prices.
 
 ghost use Rattle.std.specs.Prelude.{◌≡◌, ◌≤◌, ◌<◌, ℕ, pos, int_lt, length, slice_index_or};
 ghost use Rattle.std.specs.List.{IsFirstBest};
 ghost use Rattle.plan_base.specs.NetPrices.{price_sum};
-ghost use Rattle.prices.specs.Takings.{takes_at, takes_by};
+ghost use Rattle.groups.specs.Takings.{takes_at, takes_by};
 
 use plan_base::Op;
 
 /// What a group takes of its requests at their net prices.
 #[derive(Clone, Copy)]
-pub(crate) enum Taking {
+pub enum Taking {
     /// Each whose price is above 0.
     Priced,
     /// The one at this place among its own, if its price is above 0.
@@ -19,8 +19,10 @@ pub(crate) enum Taking {
 }
 
 impl Taking {
-    /// What a group of this kind takes at the net prices of its requests, 1 to 256.
-    pub(crate) fn at(op: Op, prices: &[i64]) -> Taking
+    /// What a group of this kind takes at the net prices of its requests, 1 to 256 of them: a `SINGLE` or a `MANY`
+    /// what has a price above 0, a `ONEOF` the first of its greatest price if that is above 0, and an `AND` all of its
+    /// requests where the sum of their prices is above 0. It passes over the prices once.
+    pub fn at(op: Op, prices: &[i64]) -> Taking
         requires some { 0 < length prices.now }
         requires few { length prices.now ≤ 256 }
         ensures { (i : ℕ) → i < length prices.now → takes_by result (slice_index_or prices.now i (pos 0)) i ≡ takes_at op prices.now i }
@@ -28,12 +30,12 @@ impl Taking {
         match op {
             Op::Single | Op::Many => Taking::Priced,
             Op::OneOf => Taking::First(first_greatest(prices)),
-            Op::And => Taking::Whole(price_sum(prices) > 0),
+            Op::And => Taking::Whole(wide_sum(prices) > 0),
         }
     }
 
     /// Whether the request with this price at this place of the group is taken.
-    pub(crate) fn takes(self, price: i64, place: usize) -> bool
+    pub fn takes(self, price: i64, place: usize) -> bool
         ensures { result ≡ takes_by self price place }
     {
         match self {
@@ -64,8 +66,8 @@ struct Sum {
     value: i128,
 }
 
-/// The sum of at most 256 prices.
-fn price_sum(prices: &[i64]) -> i128
+/// The sum of at most 256 prices of any size.
+fn wide_sum(prices: &[i64]) -> i128
     requires few { length prices.now ≤ 256 }
     ensures { result ≡ price_sum prices.now }
 {

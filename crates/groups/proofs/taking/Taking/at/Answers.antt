@@ -1,8 +1,8 @@
 use Rattle.std.proofs.Common.{◌&&◌, Bool, int_lt, pos, slice_index_or, sym, ◌∙◌, ap}
 use Rattle.plan_base.specs.declared.parts.Op.{Op}
-use Rattle.prices.specs.Takings.{takes_at}
-use Rattle.prices.proofs.Greatest.{first_is}
-use Rattle.prices.proofs.taking.Taking.at.Goals as goal
+use Rattle.groups.specs.Takings.{takes_at}
+use Rattle.groups.proofs.Greatest.{first_is}
+use Rattle.groups.proofs.taking.Taking.at.Goals as goal
 
 pub returns-in-OneOf : goal.returns-in-OneOf
 returns-in-OneOf c = λ i l.
