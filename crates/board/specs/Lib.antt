@@ -1,0 +1,5 @@
+pub mod Views
+pub mod Steps
+pub mod Rule
+pub mod Plays
+pub mod Seats
