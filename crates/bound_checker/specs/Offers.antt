@@ -1,5 +1,6 @@
 -- What a request asks for, and what it gives at each slice.
 use Rattle.std.specs.Prelude.{◌≡◌, ℕ, ◌-◌, ◌≤◌, ℤ, pos, ◌-ℤ◌, map, All}
+use Rattle.plan_base.specs.Limits.{most_slices, most_value}
 use Rattle.plan_base.specs.declared.parts.RequestPart.{RequestPart}
 use Rattle.plan_base.specs.Snapshot.{IsMoment}
 use Rattle.plan_base.specs.Starts.{slices_for, least_of, faded}
@@ -11,9 +12,9 @@ use Rattle.bound_checker.specs.Stretches.{IsObservation}
 pub record IsOfferRange (o : Offer) : Type 0 where
   pub observation : IsObservation o.observation
   pub size_least : 1 ≤ o.size
-  pub size_most : o.size ≤ 1440
+  pub size_most : o.size ≤ most_slices
   pub price : IsPriceInRange o.price
-  pub value : o.value ≤ 288000000
+  pub value : o.value ≤ most_value
   pub fade : o.fade ≤ 1000
 
 -- what the request offers at a price, where slices have this length

@@ -1,5 +1,6 @@
 -- What the tests of a claim say together, as far as they have come.
 use Rattle.std.specs.Prelude.{◌≡◌, ℕ, ◌≤◌, ◌<◌, List, length, All, Some}
+use Rattle.plan_base.specs.Limits.{most_quota_price}
 use Rattle.plan_base.specs.declared.parts.Parts.{Parts}
 use Rattle.plan_base.specs.declared.claim.Placement.{Placement}
 use Rattle.plan_base.specs.declared.claim.Claim.{Claim}
@@ -35,4 +36,4 @@ pub record ArePricesFit (s : Parts) (claim : Claim) : Type 0 where
 pub record AreAllPricesFit (s : Parts) (claim : Claim) : Type 0 where
   pub prices : ArePricesFit s claim
   pub quota_count : IsQuotaPriceCount s claim.quota_prices.0
-  pub quota_range : All (λ u. u ≤ 200000) claim.quota_prices.0
+  pub quota_range : All (λ u. u ≤ most_quota_price) claim.quota_prices.0

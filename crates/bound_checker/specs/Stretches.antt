@@ -1,5 +1,6 @@
 -- Slices in a row at which an observation may begin, or may not.
 use Rattle.std.specs.Prelude.{ℕ, ◌+◌, ◌*◌, ◌≤◌, ◌<◌, ◌↔◌, IsTrue, true, if◌then◌else◌, min, List}
+use Rattle.plan_base.specs.Limits.{most_seconds}
 use Rattle.plan_base.specs.declared.span.Span.{Span}
 use Rattle.plan_base.specs.BySpans.{HasAll}
 use Rattle.bound_checker.specs.declared.stretches.Observation.{Observation}
@@ -10,7 +11,7 @@ pub record IsObservation (o : Observation) : Type 0 where
   pub len_least : 60 ≤ o.len
   pub len_most : o.len ≤ 3600
   pub seconds_least : 1 ≤ o.seconds
-  pub seconds_most : o.seconds ≤ 86400
+  pub seconds_most : o.seconds ≤ most_seconds
 
 -- an observation that begins at slice k lies inside the span
 abbrev pub DoesFitIn : Span → Observation → ℕ → Type 0

@@ -1,15 +1,16 @@
 -- Tables of numbers, one a slice, over rows of starts.
 use Rattle.std.specs.Prelude.{◌≡◌, ℕ, ◌+◌, ◌*◌, ◌≤◌, ◌<◌, ◌^◌, ◌⊎◌, ℤ, pos, neg_ℤ, ◌+ℤ◌, ◌≤ℤ◌, List, [], length, slice_index_or, Contains}
+use Rattle.plan_base.specs.Limits.{most_price, most_slices, most_value}
 use Rattle.plan_base.specs.Tables.{row, gain_from, IsGreatestOf, IsRowTable}
 use Rattle.bound_checker.specs.declared.table.Start.{Start}
 
 -- what a start may weigh
 abbrev pub IsWeight : ℤ → Type 0
-IsWeight w = (neg_ℤ (pos (10 ^ 12)) ≤ℤ w) × (w ≤ℤ pos 1000288000000)
+IsWeight w = (neg_ℤ (pos most_price) ≤ℤ w) × (w ≤ℤ pos (most_price + most_value))
 
 -- what a table of at most 1,440 slices may hold
 abbrev pub IsEntry : ℤ → Type 0
-IsEntry b = (pos 0 ≤ℤ b) × (b ≤ℤ pos (1440 * 1000288000000))
+IsEntry b = (pos 0 ≤ℤ b) × (b ≤ℤ pos (most_slices * (most_price + most_value)))
 
 -- what a start gives, where the table has what follows it
 abbrev pub gain : List ℤ → Start → ℤ

@@ -1,6 +1,7 @@
 // The bound that prices give.
 
 ghost use Rattle.std.specs.Prelude.{◌≡◌, ◌*◌, ◌<◌, ◌≤◌, pos, ◌+ℤ◌, ◌≤ℤ◌, length, slice_index_or, All, IfOk};
+ghost use Rattle.plan_base.specs.Limits.{most_quota, most_quota_price};
 ghost use Rattle.plan_base.specs.Requests.{listed};
 ghost use Rattle.plan_base.specs.Bound.{IsBest, net_price, IsRebate, IsQuotaPart, IsBound};
 ghost use Rattle.plan_base.specs.Verdict.{IsPriceInRange};
@@ -29,7 +30,7 @@ pub fn bound_of(
 ) -> Result<u64, AllocError>
     requires count { length prices.now.0 ≡ length (listed snapshot.now) }
     requires range { All IsPriceInRange prices.now.0 }
-    requires quota_range { All (λ u. u ≤ 200000) quota_prices.now.0 }
+    requires quota_range { All (λ u. u ≤ most_quota_price) quota_prices.now.0 }
     ensures { IfOk result (λ bound. IsBound snapshot.now prices.now.0 quota_prices.now.0 (pos bound)) }
 {
     snapshot.recall_valid();
@@ -68,7 +69,7 @@ fn best_sum(alloc: Global, snapshot: &Snapshot, prices: &Prices) -> Result<i64, 
 fn rebate_sum(snapshot: &Snapshot, prices: &Prices, quota_prices: &QuotaPrices) -> i64
     requires count { length prices.now.0 ≡ length (listed snapshot.now) }
     requires range { All IsPriceInRange prices.now.0 }
-    requires quota_range { All (λ u. u ≤ 200000) quota_prices.now.0 }
+    requires quota_range { All (λ u. u ≤ most_quota_price) quota_prices.now.0 }
     ensures { IsSummed (length snapshot.now.groups) (IsRebate snapshot.now (net_price snapshot.now prices.now.0 quota_prices.now.0)) 1024000000000000 result }
 {
     let mut sum = Sum { value: 0 };
@@ -81,7 +82,7 @@ fn rebate_sum(snapshot: &Snapshot, prices: &Prices, quota_prices: &QuotaPrices) 
 
 /// The sum of the quotas at their prices.
 fn quota_sum(snapshot: &Snapshot, quota_prices: &QuotaPrices) -> i64
-    requires quota_range { All (λ u. u ≤ 200000) quota_prices.now.0 }
+    requires quota_range { All (λ u. u ≤ most_quota_price) quota_prices.now.0 }
     ensures { IsSummed (length snapshot.now.quotas) (IsQuotaPart snapshot.now quota_prices.now.0) 20000000000000 result }
 {
     let mut sum = Sum { value: 0 };
@@ -94,7 +95,7 @@ fn quota_sum(snapshot: &Snapshot, quota_prices: &QuotaPrices) -> i64
 /// A quota at its price.
 fn quota_part(snapshot: &Snapshot, quota_prices: &QuotaPrices, quota: usize) -> i64
     requires quota { quota < length snapshot.now.quotas }
-    requires quota_range { All (λ u. u ≤ 200000) quota_prices.now.0 }
+    requires quota_range { All (λ u. u ≤ most_quota_price) quota_prices.now.0 }
     ensures part { IsQuotaPart snapshot.now quota_prices.now.0 quota result }
     ensures most { result ≤ℤ pos 20000000000000 }
 {
@@ -104,17 +105,17 @@ fn quota_part(snapshot: &Snapshot, quota_prices: &QuotaPrices, quota: usize) -> 
 
 /// The price of the quota at a place: 0 past the end of the list.
 fn price_at(quota_prices: &[u32], quota: usize) -> u32
-    requires { All (λ u. u ≤ 200000) quota_prices.now }
+    requires { All (λ u. u ≤ most_quota_price) quota_prices.now }
     ensures value { result ≡ slice_index_or quota_prices.now quota 0 }
-    ensures most { result ≤ 200000 }
+    ensures most { result ≤ most_quota_price }
 {
     quota_prices.get(quota).copied().unwrap_or(0)
 }
 
 /// What so many seconds cost at a price.
 fn cost_of(price: u32, seconds: u64) -> i64
-    requires price { price ≤ 200000 }
-    requires seconds { seconds ≤ 100000000 }
+    requires price { price ≤ most_quota_price }
+    requires seconds { seconds ≤ most_quota }
     ensures value { result ≡ pos (price * seconds) }
     ensures most { result ≤ℤ pos 20000000000000 }
 {

@@ -1,6 +1,7 @@
 // The net prices of a group's requests, and sums of them.
 
 ghost use Rattle.std.specs.Prelude.{◌≡◌, ◌⊎◌, ◌+◌, ◌*◌, ◌<◌, ◌≤◌, pos, ◌≤ℤ◌, length, map, take, drop, slice_index_or, All};
+ghost use Rattle.plan_base.specs.Limits.{most_quota_price, most_seconds};
 ghost use Rattle.plan_base.specs.Requests.{listed, members};
 ghost use Rattle.plan_base.specs.Bound.{net_price};
 ghost use Rattle.plan_base.specs.Verdict.{IsPriceInRange};
@@ -33,7 +34,7 @@ pub(crate) fn nets_of<'a>(
     requires group { group < length snapshot.now.groups }
     requires count { length prices.now.0 ≡ length (listed snapshot.now) }
     requires range { All IsPriceInRange prices.now.0 }
-    requires quota_range { All (λ u. u ≤ 200000) quota_prices.now.0 }
+    requires quota_range { All (λ u. u ≤ most_quota_price) quota_prices.now.0 }
     ensures valid { IsNets result }
     ensures value { net_list result ≡ map (net_price snapshot.now prices.now.0 quota_prices.now.0) (members snapshot.now group) }
 {
@@ -58,9 +59,9 @@ fn prices_from(prices: &Prices, first: usize, count: usize) -> &[i64]
 
 /// The price of a second of a quota: 0 past the end of the list, or where no quota is named.
 pub(crate) fn price_of(quota_prices: &[u32], quota: Option<u16>) -> u32
-    requires { All (λ u. u ≤ 200000) quota_prices.now }
+    requires { All (λ u. u ≤ most_quota_price) quota_prices.now }
     ensures value { result ≡ price_of quota_prices.now quota }
-    ensures most { result ≤ 200000 }
+    ensures most { result ≤ most_quota_price }
 {
     match quota {
         Some(quota) => quota_prices.get(usize::from(quota)).copied().unwrap_or(0),
@@ -80,8 +81,8 @@ fn net_at(nets: &Nets, place: usize) -> i64
 
 /// What so many seconds cost at a price.
 fn cost_of(quota_price: u32, seconds: u32) -> i64
-    requires price { quota_price ≤ 200000 }
-    requires seconds { seconds ≤ 86400 }
+    requires price { quota_price ≤ most_quota_price }
+    requires seconds { seconds ≤ most_seconds }
     ensures { result ≡ pos (quota_price * seconds) }
 {
     i64::from(quota_price) * i64::from(seconds)

@@ -1,6 +1,7 @@
 // Whether a placement is a possible start, by whole observations inside single spans.
 
 ghost use Rattle.std.specs.Prelude.{◌≡◌, ◌<◌, ◌≤◌, ◌+◌, ◌*◌, ◌↔◌, ◌^◌, length, All, Contains, MatchOption, IsTrue};
+ghost use Rattle.plan_base.specs.Limits.{most_seconds};
 ghost use Rattle.plan_base.specs.Requests.{IsKnown};
 ghost use Rattle.plan_base.specs.Starts.{IsPossibleStart, site_of, slices_for};
 ghost use Rattle.plan_base.specs.Snapshot.{IsOrderly};
@@ -56,7 +57,7 @@ fn is_able(request: &RequestPart, telescope: TelescopeNo) -> bool
 /// Whether the slices of the request lie within the horizon where it begins at this one.
 fn is_within_horizon(parts: &Parts, request: &RequestPart, slice: SliceNo) -> bool
     requires orderly { IsOrderly parts.now }
-    requires seconds { request.now.seconds ≤ 86400 }
+    requires seconds { request.now.seconds ≤ most_seconds }
     ensures { IsTrue result ↔ ((parts.now.first.0 ≤ slice.0) × (slice.0 + slices_for parts.now.len request.now.seconds ≤ parts.now.first.0 + parts.now.slices)) }
 {
     let size = slices_for(u64::from(parts.len), u64::from(request.seconds));
@@ -67,7 +68,7 @@ fn is_within_horizon(parts: &Parts, request: &RequestPart, slice: SliceNo) -> bo
 /// The seconds of the request where it begins at this slice.
 fn observed_span(parts: &Parts, request: &RequestPart, slice: SliceNo) -> Span
     requires orderly { IsOrderly parts.now }
-    requires seconds { request.now.seconds ≤ 86400 }
+    requires seconds { request.now.seconds ≤ most_seconds }
     ensures from { result.from.0 ≡ slice.0 * parts.now.len }
     ensures to { result.to.0 ≡ slice.0 * parts.now.len + request.now.seconds }
 {

@@ -1,13 +1,10 @@
 // Whether the prices of a claim are in their ranges.
 
 ghost use Rattle.std.specs.Prelude.{◌≡◌, ◌<◌, ◌≤◌, MatchOption, All, length, slice_index_or, pos};
+ghost use Rattle.plan_base.specs.Limits.{most_quota_price};
 ghost use Rattle.plan_base.specs.Verdict.{IsFirst, IsPriceInRange};
 
-/// The greatest price and the least one, in magnitude.
-const MOST_PRICE: i64 = 1_000_000_000_000;
-
-/// The greatest quota price.
-const MOST_QUOTA_PRICE: u32 = 200_000;
+use plan_base::{MOST_PRICE, MOST_QUOTA_PRICE};
 
 /// The first price that is out of its range.
 pub(crate) fn first_price_out_of_range(prices: &[i64]) -> Option<usize>
@@ -23,7 +20,7 @@ pub(crate) fn first_price_out_of_range(prices: &[i64]) -> Option<usize>
 
 /// The first quota price that is out of its range.
 pub(crate) fn first_quota_price_out_of_range(quota_prices: &[u32]) -> Option<usize>
-    ensures { MatchOption result (All (λ u. u ≤ 200000) quota_prices.now) (IsFirst (λ i. 200000 < slice_index_or quota_prices.now i 0)) }
+    ensures { MatchOption result (All (λ u. u ≤ most_quota_price) quota_prices.now) (IsFirst (λ i. most_quota_price < slice_index_or quota_prices.now i 0)) }
 {
     for (index, price) in quota_prices.iter().enumerate() {
         if *price > MOST_QUOTA_PRICE {

@@ -1,6 +1,7 @@
 // What a group gives at net prices.
 
 ghost use Rattle.std.specs.Prelude.{◌≡◌, ◌<◌, ◌≤◌, length, All};
+ghost use Rattle.plan_base.specs.Limits.{most_quota_price};
 ghost use Rattle.plan_base.specs.Requests.{listed};
 ghost use Rattle.plan_base.specs.Bound.{net_price, IsRebate};
 ghost use Rattle.plan_base.specs.Verdict.{IsPriceInRange};
@@ -21,7 +22,7 @@ pub fn rebate_of(
     requires group { group < length snapshot.now.groups }
     requires count { length prices.now.0 ≡ length (listed snapshot.now) }
     requires range { All IsPriceInRange prices.now.0 }
-    requires quota_range { All (λ u. u ≤ 200000) quota_prices.now.0 }
+    requires quota_range { All (λ u. u ≤ most_quota_price) quota_prices.now.0 }
     ensures { IsRebate snapshot.now (net_price snapshot.now prices.now.0 quota_prices.now.0) group result }
 {
     let op = snapshot.parts().groups.as_slice()[group].op;

@@ -1,6 +1,7 @@
 // The greatest surplus from each slice on.
 
 ghost use Rattle.std.specs.Prelude.{◌≡◌, ℕ, ◌+◌, ◌<◌, ◌≤◌, ◌⊎◌, ℤ, pos, ◌≤ℤ◌, length, All, Contains};
+ghost use Rattle.plan_base.specs.Limits.{most_slices};
 ghost use Rattle.plan_base.specs.Tables.{entry};
 ghost use Rattle.bound_checker.specs.Tables.{IsWeight, IsEntry, gain, DoRowsFit, IsRecursion};
 
@@ -26,7 +27,7 @@ struct Greatest {
 /// is the answer.
 pub(crate) fn fill_table(rows: &[ListOf<Start>], table: &mut [i64]) -> i64
     requires entries { length table.old ≡ length rows.now + 1 }
-    requires rows { length rows.now ≤ 1440 }
+    requires rows { length rows.now ≤ most_slices }
     requires fit { DoRowsFit rows.now }
     ensures recursion { IsRecursion rows.now table.new }
     ensures first { result ≡ entry table.new 0 }

@@ -1,6 +1,7 @@
 // What a plan is worth.
 
 ghost use Rattle.std.specs.Prelude.{◌≡◌, ◌≤◌, length};
+ghost use Rattle.plan_base.specs.Limits.{most_value};
 ghost use Rattle.plan_base.specs.Requests.{IsKnown};
 ghost use Rattle.plan_base.specs.Starts.{worth_at, value_of_plan};
 ghost use Rattle.bound_checker.specs.Claims.{IsEachKnown};
@@ -25,7 +26,7 @@ pub(crate) fn value_of(snapshot: &Snapshot, plan: &[Placement]) -> u64
 fn worth_of(snapshot: &Snapshot, placement: Placement) -> u64
     requires { IsKnown snapshot.now placement.request.0 }
     ensures value { result ≡ worth_at snapshot.now placement }
-    ensures most { result ≤ 288000000 }
+    ensures most { result ≤ most_value }
 {
     let request = request_of(snapshot, placement.request);
     let len = u64::from(snapshot.parts().len);

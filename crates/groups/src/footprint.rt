@@ -1,6 +1,7 @@
 // What a placement takes up of what the placements of a plan share.
 
 ghost use Rattle.std.specs.Prelude.{◌≡◌, ◌<◌, ◌≤◌};
+ghost use Rattle.plan_base.specs.Limits.{most_slices};
 ghost use Rattle.plan_base.specs.Starts.{IsPossibleStart};
 ghost use Rattle.groups.specs.Footprints.{IsFootprint, first_slot};
 
@@ -47,7 +48,7 @@ pub(crate) fn footprint_of(snapshot: &Snapshot, placement: Placement) -> Footpri
 
 fn first_slot(parts: &Parts, placement: Placement) -> usize
     requires telescope { placement.telescope.0 < 32 }
-    requires slices { parts.now.slices ≤ 1440 }
+    requires slices { parts.now.slices ≤ most_slices }
     requires begins { parts.now.first.0 ≤ placement.slice.0 }
     ensures { result ≡ first_slot parts.now placement }
 {

@@ -1,6 +1,7 @@
 // The prices of requests less what their seconds cost of their quotas.
 
 ghost use Rattle.std.specs.Prelude.{◌≡◌, ◌<◌, ◌≤◌, ◌⊎◌, ◌*◌, ℤ, pos, ◌-ℤ◌, [], length, slice_index, slice_index_or, All, Some, HoldsAt};
+ghost use Rattle.plan_base.specs.Limits.{most_seconds};
 ghost use Rattle.plan_base.specs.Requests.{Listed, listed};
 ghost use Rattle.plan_base.specs.Bound.{quota_cost, net_price};
 ghost use Rattle.plan_base.specs.NetPrices.{IsNetInRange, net_prices};
@@ -38,7 +39,7 @@ fn net_at(snapshot: &Snapshot, prices: &Prices, quota_prices: &QuotaPrices, plac
 
 /// What so many seconds cost at the price of a quota, if one is named.
 fn quota_cost(quota_prices: &[u32], seconds: u32, quota: Option<u16>) -> i64
-    requires { seconds ≤ 86400 }
+    requires { seconds ≤ most_seconds }
     ensures { result ≡ pos (quota_cost quota_prices.now seconds quota) }
 {
     match quota {

@@ -1,5 +1,6 @@
 -- What a request offers at each slice.
 use Rattle.std.specs.Prelude.{◌≡◌, ℕ, ◌-◌, ◌≤◌, map}
+use Rattle.plan_base.specs.Limits.{most_seconds, most_value}
 use Rattle.plan_base.specs.declared.parts.RequestPart.{RequestPart}
 use Rattle.plan_base.specs.Starts.{slices_for, least_of, faded}
 use Rattle.interval_solver.specs.declared.offer.Offer.{Offer}
@@ -7,8 +8,8 @@ use Rattle.interval_solver.specs.declared.offer.Offer.{Offer}
 -- the numbers of the offer are in their ranges
 pub record IsOfferRange (o : Offer) : Type 0 where
   pub place : o.place ≤ 1024
-  pub size : o.size ≤ 86400
-  pub value : o.value ≤ 288000000
+  pub size : o.size ≤ most_seconds
+  pub value : o.value ≤ most_value
   pub fade : o.fade ≤ 1000
 
 -- what the request at a place offers, where slices have this length

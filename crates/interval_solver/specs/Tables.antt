@@ -1,15 +1,16 @@
 -- Tables of numbers, one a slice, over rows of starts at prices.
 use Rattle.std.specs.Prelude.{◌≡◌, ℕ, ◌+◌, ◌*◌, ◌≤◌, ◌<◌, ◌^◌, ◌⊎◌, ℤ, pos, neg_ℤ, ◌+ℤ◌, ◌-ℤ◌, ◌≤ℤ◌, List, [], length, slice_index_or, Contains}
+use Rattle.plan_base.specs.Limits.{most_price, most_slices, most_value}
 use Rattle.plan_base.specs.Tables.{row, gain_from, IsGreatestOf, IsRowTable}
 use Rattle.interval_solver.specs.declared.start.Start.{Start}
 
 -- what a start may weigh
 abbrev pub IsWeight : ℤ → Type 0
-IsWeight w = (neg_ℤ (pos (10 ^ 12)) ≤ℤ w) × (w ≤ℤ pos 1000288000000)
+IsWeight w = (neg_ℤ (pos most_price) ≤ℤ w) × (w ≤ℤ pos (most_price + most_value))
 
 -- what a table of at most 1,440 slices may hold
 abbrev pub IsEntry : ℤ → Type 0
-IsEntry b = (pos 0 ≤ℤ b) × (b ≤ℤ pos (1440 * 1000288000000))
+IsEntry b = (pos 0 ≤ℤ b) × (b ≤ℤ pos (most_slices * (most_price + most_value)))
 
 -- what a start is worth beyond its request's price
 abbrev pub start_weight : List ℤ → Start → ℤ
@@ -21,7 +22,7 @@ gain prices table x = gain_from (start_weight prices) (λ y. y.after) table x
 
 -- a start at slice k ends after it and within n slices, and is worth so much; its request is one of m
 pub record IsFitting (n m k : ℕ) (x : Start) : Type 0 where
-  pub worth : x.worth ≤ 288000000
+  pub worth : x.worth ≤ most_value
   pub place : x.place < m
   pub after : k < x.after
   pub within : x.after ≤ n

@@ -1,6 +1,7 @@
 // What a request offers at each slice.
 
 ghost use Rattle.std.specs.Prelude.{◌≡◌, ◌≤◌, All};
+ghost use Rattle.plan_base.specs.Limits.{most_seconds, most_value};
 ghost use Rattle.plan_base.specs.Snapshot.{IsMoment};
 ghost use Rattle.interval_solver.specs.Offers.{IsOfferRange, IsOffer, offer_worth};
 
@@ -27,8 +28,8 @@ pub(crate) fn offer_of(len: u32, place: u32, request: &RequestPart) -> Offer
     requires least { 60 ≤ len }
     requires most { len ≤ 3600 }
     requires place { place ≤ 1024 }
-    requires seconds { request.now.seconds ≤ 86400 }
-    requires value { request.now.value ≤ 288000000 }
+    requires seconds { request.now.seconds ≤ most_seconds }
+    requires value { request.now.value ≤ most_value }
     requires fade { request.now.fade ≤ 1000 }
     requires moments { All (λ w. IsMoment w.from.0) request.now.windows }
     ensures range { IsOfferRange result }

@@ -1,6 +1,7 @@
 // The possible starts of one telescope, by slice.
 
 ghost use Rattle.std.specs.Prelude.{◌≡◌, ◌+◌, ◌<◌, ◌≤◌, ℕ, [], length, HoldsAt, IfOk, OnOk};
+ghost use Rattle.plan_base.specs.Limits.{most_slices};
 ghost use Rattle.plan_base.specs.Starts.{IsPossibleStart};
 ghost use Rattle.snapshot_starts.specs.Runs.{AreAllStarts};
 ghost use Rattle.plan_base.specs.Tables.{row};
@@ -85,7 +86,7 @@ fn push_starts(
     requires begins { first ≤ from }
     requires order { from ≤ to }
     requires ends { to ≤ first + length rows.old.items }
-    requires few { length rows.old.items ≤ 1440 }
+    requires few { length rows.old.items ≤ most_slices }
     ensures { OnOk result (AreAdded offer.now first from to rows.old.items rows.new.items) }
 {
     for slice in from..to {

@@ -1,6 +1,7 @@
 // The greatest surplus from each slice on.
 
 ghost use Rattle.std.specs.Prelude.{◌≡◌, ◌+◌, ◌<◌, ◌≤◌, ◌⊎◌, ◌≤ℤ◌, length, All, Contains};
+ghost use Rattle.plan_base.specs.Limits.{most_slices, most_value};
 ghost use Rattle.plan_base.specs.Verdict.{IsPriceInRange};
 ghost use Rattle.plan_base.specs.Tables.{entry};
 ghost use Rattle.interval_solver.specs.Tables.{IsEntry, gain, DoRowsFit, IsRecursion};
@@ -19,7 +20,7 @@ struct Greatest {
 /// The first one is the answer.
 pub(crate) fn fill_table(rows: &[ListOf<Start>], prices: &[i64], table: &mut [i64]) -> i64
     requires entries { length table.old ≡ length rows.now + 1 }
-    requires rows { length rows.now ≤ 1440 }
+    requires rows { length rows.now ≤ most_slices }
     requires fit { DoRowsFit (length prices.now) rows.now }
     requires range { All IsPriceInRange prices.now }
     ensures count { length table.new ≡ length table.old }
@@ -38,7 +39,7 @@ pub(crate) fn fill_table(rows: &[ListOf<Start>], prices: &[i64], table: &mut [i6
 
 /// The greatest of `least` and of what each start in a row gives.
 fn row_best(row: &[Start], prices: &[i64], table: &[i64], least: i64) -> i64
-    requires worths { All (λ x. x.worth ≤ 288000000) row.now }
+    requires worths { All (λ x. x.worth ≤ most_value) row.now }
     requires places { All (λ x. x.place < length prices.now) row.now }
     requires afters { All (λ x. x.after < length table.now) row.now }
     requires range { All IsPriceInRange prices.now }
@@ -56,7 +57,7 @@ fn row_best(row: &[Start], prices: &[i64], table: &[i64], least: i64) -> i64
 
 /// What a start gives: its worth less its request's price, and the greatest surplus from the slice after its last on.
 pub(crate) fn gain_of(start: Start, prices: &[i64], table: &[i64]) -> i64
-    requires worth { start.worth ≤ 288000000 }
+    requires worth { start.worth ≤ most_value }
     requires place { start.place < length prices.now }
     requires after { start.after < length table.now }
     requires range { All IsPriceInRange prices.now }

@@ -1,6 +1,7 @@
 // Starts, and how often each request is among them.
 
 ghost use Rattle.std.specs.Prelude.{◌≡◌, ◌<◌, ◌≤◌, [], ◌∷◌, ◌++◌, length, replicate, IfOk};
+ghost use Rattle.plan_base.specs.Limits.{most_slices};
 ghost use Rattle.interval_solver.specs.Uses.{count_of, IsTally};
 
 use plan_base::Placement;
@@ -53,7 +54,7 @@ impl Uses {
     pub(crate) fn add(&mut self, place: u32, start: Placement)
         requires place { place < self.old.requests }
         requires room { length self.old.starts < self.old.room }
-        requires few { self.old.room ≤ 1440 }
+        requires few { self.old.room ≤ most_slices }
         ensures { self.new ≡ record { starts = self.old.starts ++ start ∷ []; places = self.old.places ++ place ∷ []; requests = self.old.requests; room = self.old.room } }
     {
         self.counts[place as usize] += 1;

@@ -1,6 +1,7 @@
 // What a telescope starts to reach its best.
 
 ghost use Rattle.std.specs.Prelude.{◌≡◌, ◌≢◌, ℕ, ◌+◌, ◌<◌, ◌≤◌, length, All, Contains};
+ghost use Rattle.plan_base.specs.Limits.{most_value};
 ghost use Rattle.plan_base.specs.Requests.{listed};
 ghost use Rattle.plan_base.specs.Starts.{IsPossibleStart};
 ghost use Rattle.plan_base.specs.Canonical.{IsCanonicalUse};
@@ -67,7 +68,7 @@ fn busy_slice(table: &[i64], from: usize) -> usize
 
 /// The first start in a row that gives so much.
 fn tight_start(row: &[Start], prices: &[i64], table: &[i64], surplus: i64) -> Start
-    requires worths { All (λ x. x.worth ≤ 288000000) row.now }
+    requires worths { All (λ x. x.worth ≤ most_value) row.now }
     requires places { All (λ x. x.place < length prices.now) row.now }
     requires afters { All (λ x. x.after < length table.now) row.now }
     requires range { All IsPriceInRange prices.now }

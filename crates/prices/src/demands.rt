@@ -1,6 +1,7 @@
 // How many seconds of each quota are demanded.
 
 ghost use Rattle.std.specs.Prelude.{◌≡◌, ◌≤◌, ◌<◌, ◌+◌, ◌^◌, ℕ, ℤ, Some, length, map, slice_index_or};
+ghost use Rattle.plan_base.specs.Limits.{most_seconds};
 ghost use Rattle.plan_base.specs.Requests.{listed};
 ghost use Rattle.plan_base.specs.Round.{demand_of};
 ghost use Rattle.groups.specs.Tables.{towards};
@@ -27,10 +28,10 @@ pub(crate) fn add_demands(snapshot: &Snapshot, taken: &[bool], demands: &mut [u6
 fn add_request(snapshot: &Snapshot, place: usize, demands: &mut [u64])
     requires place { place < length (listed snapshot.now) }
     requires room { length snapshot.now.quotas ≤ length demands.old }
-    requires small { (q : ℕ) → slice_index_or demands.old q 0 + 86400 < 2 ^ 64 }
+    requires small { (q : ℕ) → slice_index_or demands.old q 0 + most_seconds < 2 ^ 64 }
     ensures count { length demands.new ≡ length demands.old }
     ensures added { (q : ℕ) → slice_index_or demands.new q 0 ≡ slice_index_or demands.old q 0 + slice_index_or (map (λ x. towards x.quota x.request.seconds q) (listed snapshot.now)) place 0 }
-    ensures few { (q : ℕ) → slice_index_or demands.new q 0 ≤ slice_index_or demands.old q 0 + 86400 }
+    ensures few { (q : ℕ) → slice_index_or demands.new q 0 ≤ slice_index_or demands.old q 0 + most_seconds }
 {
     let seconds = snapshot.request_at(place).seconds;
     let group = &snapshot.parts().groups.as_slice()[snapshot.group_at(place)];

@@ -6,10 +6,7 @@ ghost use Rattle.plan_base.specs.Round.{moved_quota_price};
 ghost use Rattle.prices.specs.Rounds.{stepped_price};
 
 use crate::steps::quota_step;
-use plan_base::ListOf;
-
-/// The most that a second of a quota costs.
-const MOST_QUOTA_PRICE: u64 = 200_000;
+use plan_base::{ListOf, MOST_QUOTA_PRICE};
 
 /// Moves each price by the step, up where its request is used more often than it is taken, down where less often.
 pub(crate) fn move_prices(prices: &mut ListOf<i64>, uses: &[u32], taken: &[bool], step: i64)
@@ -77,7 +74,7 @@ fn moved_quota_price(price: u32, demand: u64, quota: u64, step: u64) -> u32
 {
     let step = quota_step(step);
     if demand > quota {
-        (u64::from(price) + step).min(MOST_QUOTA_PRICE) as u32
+        (u64::from(price) + step).min(u64::from(MOST_QUOTA_PRICE)) as u32
     } else if demand < quota {
         u64::from(price).saturating_sub(step) as u32
     } else {

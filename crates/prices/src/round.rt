@@ -14,13 +14,7 @@ use crate::demands::add_demands;
 use crate::moves::{move_prices, move_quota_prices};
 use crate::steps::step_size;
 use crate::taken::write_taken;
-use plan_base::{Prices, QuotaPrices, Snapshot};
-
-/// The most requests that a snapshot has.
-const MOST_REQUESTS: usize = 1024;
-
-/// The most quotas that a snapshot has.
-const MOST_QUOTAS: usize = 1024;
+use plan_base::{MOST_REQUESTS, Prices, QuotaPrices, Snapshot};
 
 /// One round: each price goes up by the step where the request is used more often than its group takes it, down by it
 /// where less often, and stays else. What groups take is by net prices, those of the two lists before the call. A quota
@@ -66,14 +60,14 @@ fn taken_flags(snapshot: &Snapshot, net: &[i64]) -> [bool; MOST_REQUESTS]
 }
 
 /// How many seconds are taken of each quota.
-fn demands_of(snapshot: &Snapshot, taken: &[bool]) -> [u64; MOST_QUOTAS]
+fn demands_of(snapshot: &Snapshot, taken: &[bool]) -> [u64; MOST_REQUESTS]
     requires { length (listed snapshot.now) ≤ length taken.now }
     ensures count { length result ≡ 1024 }
     ensures room { length snapshot.now.quotas ≤ 1024 }
     ensures demand { (c : ℕ → ℤ) (q : ℕ) → AreTaken snapshot.now c taken.now → slice_index_or result q 0 ≡ demand_of snapshot.now c q }
 {
     snapshot.recall_valid();
-    let mut demands = [0; MOST_QUOTAS];
+    let mut demands = [0; MOST_REQUESTS];
     add_demands(snapshot, taken, &mut demands);
     demands
 }

@@ -1,5 +1,6 @@
 -- The slices that were found for each pair, their count and their runs.
 use Rattle.std.specs.Prelude.{◌≡◌, ℕ, ◌-◌, ◌^◌, ◌≤◌, ◌<◌, List, length, map, flat_map, sum_by, All}
+use Rattle.plan_base.specs.Limits.{most_slices}
 use Rattle.plan_base.specs.declared.parts.Parts.{Parts}
 use Rattle.plan_base.specs.declared.span.Span.{Span}
 use Rattle.snapshot_starts.specs.declared.run.Run.{Run}
@@ -32,7 +33,7 @@ AreRunSpans found = All (λ x. All IsRunSpan x.slices) found
 -- as few slices as the pairs of a snapshot have at most
 pub record AreFew (found : List PairSlices) : Type 0 where
   pub spans : AreRunSpans found
-  pub slices : All (λ x. slice_count x.slices ≤ 1440) found
+  pub slices : All (λ x. slice_count x.slices ≤ most_slices) found
   pub pairs : length found ≤ 32768
 
 -- the run of the pair that has the slices of the span

@@ -1,5 +1,6 @@
 -- What a list of starts keeps.
 use Rattle.std.specs.Prelude.{◌≡◌, ℕ, ◌+◌, ◌^◌, ◌≤◌, ◌<◌, List, length, take, slice_index_or, All, AllPairs, sum_by}
+use Rattle.plan_base.specs.Limits.{most_starts}
 use Rattle.snapshot_starts.specs.declared.run.Run.{Run}
 use Rattle.snapshot_starts.specs.Runs.{IsRunBefore}
 
@@ -12,7 +13,7 @@ pub record CanKeep (runs : List Run) : Type 0 where
   pub some : All (λ run. 0 < run.count) runs
   pub slices : All (λ run. run.first.0 + run.count ≤ 2 ^ 32) runs
   pub order : AllPairs IsRunBefore runs
-  pub few : count_of runs ≤ 1048576
+  pub few : count_of runs ≤ most_starts
 
 -- the sums count the starts of the runs from the first up to each
 pub record AreSums (runs : List Run) (sums : List ℕ) : Type 0 where

@@ -1,6 +1,7 @@
 -- Possible starts in order, and the runs that they make.
 use Rattle.std.specs.Prelude.{◌≡◌, ℕ, suc, ◌+◌, ◌≤◌, ◌<◌, ◌⊎◌, List, map, flat_map, All, AllPairs, Contains}
 use Rattle.std.specs.List.{range_with_len}
+use Rattle.plan_base.specs.Limits.{most_starts}
 use Rattle.plan_base.specs.declared.parts.Parts.{Parts}
 use Rattle.plan_base.specs.declared.claim.Placement.{Placement}
 use Rattle.plan_base.specs.Starts.{IsListedBefore, IsAllStarts, IsStartCount}
@@ -50,5 +51,5 @@ pub record AreAllStarts (s : Parts) (starts : List Placement) : Type 0 where
 
 -- why no starts are listed: there are too many, and this is their count
 abbrev pub IsCauseOf : Parts → StartFault → Type 0
-IsCauseOf s (TooManyStarts count) = (1048576 < count) × IsStartCount s count
+IsCauseOf s (TooManyStarts count) = (most_starts < count) × IsStartCount s count
 IsCauseOf s NoMemory = Unit {0}

@@ -2,6 +2,7 @@
 
 ghost use Rattle.std.specs.Prelude.{◌≤◌, length, IfOk, IfErr};
 ghost use Rattle.std.specs.List.{AllZip};
+ghost use Rattle.plan_base.specs.Limits.{most_starts};
 ghost use Rattle.snapshot_starts.specs.Runs.{AreAllStarts, IsCauseOf};
 ghost use Rattle.snapshot_starts.specs.Found.{IsFoundFor, AreFound};
 
@@ -23,7 +24,7 @@ pub fn starts<R: Threads + Sync>(
     snapshot: &Snapshot,
 ) -> Result<Starts, StartFault>
     ensures ok { IfOk result (λ starts. AreAllStarts snapshot.now starts) }
-    ensures few { IfOk result (λ starts. length starts ≤ 1048576) }
+    ensures few { IfOk result (λ starts. length starts ≤ most_starts) }
     ensures err { IfErr result (λ fault. IsCauseOf snapshot.now fault) }
 {
     snapshot.recall_valid();

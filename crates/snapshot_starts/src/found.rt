@@ -1,6 +1,7 @@
 // What the slices that were found give: their count, and their runs.
 
 ghost use Rattle.std.specs.Prelude.{◌≡◌, ◌++◌, ◌≤◌, length, map, sum_by, All, IfOk, OnOk};
+ghost use Rattle.plan_base.specs.Limits.{most_slices};
 ghost use Rattle.snapshot_starts.specs.Found.{AreFew, AreRunSpans, IsRunSpan, slice_count, run_of, runs_of};
 
 use crate::pair::{Pair, PairSlices};
@@ -21,7 +22,7 @@ pub(crate) fn count_starts(found: &[PairSlices]) -> u64
 }
 
 fn count_slices(slices: &[Span]) -> u64
-    requires few { slice_count slices.now ≤ 1440 }
+    requires few { slice_count slices.now ≤ most_slices }
     requires spans { All IsRunSpan slices.now }
     ensures { result ≡ slice_count slices.now }
 {

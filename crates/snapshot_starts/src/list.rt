@@ -2,6 +2,7 @@
 
 ghost use Rattle.std.specs.Prelude.{◌≡◌, ◌≤◌, ◌<◌, ◌∷◌, length, slice_index_or, HoldsAt, IfOk};
 ghost use Rattle.std.specs.List.Sorted.{IsNonDecreasingBy};
+ghost use Rattle.plan_base.specs.Limits.{most_starts};
 ghost use Rattle.snapshot_starts.specs.Runs.{AreRuns, starts_of};
 ghost use Rattle.snapshot_starts.specs.Kept.{CanKeep, AreSums, IsCountUpTo, count_of};
 
@@ -44,7 +45,7 @@ impl Starts {
     /// How many starts there are.
     pub fn count(&self) -> usize
         ensures count { result ≡ length self.now }
-        ensures most { result ≤ 1048576 }
+        ensures most { result ≤ most_starts }
     {
         let sums = self.sums.as_slice();
         sum_before(sums, sums.len())
@@ -75,7 +76,7 @@ impl Starts {
 }
 
 fn sums_of(alloc: Global, runs: &[Run]) -> Result<Vec<u32>, AllocError>
-    requires { count_of runs.now ≤ 1048576 }
+    requires { count_of runs.now ≤ most_starts }
     ensures { IfOk result (λ sums. AreSums runs.now sums.items) }
 {
     let mut sums = Vec::with_capacity(alloc, runs.len())?;

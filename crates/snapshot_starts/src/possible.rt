@@ -1,6 +1,7 @@
 // Whether a placement is a possible start.
 
 ghost use Rattle.std.specs.Prelude.{◌≡◌, ◌+◌, ◌*◌, ◌≤◌, ◌<◌, ◌↔◌, IsTrue, All};
+ghost use Rattle.plan_base.specs.Limits.{most_seconds};
 ghost use Rattle.plan_base.specs.Snapshot.{IsOrderly, IsSortedApart};
 ghost use Rattle.plan_base.specs.Starts.{IsPossibleStart};
 ghost use Rattle.snapshot_starts.specs.Pairs.{IsTimely, IsOpen, CanStart};
@@ -31,7 +32,7 @@ pub fn is_possible(snapshot: &Snapshot, placement: Placement) -> bool
 /// Whether the request may start on the telescope at the slice.
 fn can_start(parts: &Parts, request: &RequestPart, telescope: TelescopeNo, slice: SliceNo) -> bool
     requires orderly { IsOrderly parts.now }
-    requires seconds { request.now.seconds ≤ 86400 }
+    requires seconds { request.now.seconds ≤ most_seconds }
     ensures { IsTrue result ↔ CanStart parts.now request.now telescope slice.0 }
 {
     if !is_able(request, telescope) {
@@ -52,7 +53,7 @@ fn can_start(parts: &Parts, request: &RequestPart, telescope: TelescopeNo, slice
 /// Whether an observation of the request that begins with the slice lies within the horizon and inside one window.
 fn is_timely(parts: &Parts, request: &RequestPart, slice: SliceNo) -> bool
     requires orderly { IsOrderly parts.now }
-    requires seconds { request.now.seconds ≤ 86400 }
+    requires seconds { request.now.seconds ≤ most_seconds }
     ensures { IsTrue result ↔ IsTimely parts.now request.now slice.0 }
 {
     let size = slices_for(u64::from(parts.len), u64::from(request.seconds));

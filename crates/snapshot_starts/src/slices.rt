@@ -1,6 +1,7 @@
 // Sets of slices, kept as sets of seconds are: the numbers of their spans are slices.
 
 ghost use Rattle.std.specs.Prelude.{◌≡◌, ℕ, ◌+◌, ◌*◌, ◌≤◌, ◌<◌, ◌↔◌, IsTrue, IfOk, All};
+ghost use Rattle.plan_base.specs.Limits.{most_seconds};
 ghost use Rattle.plan_base.specs.Snapshot.{IsOrderly, IsSortedApart};
 ghost use Rattle.plan_base.specs.BySpans.{HasAll, IsVisibleThrough};
 ghost use Rattle.interval_set.specs.Spans.{has};
@@ -59,7 +60,7 @@ fn slices_in_any(alloc: Global, len: u32, seconds: u32, spans: &[Span]) -> Resul
 /// The slices at which an observation of the request begins that lies within the horizon and inside one window.
 fn timely_slices(alloc: Global, parts: &Parts, request: &RequestPart) -> Result<Spans, AllocError>
     requires orderly { IsOrderly parts.now }
-    requires seconds { request.now.seconds ≤ 86400 }
+    requires seconds { request.now.seconds ≤ most_seconds }
     ensures { IfOk result (AreSlices (IsTimely parts.now request.now)) }
 {
     let horizon = horizon_for(parts, request.seconds);
@@ -72,7 +73,7 @@ fn timely_slices(alloc: Global, parts: &Parts, request: &RequestPart) -> Result<
 /// The slices at which an observation begins that lies within the horizon.
 fn horizon_for(parts: &Parts, seconds: u32) -> Span
     requires orderly { IsOrderly parts.now }
-    requires seconds { seconds ≤ 86400 }
+    requires seconds { seconds ≤ most_seconds }
     ensures { IsHorizonFor parts.now seconds result }
 {
     let size = slices_for(u64::from(parts.len), u64::from(seconds));
@@ -133,7 +134,7 @@ pub(crate) fn start_slices(
     telescope: TelescopeNo,
 ) -> Result<Spans, AllocError>
     requires orderly { IsOrderly parts.now }
-    requires seconds { request.now.seconds ≤ 86400 }
+    requires seconds { request.now.seconds ≤ most_seconds }
     ensures { IfOk result (AreSlices (CanStart parts.now request.now telescope)) }
 {
     if !is_able(request, telescope) {
@@ -153,7 +154,7 @@ fn open_slices(
     part: &TelescopePart,
 ) -> Result<Spans, AllocError>
     requires orderly { IsOrderly parts.now }
-    requires seconds { request.now.seconds ≤ 86400 }
+    requires seconds { request.now.seconds ≤ most_seconds }
     ensures { IfOk result (AreSlices (λ k. IsTimely parts.now request.now k × IsOpen parts.now part.now request.now.targets (k * parts.now.len) (k * parts.now.len + request.now.seconds))) }
 {
     let timely = timely_slices(alloc, parts, request)?;
