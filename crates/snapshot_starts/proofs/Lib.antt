@@ -5,6 +5,7 @@ pub mod Sets
 pub mod Narrowing
 pub mod InRuns
 pub mod RunOrder
+pub mod RunParts
 pub mod RunSums
 pub mod FoundPairs
 pub mod FoundRuns

@@ -1,5 +1,5 @@
 -- What a list of starts keeps.
-use Rattle.std.specs.Prelude.{◌≡◌, ℕ, ◌+◌, ◌^◌, ◌≤◌, ◌<◌, List, length, take, slice_index_or, All, AllPairs, sum_by}
+use Rattle.std.specs.Prelude.{◌≡◌, ℕ, ◌+◌, ◌^◌, ◌≤◌, ◌<◌, Bool, true, false, List, length, take, slice_index_or, All, AllPairs, sum_by}
 use Rattle.plan_base.specs.Limits.{most_starts}
 use Rattle.snapshot_starts.specs.declared.run.Run.{Run}
 use Rattle.snapshot_starts.specs.Runs.{IsRunBefore}
@@ -30,3 +30,8 @@ pub record IsCountUpTo (sums : List ℕ) (most n : ℕ) : Type 0 where
   pub within : n ≤ length sums
   pub up_to : (k : ℕ) → k < n → slice_index_or sums k 0 ≤ most
   pub above : (k : ℕ) → n ≤ k → k < length sums → most < slice_index_or sums k 0
+
+-- the test holds of the elements before place n, and of no other
+pub record HoldsBelow {X : Type 0} (test : X → Bool) (xs : List X) (n : ℕ) : Type 0 where
+  pub below : (k : ℕ) (d : X) → k < n → k < length xs → test (slice_index_or xs k d) ≡ true
+  pub others : (k : ℕ) (d : X) → n ≤ k → k < length xs → test (slice_index_or xs k d) ≡ false

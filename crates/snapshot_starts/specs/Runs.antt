@@ -1,5 +1,5 @@
 -- Possible starts in order, and the runs that they make.
-use Rattle.std.specs.Prelude.{◌≡◌, ℕ, suc, ◌+◌, ◌≤◌, ◌<◌, ◌⊎◌, List, map, flat_map, All, AllPairs, Contains}
+use Rattle.std.specs.Prelude.{◌≡◌, ℕ, suc, ◌+◌, ◌≤◌, ◌<◌, ◌⊎◌, ◌==◌, List, map, flat_map, filter, All, AllPairs, Contains}
 use Rattle.std.specs.List.{range_with_len}
 use Rattle.plan_base.specs.Limits.{most_starts}
 use Rattle.plan_base.specs.declared.parts.Parts.{Parts}
@@ -43,6 +43,10 @@ pub record AreRuns (starts : List Placement) (runs : List Run) : Type 0 where
   pub whole : starts_of runs ≡ starts
   pub greatest : All (IsGreatestRow starts) runs
   pub order : AllPairs IsRunBefore runs
+
+-- the starts of request r
+abbrev pub starts_with : List Placement → ℕ → List Placement
+starts_with starts r = filter (λ p. p.request.0 == r) starts
 
 -- all possible starts, each once, by request, telescope and slice
 pub record AreAllStarts (s : Parts) (starts : List Placement) : Type 0 where

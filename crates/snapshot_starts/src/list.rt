@@ -1,13 +1,13 @@
 // Possible starts as a list that is kept as runs.
 
-ghost use Rattle.std.specs.Prelude.{◌≡◌, ◌≤◌, ◌<◌, ◌∷◌, length, slice_index_or, HoldsAt, IfOk};
+ghost use Rattle.std.specs.Prelude.{◌≡◌, ◌≤◌, ◌<◌, ◌∷◌, nat_lt, nat_le, length, slice_index_or, slice_range, AllPairs, HoldsAt, IfOk};
 ghost use Rattle.std.specs.List.Sorted.{IsNonDecreasingBy};
 ghost use Rattle.plan_base.specs.Limits.{most_starts};
-ghost use Rattle.snapshot_starts.specs.Runs.{AreRuns, starts_of};
-ghost use Rattle.snapshot_starts.specs.Kept.{CanKeep, AreSums, IsCountUpTo, count_of};
+ghost use Rattle.snapshot_starts.specs.Runs.{AreRuns, IsRunBefore, starts_of, starts_with};
+ghost use Rattle.snapshot_starts.specs.Kept.{CanKeep, AreSums, IsCountUpTo, HoldsBelow, count_of};
 
 use crate::run::Run;
-use plan_base::{Placement, SliceNo};
+use plan_base::{Placement, RequestNo, SliceNo};
 use std::alloc::{AllocError, Global};
 use std::marker::Model;
 
@@ -73,6 +73,43 @@ impl Starts {
     {
         self.runs.as_slice()
     }
+
+    /// The runs of one request, by telescope and slice. It looks by halves for the first and the last.
+    pub fn runs_of(&self, request: RequestNo) -> &[Run]
+        ensures { AreRuns (starts_with self.now request.0) result.now }
+    {
+        let runs = self.runs.as_slice();
+        let from = count_before(runs, request);
+        let to = count_through(runs, request);
+        part_of(runs, from, to)
+    }
+}
+
+/// The runs from one place up to the one before another.
+fn part_of(runs: &[Run], from: usize, to: usize) -> &[Run]
+    requires order { from ≤ to }
+    requires within { to ≤ length runs.now }
+    ensures { result.now ≡ slice_range runs.now from to }
+{
+    &runs[from..to]
+}
+
+/// How many runs are of requests below one.
+fn count_before(runs: &[Run], request: RequestNo) -> usize
+    requires { AllPairs IsRunBefore runs.now }
+    ensures within { result ≤ length runs.now }
+    ensures counted { HoldsBelow (λ run. nat_lt run.request.0 request.0) runs.now result }
+{
+    runs.partition_point(|run| run.request.0 < request.0)
+}
+
+/// How many runs are of requests up to one.
+fn count_through(runs: &[Run], request: RequestNo) -> usize
+    requires { AllPairs IsRunBefore runs.now }
+    ensures within { result ≤ length runs.now }
+    ensures counted { HoldsBelow (λ run. nat_le run.request.0 request.0) runs.now result }
+{
+    runs.partition_point(|run| run.request.0 <= request.0)
 }
 
 fn sums_of(alloc: Global, runs: &[Run]) -> Result<Vec<u32>, AllocError>
