@@ -2,3 +2,10 @@ pub mod Calendar
 pub mod Order
 pub mod Values
 pub mod Written
+pub mod Fronts
+pub mod Escapes
+pub mod Items
+pub mod Literals
+pub mod Objects
+pub mod TextsBack
+pub mod OneLine

@@ -1,5 +1,5 @@
 -- Which bytes are objects, and what their members are.
-use Rattle.std.specs.Prelude.{ℕ, List, if◌then◌else◌, Option, Some, None, option_and_then, ok_or, Result, Err}
+use Rattle.std.specs.Prelude.{ℕ, List, if◌then◌else◌, is_some, Option, Some, None, option_and_then, ok_or, Result, Ok, Err}
 use Rattle.std.specs.Str.{is_utf8}
 use Rattle.serde_json.specs.Data.{Data, null, boolean, number, string, array, object, Members}
 use Rattle.serde_json.specs.Find.{as_object, get_member}
@@ -8,7 +8,7 @@ use Rattle.plan_json.specs.declared.member.Member.{Member}
 use Rattle.plan_json.specs.declared.fault.JsonFault.{JsonFault}
 use Rattle.plan_json.specs.declared.fault.JsonFault.TheVariants.{NotJson, NotObject, Missing, WrongKind}
 use Rattle.plan_json.specs.Member.{name_of}
-use Rattle.plan_json.specs.Reading.{result_and_then}
+use Rattle.plan_json.specs.Reading.{result_map, result_and_then}
 
 -- what the bytes are read as, if they are the UTF-8 of a JSON text
 abbrev pub data_of : List ℕ → Result Data JsonFault
@@ -34,6 +34,14 @@ value_of ms m = option_and_then unless_null (get_member (name_of m) ms)
 -- what the member is read as, or that it is missing
 abbrev pub member_of : {T : Type 0} → (Member → Data → Result T JsonFault) → Members → Member → Result T JsonFault
 member_of reading ms m = result_and_then (reading m) (ok_or (value_of ms m) (Missing m))
+
+-- what the member is read as, if it is there and isn't null
+abbrev pub if_there : {T : Type 0} → (Member → Data → Result T JsonFault) → Members → Member → Result (Option T) JsonFault
+if_there reading ms m = if is_some (value_of ms m) then result_map Some (member_of reading ms m) else Ok None
+
+-- what the member is read as, or else the default
+abbrev pub or_default : {T : Type 0} → T → (Member → Data → Result T JsonFault) → Members → Member → Result T JsonFault
+or_default x reading ms m = if is_some (value_of ms m) then member_of reading ms m else Ok x
 
 -- the members of the object that a value is
 abbrev pub object_in : Member → Data → Result Members JsonFault

@@ -1,9 +1,10 @@
 -- Which JSON values are whole numbers of a range.
-use Rattle.std.specs.Prelude.{ℤ, pos, int_le, ◌&&◌, if◌then◌else◌, Result, Ok, Err}
+use Rattle.std.specs.Prelude.{ℕ, ℤ, pos, unsigned_abs, int_le, ◌&&◌, if◌then◌else◌, Result, Ok, Err}
 use Rattle.serde_json.specs.Data.{Num, unsigned, negative, float, Data, null, boolean, number, string, array, object}
 use Rattle.plan_json.specs.declared.member.Member.{Member}
 use Rattle.plan_json.specs.declared.fault.JsonFault.{JsonFault}
 use Rattle.plan_json.specs.declared.fault.JsonFault.TheVariants.{WrongKind, NotWhole, OutOfRange}
+use Rattle.plan_json.specs.Reading.{result_map}
 
 -- the number, if it lies from `least` to `most`
 abbrev pub within : Member → ℤ → ℤ → ℤ → Result ℤ JsonFault
@@ -23,3 +24,7 @@ whole_in m least most (number n) = whole_number m least most n
 whole_in m least most (string s) = Err (WrongKind m)
 whole_in m least most (array ds) = Err (WrongKind m)
 whole_in m least most (object ms) = Err (WrongKind m)
+
+-- the number without a sign from `least` to `most` that a value is
+abbrev pub number_in : ℕ → ℕ → Member → Data → Result ℕ JsonFault
+number_in least most m d = result_map unsigned_abs (whole_in m (pos least) (pos most) d)

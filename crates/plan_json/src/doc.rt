@@ -1,17 +1,17 @@
 // Documents: JSON objects, whose members are read one at a time.
 
-ghost use Rattle.std.specs.Prelude.{◌≡◌, ◌≢◌, ◌<◌, length, is_some, option_map, ok_or, IfOk, IfErr, Ok, Err};
+ghost use Rattle.std.specs.Prelude.{◌≡◌, ◌≢◌, ◌<◌, ◌≤◌, length, is_some, option_map, ok_or, IfOk, IfErr, Ok, Err};
 ghost use Rattle.serde_json.specs.Find.{get_member};
 ghost use Rattle.serde_json.specs.View.{view, members_view};
 ghost use Rattle.plan_json.specs.declared.fault.JsonFault.TheVariants.{NoMemory, Missing};
 ghost use Rattle.plan_json.specs.Member.{name_of};
 ghost use Rattle.plan_json.specs.Reading.{result_map};
-ghost use Rattle.plan_json.specs.Whole.{whole_in};
+ghost use Rattle.plan_json.specs.Whole.{whole_in, number_in};
 ghost use Rattle.plan_json.specs.Text.{text_in};
 ghost use Rattle.plan_json.specs.Moment.{moment_in};
 ghost use Rattle.plan_json.specs.List.{list_in};
 ghost use Rattle.plan_json.specs.Span.{span_in, spans_in};
-ghost use Rattle.plan_json.specs.Object.{data_of, document_of, value_of, member_of, object_in};
+ghost use Rattle.plan_json.specs.Object.{data_of, document_of, value_of, member_of, if_there, or_default, object_in};
 ghost use Rattle.plan_json.specs.Shown.{members_of, elements_of, named_by};
 
 use crate::fault::JsonFault;
@@ -126,6 +126,34 @@ impl<'a> Doc<'a> {
         value::whole_in(self.required(member)?, member, least, most)
     }
 
+    /// The number from `least` to `most`, with the faults of [`Doc::whole`].
+    pub fn number(&self, member: Member, least: u32, most: u32) -> Result<u32, JsonFault>
+        ensures value { result ≡ member_of (number_in least most) (members_of self.now) member }
+        ensures small { IfOk result (λ number. number ≤ most) }
+    {
+        value::number_in(self.required(member)?, member, least, most)
+    }
+
+    /// The number from `least` to `most`, or the default where the member isn't there. Fails as [`Doc::whole`], but not
+    /// with [`JsonFault::Missing`].
+    pub fn number_or(
+        &self,
+        member: Member,
+        least: u32,
+        most: u32,
+        default: u32,
+    ) -> Result<u32, JsonFault>
+        requires { default ≤ most }
+        ensures value { result
+            ≡ or_default default (number_in least most) (members_of self.now) member }
+        ensures small { IfOk result (λ number. number ≤ most) }
+    {
+        match self.value(member) {
+            Some(value) => value::number_in(value, member, least, most),
+            None => Ok(default),
+        }
+    }
+
     /// The text of 1 to 128 bytes. Fails with [`JsonFault::Missing`]; [`JsonFault::WrongKind`], no text;
     /// [`JsonFault::OutOfRange`], an empty or a longer one; and for want of memory.
     pub fn text(&self, alloc: Global, member: Member) -> Result<Name, JsonFault>
@@ -134,6 +162,20 @@ impl<'a> Doc<'a> {
             (λ e. e ≢ NoMemory → member_of text_in (members_of self.now) member ≡ Err e) }
     {
         value::text_in(alloc, self.required(member)?, member)
+    }
+
+    /// The text of 1 to 128 bytes, where the member is there. Fails as [`Doc::text`], but not with
+    /// [`JsonFault::Missing`].
+    pub fn optional_text(&self, alloc: Global, member: Member) -> Result<Option<Name>, JsonFault>
+        ensures value { IfOk result
+            (λ name. if_there text_in (members_of self.now) member ≡ Ok name) }
+        ensures fault { IfErr result
+            (λ e. e ≢ NoMemory → if_there text_in (members_of self.now) member ≡ Err e) }
+    {
+        match self.value(member) {
+            Some(value) => Ok(Some(value::text_in(alloc, value, member)?)),
+            None => Ok(None),
+        }
     }
 
     /// The moment: a whole number of seconds since 1970-01-01T00:00:00Z, up to 253,402,300,799, or a text of

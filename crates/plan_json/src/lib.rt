@@ -3,17 +3,23 @@
 
 mod doc;
 mod fault;
+mod laws;
 mod list;
 mod member;
 mod moment;
 #[cfg(test)]
 mod tests;
 mod value;
+mod write;
 mod writer;
 
 pub use doc::{Doc, parse_object};
 pub use fault::JsonFault;
+pub use laws::{lines_are_distinct, texts_are_distinct, texts_are_read_back};
 pub use list::DocList;
 pub use member::Member;
 pub use moment::moments_are_read;
+pub use write::{
+    Each, End, Form, Json, Members, Named, Object, Perhaps, Word, json_text, write_json,
+};
 pub use writer::Writer;

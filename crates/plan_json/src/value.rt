@@ -5,7 +5,7 @@ ghost use Rattle.serde_json.specs.View.{view, members_view};
 ghost use Rattle.serde_json.specs.Data.{Data};
 ghost use Rattle.plan_json.specs.declared.fault.JsonFault.TheVariants.{NoMemory};
 ghost use Rattle.plan_json.specs.Reading.{result_map, read_each};
-ghost use Rattle.plan_json.specs.Whole.{whole_in};
+ghost use Rattle.plan_json.specs.Whole.{whole_in, number_in};
 ghost use Rattle.plan_json.specs.Text.{text_in};
 ghost use Rattle.plan_json.specs.Moment.{moment_in};
 ghost use Rattle.plan_json.specs.List.{elements_in, list_in};
@@ -42,6 +42,20 @@ pub(crate) fn whole_in(
     } else {
         Err(JsonFault::OutOfRange { member })
     }
+}
+
+/// The number without a sign from `least` to `most`.
+pub(crate) fn number_in(
+    value: &Value,
+    member: Member,
+    least: u32,
+    most: u32,
+) -> Result<u32, JsonFault>
+    ensures value { result ≡ number_in least most member (view value.now) }
+    ensures small { IfOk result (λ number. number ≤ most) }
+{
+    let whole = whole_in(value, member, i64::from(least), i64::from(most))?;
+    Ok(whole as u32)
 }
 
 /// The text of 1 to 128 bytes.

@@ -1,0 +1,5 @@
+use Rattle.plan_json.proofs.TextsBack.{texts_are_distinct}
+use Rattle.plan_json.proofs.laws.texts_are_distinct.Goals as goal
+
+pub returns : goal.returns
+returns c = texts_are_distinct
