@@ -9,3 +9,5 @@ pub mod Literals
 pub mod Objects
 pub mod TextsBack
 pub mod OneLine
+pub mod Ranges
+pub mod Back

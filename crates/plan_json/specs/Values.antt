@@ -5,6 +5,8 @@ use Rattle.std.specs.Cmp.Lexicographic.{slice_cmp}
 use Rattle.serde_json.specs.Data.{Data, number, unsigned, array, object, Members, no_members, member}
 use Rattle.serde_json.specs.Find.{of_integer}
 use Rattle.serde_json.specs.View.{items_of}
+use Rattle.plan_json.specs.declared.member.Member.{Member}
+use Rattle.plan_json.specs.Member.{name_of}
 
 -- a whole number that isn't below 0
 abbrev pub whole : ℕ → Data
@@ -29,6 +31,13 @@ has name d = (name, Some d)
 -- a member that is there where it has a value
 abbrev pub may_have : List ℕ → Option Data → Named
 may_have name d = (name, d)
+
+-- the same of a member that documents are read by
+abbrev pub given : Member → Data → Named
+given m d = has (name_of m) d
+
+abbrev pub given_if : Member → Option Data → Named
+given_if m d = may_have (name_of m) d
 
 -- members in byte order of their names, with another; it takes the place of one with its name
 abbrev pub with_named : Named → List Named → List Named

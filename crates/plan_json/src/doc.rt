@@ -9,6 +9,7 @@ ghost use Rattle.plan_json.specs.Reading.{result_map};
 ghost use Rattle.plan_json.specs.Whole.{whole_in, number_in};
 ghost use Rattle.plan_json.specs.Text.{text_in};
 ghost use Rattle.plan_json.specs.Moment.{moment_in};
+ghost use Rattle.plan_json.specs.Operator.{operator_in};
 ghost use Rattle.plan_json.specs.List.{list_in};
 ghost use Rattle.plan_json.specs.Span.{span_in, spans_in};
 ghost use Rattle.plan_json.specs.Object.{data_of, document_of, value_of, member_of, if_there, or_default, object_in};
@@ -17,8 +18,8 @@ ghost use Rattle.plan_json.specs.Shown.{members_of, elements_of, named_by};
 use crate::fault::JsonFault;
 use crate::list::DocList;
 use crate::member::Member;
-use crate::value;
-use plan_base::{Name, Sec, Span};
+use crate::{operator, value};
+use plan_base::{Name, Op, Sec, Span};
 use serde_json::{Map, Value};
 use std::alloc::Global;
 
@@ -176,6 +177,14 @@ impl<'a> Doc<'a> {
             Some(value) => Ok(Some(value::text_in(alloc, value, member)?)),
             None => Ok(None),
         }
+    }
+
+    /// How the requests of a group belong together: `SINGLE`, `MANY`, `ONEOF` or `AND`. Fails with
+    /// [`JsonFault::Missing`]; [`JsonFault::WrongKind`], no text; [`JsonFault::OutOfRange`], another text.
+    pub fn operator(&self, member: Member) -> Result<Op, JsonFault>
+        ensures { result ≡ member_of operator_in (members_of self.now) member }
+    {
+        operator::operator_in(self.required(member)?, member)
     }
 
     /// The moment: a whole number of seconds since 1970-01-01T00:00:00Z, up to 253,402,300,799, or a text of

@@ -7,6 +7,7 @@ mod laws;
 mod list;
 mod member;
 mod moment;
+mod operator;
 #[cfg(test)]
 mod tests;
 mod value;

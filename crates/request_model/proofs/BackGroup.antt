@@ -4,27 +4,29 @@ use Rattle.std.proofs.lemmas.Bool.{leb-true, eqb-true, and_parts}
 use Rattle.serde_json.specs.Data.{string}
 use Rattle.plan_base.specs.declared.parts.Op.{Op}
 use Rattle.plan_base.specs.declared.parts.Op.TheVariants.{Single, Many, OneOf, And}
+use Rattle.plan_json.specs.declared.member.Member.{Member}
 use Rattle.plan_json.specs.declared.member.Member.TheVariants as key
 use Rattle.plan_json.specs.declared.fault.JsonFault.TheVariants.{OutOfRange}
 use Rattle.plan_json.specs.Object.{data_of}
+use Rattle.plan_json.specs.Operator.{operator_name, operator_in}
 use Rattle.plan_json.specs.Text.{text_in}
+use Rattle.plan_json.proofs.Back.{number_back, text_back, as_long, list_back, each_back_from}
+use Rattle.plan_json.specs.Reading.{◌>>=◌}
 use Rattle.request_model.specs.declared.group.GroupDoc.{GroupDoc}
 use Rattle.request_model.specs.declared.group.ObsKind.{ObsKind}
 use Rattle.request_model.specs.declared.group.ObsKind.TheVariants.{Normal, TimeCritical, RapidResponse}
-use Rattle.request_model.specs.Reading.{◌>>=◌}
-use Rattle.request_model.specs.Group.{operator_named, kind_named, is_shape}
+use Rattle.request_model.specs.Group.{kind_named, is_shape}
 use Rattle.request_model.specs.Request.{request_in}
-use Rattle.request_model.specs.Written.{operator_name, kind_name, request_data, group_data, group_of_bytes}
+use Rattle.request_model.specs.Written.{kind_name, request_data, group_data, group_of_bytes}
 use Rattle.request_model.specs.Ranges.{IsRequest, IsGroup}
 use Rattle.request_model.specs.Laws.{GroupsAreReadBack}
-use Rattle.request_model.proofs.Back.{number_back, text_back, as_long, list_back, each_back_from}
 use Rattle.request_model.proofs.BackRequest.{request_back}
 
-operator_back : (op : Op) → (text_in key.Operator (string (operator_name op)) >>= λ s. ok_or (operator_named s) (OutOfRange key.Operator)) ≡ Ok op
-operator_back Single = refl
-operator_back Many = refl
-operator_back OneOf = refl
-operator_back And = refl
+operator_back : (m : Member) (op : Op) → operator_in m (string (operator_name op)) ≡ Ok op
+operator_back m Single = refl
+operator_back m Many = refl
+operator_back m OneOf = refl
+operator_back m And = refl
 
 kind_back : (kind : ObsKind) → (text_in key.ObservationType (string (kind_name kind)) >>= λ s. ok_or (kind_named s) (OutOfRange key.ObservationType)) ≡ Ok kind
 kind_back Normal = refl
@@ -43,7 +45,7 @@ groups_are_read_back g h =
     rw (
       text_back key.Name g.name h.title,
       text_back key.Proposal g.proposal h.payer,
-      operator_back g.op,
+      operator_back key.Operator g.op,
       kind_back g.kind,
       number_back 500 2000 key.IppThousandths g.ipp h.share,
       number_back 1 100 key.Priority g.priority h.rank,

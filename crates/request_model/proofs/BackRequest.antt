@@ -7,9 +7,14 @@ use Rattle.serde_json.specs.View.{items_of}
 use Rattle.plan_base.specs.declared.span.Span.{Span}
 use Rattle.plan_json.specs.declared.member.Member.{Member}
 use Rattle.plan_json.specs.declared.member.Member.TheVariants as key
-use Rattle.plan_json.specs.Reading.{read_each}
-use Rattle.plan_json.specs.Object.{value_of, object_in}
+use Rattle.plan_json.specs.Reading.{read_each, ◌>>=◌}
+use Rattle.plan_json.specs.Object.{value_of, object_in, if_there, or_default}
 use Rattle.plan_json.specs.Text.{text_in}
+use Rattle.plan_json.specs.Whole.{number_in}
+use Rattle.plan_json.specs.Values.{whole, list_of, Named, given, given_if, in_byte_order, those_there}
+use Rattle.plan_json.specs.Ranges.{IsText}
+use Rattle.plan_json.proofs.Back.{number_back, text_back, moment_back, each_back, each_back_from, list_back}
+use Rattle.request_model.specs.declared.request.Exposure.{Exposure}
 use Rattle.request_model.specs.declared.request.ConfigDoc.{ConfigDoc}
 use Rattle.request_model.specs.declared.request.Location.{Location}
 use Rattle.request_model.specs.declared.request.Cadence.{Cadence}
@@ -17,14 +22,15 @@ use Rattle.request_model.specs.declared.request.When.{When}
 use Rattle.request_model.specs.declared.request.When.TheVariants as when
 use Rattle.request_model.specs.declared.request.RequestDoc.{RequestDoc}
 use Rattle.request_model.specs.declared.read.configuration.Typed.{Typed}
-use Rattle.request_model.specs.Reading.{◌>>=◌, number_in, if_there, or_default}
 use Rattle.request_model.specs.Configuration.{exposure_in, typed_in, are_of_type, of_one_type}
 use Rattle.request_model.specs.Location.{location_of}
 use Rattle.request_model.specs.When.{cadence_of, window_in, when_of}
 use Rattle.request_model.specs.Request.{request_in}
-use Rattle.request_model.specs.Written.{whole, list_data, and_member, and_text, and_times, exposure_data, configuration_data, location_data, cadence_data, window_data, request_data}
-use Rattle.request_model.specs.Ranges.{IsText, IsExposure, IsConfiguration, IsLocation, IsCadence, IsWindow, IsWhen, IsRequest}
-use Rattle.request_model.proofs.Back.{number_back, text_back, moment_back, each_back, each_back_from, list_back, exposure_back}
+use Rattle.request_model.specs.Written.{cadence_given, windows_given, fade_above_0, exposure_data, configuration_data, location_data, cadence_data, window_data, request_at, request_data}
+use Rattle.request_model.specs.Ranges.{IsExposure, IsConfiguration, IsLocation, IsCadence, IsWindow, IsWhen, IsRequest}
+
+exposure_back : (e : Exposure) → IsExposure e → exposure_in (exposure_data e) ≡ Ok e
+exposure_back e h = rw (number_back 1 86400000 key.ExposureTimeMs e.ms h.time, number_back 1 10000 key.ExposureCount e.count h.number) refl
 
 -- a configuration with its instrument type
 abbrev typed : List ℕ → ConfigDoc → Typed
@@ -62,8 +68,15 @@ one_type_back index type [] h = absurd (omega arith)
 one_type_back index type (c ∷ cs) h = rw (all_of_type type (c ∷ cs), without_types type cs) refl
 
 -- what the location's members are
-place_found : (class : List ℕ) (site enclosure telescope : Option (List ℕ)) → let ms = and_text key.Telescope telescope (and_text key.Enclosure enclosure (and_text key.Site site (and_member key.TelescopeClass (string class) no_members))) in
-    (value_of ms key.TelescopeClass ≡ Some (string class)) × (value_of ms key.Site ≡ option_map string site) × (value_of ms key.Enclosure ≡ option_map string enclosure) × (value_of ms key.Telescope ≡ option_map string telescope)
+abbrev place_members : List ℕ → Option (List ℕ) → Option (List ℕ) → Option (List ℕ) → Members
+place_members class site enclosure telescope =
+    those_there (in_byte_order
+    (given key.TelescopeClass (string class) ∷ given_if key.Site (option_map string site) ∷ given_if key.Enclosure (option_map string enclosure)
+    ∷ given_if key.Telescope (option_map string telescope) ∷ []))
+
+place_found : (class : List ℕ) (site enclosure telescope : Option (List ℕ)) → let ms = place_members class site enclosure telescope in
+    (value_of ms key.TelescopeClass ≡ Some (string class)) × (value_of ms key.Site ≡ option_map string site)
+    × (value_of ms key.Enclosure ≡ option_map string enclosure) × (value_of ms key.Telescope ≡ option_map string telescope)
 place_found class None None None = (refl, refl, refl, refl)
 place_found class None None (Some t) = (refl, refl, refl, refl)
 place_found class None (Some e) None = (refl, refl, refl, refl)
@@ -79,7 +92,7 @@ text_if_back ms m (Some s) found h = rw (found, text_back m s h) refl
 
 location_back : (l : Location) → IsLocation l → (object_in key.Location (location_data l) >>= location_of) ≡ Ok l
 location_back l h =
-    let ms = and_text key.Telescope l.telescope (and_text key.Enclosure l.enclosure (and_text key.Site l.site (and_member key.TelescopeClass (string l.class) no_members))) in
+    let ms = place_members l.class l.site l.enclosure l.telescope in
     let found = place_found l.class l.site l.enclosure l.telescope in
     rw (
       found.0,
@@ -106,16 +119,7 @@ window_back index place w h =
       lt-ltb w.from.0 w.to.0 h.order,
     ) refl
 
--- what is found where a cadence and where windows may stand
-abbrev cadence_found : When → Option Data
-cadence_found (when.Cadence c) = Some (cadence_data c)
-cadence_found (when.Windows ws) = None
-
-abbrev windows_found : When → Option Data
-windows_found (when.Cadence c) = None
-windows_found (when.Windows ws) = Some (list_data window_data ws)
-
-when_back : (index : ℕ) (ms : Members) (w : When) → value_of ms key.Cadence ≡ cadence_found w → value_of ms key.Windows ≡ windows_found w → IsWhen w → when_of index ms ≡ Ok w
+when_back : (index : ℕ) (ms : Members) (w : When) → value_of ms key.Cadence ≡ cadence_given w → value_of ms key.Windows ≡ windows_given w → IsWhen w → when_of index ms ≡ Ok w
 when_back index ms (when.Cadence c) has_cadence has_windows h = rw (has_cadence, cadence_back c h) refl
 when_back index ms (when.Windows ws) has_cadence has_windows h =
     rw (
@@ -133,28 +137,35 @@ fade_back ms fade false above found h =
 
 -- a request's members, of which one stands where a cadence or windows may, and another where a fade is
 abbrev members : Members → Items → ℕ → ℕ → When → Bool → Members
-members place all least fade times b =
-    let ms = and_member key.AcceptabilityThreshold (whole least) (and_member key.Configurations (array all) (and_times times (and_member key.Location (object place) no_members))) in
-    cond b (and_member key.Fade (whole fade) ms) ms
+members place all least lost times b =
+    those_there (in_byte_order
+    (given key.Location (object place) ∷ given_if key.Cadence (cadence_given times) ∷ given_if key.Windows (windows_given times)
+    ∷ given key.Configurations (array all) ∷ given key.AcceptabilityThreshold (whole least)
+    ∷ given_if key.Fade (option_map whole (cond b (Some lost) None)) ∷ []))
 
 -- what is found of them
 record AreFound (place : Members) (all : Items) (least lost : ℕ) (times : When) (b : Bool) (ms : Members) : Type 0 where
   location : value_of ms key.Location ≡ Some (object place)
-  cadence : value_of ms key.Cadence ≡ cadence_found times
-  windows : value_of ms key.Windows ≡ windows_found times
+  cadence : value_of ms key.Cadence ≡ cadence_given times
+  windows : value_of ms key.Windows ≡ windows_given times
   configurations : value_of ms key.Configurations ≡ Some (array all)
   threshold : value_of ms key.AcceptabilityThreshold ≡ Some (whole least)
   fade : value_of ms key.Fade ≡ cond b (Some (whole lost)) None
 
 are_found : (place : Members) (all : Items) (least lost : ℕ) (times : When) (b : Bool) → AreFound place all least lost times b (members place all least lost times b)
-are_found place all least lost (when.Cadence c) true = record { location = refl; cadence = refl; windows = refl; configurations = refl; threshold = refl; fade = refl }
-are_found place all least lost (when.Cadence c) false = record { location = refl; cadence = refl; windows = refl; configurations = refl; threshold = refl; fade = refl }
-are_found place all least lost (when.Windows ws) true = record { location = refl; cadence = refl; windows = refl; configurations = refl; threshold = refl; fade = refl }
-are_found place all least lost (when.Windows ws) false = record { location = refl; cadence = refl; windows = refl; configurations = refl; threshold = refl; fade = refl }
+are_found place all least lost (when.Cadence c) true =
+    record { location = refl; cadence = refl; windows = refl; configurations = refl; threshold = refl; fade = refl }
+are_found place all least lost (when.Cadence c) false =
+    record { location = refl; cadence = refl; windows = refl; configurations = refl; threshold = refl; fade = refl }
+are_found place all least lost (when.Windows ws) true =
+    record { location = refl; cadence = refl; windows = refl; configurations = refl; threshold = refl; fade = refl }
+are_found place all least lost (when.Windows ws) false =
+    record { location = refl; cadence = refl; windows = refl; configurations = refl; threshold = refl; fade = refl }
 
 pub request_back : (index : ℕ) (r : RequestDoc) → IsRequest r → request_in index (request_data r) ≡ Ok r
+unfolding request_at
 request_back index r h =
-    let place = and_text key.Telescope r.location.telescope (and_text key.Enclosure r.location.enclosure (and_text key.Site r.location.site (and_member key.TelescopeClass (string r.location.class) no_members))) in
+    let place = place_members r.location.class r.location.site r.location.enclosure r.location.telescope in
     let all = items_of (map (configuration_data r.instrument) r.configurations) in
     let above = nat_lt 0 r.fade in
     let ms = members place all r.threshold r.fade r.when above in
@@ -164,9 +175,9 @@ request_back index r h =
       location_back r.location h.place,
       when_back index ms r.when found.cadence found.windows h.times,
       found.configurations,
-      list_back (configuration_data r.instrument) key.Configurations 1 16 r.configurations h.count,
-      typed_back r.instrument h.type r.configurations h.each,
-      one_type_back index r.instrument r.configurations h.count.low,
+      list_back (configuration_data r.instrument) key.Configurations 1 16 r.configurations h.taken.count,
+      typed_back r.instrument h.type r.configurations h.taken.each,
+      one_type_back index r.instrument r.configurations h.taken.count.low,
       found.threshold,
       number_back 0 100 key.AcceptabilityThreshold r.threshold (record { low = omega arith; high = h.least }),
       fade_back ms r.fade above refl found.fade h.lost,

@@ -5,16 +5,16 @@ use Rattle.serde_json.specs.Data.{Data, Members}
 use Rattle.plan_json.specs.declared.member.Member.TheVariants.{Name, InstrumentType, Target, InstrumentConfigs, ExposureTimeMs, ExposureCount, Configurations}
 use Rattle.plan_json.specs.declared.fault.JsonFault.{JsonFault}
 use Rattle.plan_json.specs.Object.{member_of, object_in}
-use Rattle.plan_json.specs.Reading.{read_each}
+use Rattle.plan_json.specs.Reading.{read_each, ◌>>=◌}
 use Rattle.plan_json.specs.Text.{text_in}
 use Rattle.plan_json.specs.List.{list_in}
+use Rattle.plan_json.specs.Whole.{number_in}
 use Rattle.request_model.specs.declared.fault.GroupFault.{GroupFault}
 use Rattle.request_model.specs.declared.fault.GroupFault.TheVariants.{MixedInstruments}
 use Rattle.request_model.specs.declared.request.Exposure.{Exposure}
 use Rattle.request_model.specs.declared.read.configuration.Typed.{Typed}
 use Rattle.request_model.specs.declared.read.configuration.OfOneType.{OfOneType}
 use Rattle.request_model.specs.Fault.{in_group}
-use Rattle.request_model.specs.Reading.{◌>>=◌, number_in}
 
 -- `exposure_time_ms`, `exposure_count`
 abbrev pub exposure_of : Members → Result Exposure JsonFault

@@ -7,9 +7,12 @@ use Rattle.plan_base.specs.declared.parts.Op.TheVariants.{Single, Many, OneOf, A
 use Rattle.plan_json.specs.declared.member.Member.TheVariants as member
 use Rattle.plan_json.specs.declared.fault.JsonFault.{JsonFault}
 use Rattle.plan_json.specs.declared.fault.JsonFault.TheVariants.{Missing, OutOfRange}
-use Rattle.plan_json.specs.Object.{value_of, member_of}
+use Rattle.plan_json.specs.Object.{value_of, member_of, or_default}
+use Rattle.plan_json.specs.Operator.{operator_in}
 use Rattle.plan_json.specs.Text.{text_in}
 use Rattle.plan_json.specs.List.{list_in}
+use Rattle.plan_json.specs.Reading.{◌>>=◌, read_from}
+use Rattle.plan_json.specs.Whole.{number_in}
 use Rattle.request_model.specs.declared.fault.GroupFault.{GroupFault}
 use Rattle.request_model.specs.declared.fault.GroupFault.TheVariants.{BadShape}
 use Rattle.request_model.specs.declared.group.ObsKind.{ObsKind}
@@ -17,20 +20,7 @@ use Rattle.request_model.specs.declared.group.ObsKind.TheVariants.{Normal, TimeC
 use Rattle.request_model.specs.declared.group.GroupDoc.{GroupDoc}
 use Rattle.request_model.specs.declared.request.RequestDoc.{RequestDoc}
 use Rattle.request_model.specs.Fault.{in_group}
-use Rattle.request_model.specs.Reading.{◌>>=◌, number_in, or_default, read_from}
 use Rattle.request_model.specs.Request.{request_in}
-
--- the operator with that name
-abbrev pub operator_named : List ℕ → Option Op
-operator_named s =
-    if bytes_eq s (codes "SINGLE") then Some Single
-    else (if bytes_eq s (codes "MANY") then Some Many
-    else (if bytes_eq s (codes "ONEOF") then Some OneOf
-    else (if bytes_eq s (codes "AND") then Some And
-    else None)))
-
-abbrev pub operator_of : Members → Result Op JsonFault
-operator_of ms = member_of text_in ms member.Operator >>= λ s. ok_or (operator_named s) (OutOfRange member.Operator)
 
 -- the observation type with that name
 abbrev pub kind_named : List ℕ → Option ObsKind
@@ -71,7 +61,7 @@ abbrev pub group_of : Members → Result GroupDoc GroupFault
 group_of ms =
     in_group (member_of text_in ms member.Name) >>= λ name.
     in_group (member_of text_in ms member.Proposal) >>= λ proposal.
-    in_group (operator_of ms) >>= λ op.
+    in_group (member_of operator_in ms member.Operator) >>= λ op.
     in_group (kind_of ms) >>= λ kind.
     in_group (ipp_of ms) >>= λ ipp.
     in_group (or_default 10 (number_in 1 100) ms member.Priority) >>= λ priority.

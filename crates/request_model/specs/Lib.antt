@@ -1,5 +1,4 @@
 pub mod Fault
-pub mod Reading
 pub mod Configuration
 pub mod Location
 pub mod When

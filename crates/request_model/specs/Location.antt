@@ -3,10 +3,10 @@ use Rattle.std.specs.Prelude.{Result, Ok}
 use Rattle.serde_json.specs.Data.{Members}
 use Rattle.plan_json.specs.declared.member.Member.TheVariants.{TelescopeClass, Site, Enclosure, Telescope}
 use Rattle.plan_json.specs.declared.fault.JsonFault.{JsonFault}
-use Rattle.plan_json.specs.Object.{member_of}
+use Rattle.plan_json.specs.Object.{member_of, if_there}
 use Rattle.plan_json.specs.Text.{text_in}
+use Rattle.plan_json.specs.Reading.{◌>>=◌}
 use Rattle.request_model.specs.declared.request.Location.{Location}
-use Rattle.request_model.specs.Reading.{◌>>=◌, if_there}
 
 -- `telescope_class`, and where they are there `site`, `enclosure`, `telescope`
 abbrev pub location_of : Members → Result Location JsonFault

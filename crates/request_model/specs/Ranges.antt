@@ -1,7 +1,8 @@
 -- Which groups have a document: their texts, numbers and counts are in the ranges in which they are read.
-use Rattle.std.specs.Prelude.{◌≡◌, ℕ, ◌<◌, ◌≤◌, List, length, All, IfSome, true}
+use Rattle.std.specs.Prelude.{◌≡◌, ◌<◌, ◌≤◌, List, length, All, IfSome, true}
 use Rattle.plan_base.specs.declared.span.Span.{Span}
 use Rattle.plan_json.specs.Moment.{last_moment}
+use Rattle.plan_json.specs.Ranges.{IsBetween, IsText}
 use Rattle.request_model.specs.declared.group.GroupDoc.{GroupDoc}
 use Rattle.request_model.specs.declared.request.Exposure.{Exposure}
 use Rattle.request_model.specs.declared.request.ConfigDoc.{ConfigDoc}
@@ -12,15 +13,6 @@ use Rattle.request_model.specs.declared.request.When.TheVariants as when
 use Rattle.request_model.specs.declared.request.RequestDoc.{RequestDoc}
 use Rattle.request_model.specs.Group.{is_shape}
 
--- the number lies in the range
-pub record IsBetween (least most n : ℕ) : Type 0 where
-  pub low : least ≤ n
-  pub high : n ≤ most
-
--- the text has 1 to 128 bytes
-abbrev pub IsText : List ℕ → Type 0
-IsText s = IsBetween 1 128 (length s)
-
 pub record IsExposure (e : Exposure) : Type 0 where
   pub time : IsBetween 1 86400000 e.ms
   pub number : IsBetween 1 10000 e.count
@@ -29,6 +21,11 @@ pub record IsConfiguration (c : ConfigDoc) : Type 0 where
   pub name : IsText c.target
   pub count : IsBetween 1 16 (length c.exposures)
   pub each : All IsExposure c.exposures
+
+-- 1 to 16, each in its ranges
+pub record AreConfigurations (cs : List ConfigDoc) : Type 0 where
+  pub count : IsBetween 1 16 (length cs)
+  pub each : All IsConfiguration cs
 
 pub record IsLocation (l : Location) : Type 0 where
   pub of_class : IsText l.class
@@ -59,8 +56,7 @@ pub record IsRequest (r : RequestDoc) : Type 0 where
   pub place : IsLocation r.location
   pub times : IsWhen r.when
   pub type : IsText r.instrument
-  pub count : IsBetween 1 16 (length r.configurations)
-  pub each : All IsConfiguration r.configurations
+  pub taken : AreConfigurations r.configurations
   pub least : r.threshold ≤ 100
   pub lost : r.fade ≤ 1000
 

@@ -2,11 +2,12 @@
 use Rattle.std.specs.Prelude.{ℕ, Result, Ok}
 use Rattle.serde_json.specs.Data.{Data, Members}
 use Rattle.plan_json.specs.declared.member.Member.TheVariants.{Location, AcceptabilityThreshold, Fade, Requests}
-use Rattle.plan_json.specs.Object.{member_of, object_in}
+use Rattle.plan_json.specs.Object.{member_of, object_in, or_default}
+use Rattle.plan_json.specs.Reading.{◌>>=◌}
+use Rattle.plan_json.specs.Whole.{number_in}
 use Rattle.request_model.specs.declared.fault.GroupFault.{GroupFault}
 use Rattle.request_model.specs.declared.request.RequestDoc.{RequestDoc}
 use Rattle.request_model.specs.Fault.{in_group}
-use Rattle.request_model.specs.Reading.{◌>>=◌, number_in, or_default}
 use Rattle.request_model.specs.Location.{location_of}
 use Rattle.request_model.specs.When.{when_of}
 use Rattle.request_model.specs.Configuration.{configurations_of}

@@ -5,16 +5,16 @@ use Rattle.plan_base.specs.declared.span.Span.{Span}
 use Rattle.plan_json.specs.declared.member.Member.TheVariants as member
 use Rattle.plan_json.specs.declared.fault.JsonFault.{JsonFault}
 use Rattle.plan_json.specs.Object.{value_of, member_of, object_in}
-use Rattle.plan_json.specs.Reading.{result_map}
+use Rattle.plan_json.specs.Reading.{result_map, ◌>>=◌, read_from}
 use Rattle.plan_json.specs.Moment.{moment_in}
 use Rattle.plan_json.specs.List.{list_in}
+use Rattle.plan_json.specs.Whole.{number_in}
 use Rattle.request_model.specs.declared.fault.GroupFault.{GroupFault}
 use Rattle.request_model.specs.declared.fault.GroupFault.TheVariants.{BadWindow}
 use Rattle.request_model.specs.declared.request.Cadence.{Cadence}
 use Rattle.request_model.specs.declared.request.When.{When}
 use Rattle.request_model.specs.declared.request.When.TheVariants as when
 use Rattle.request_model.specs.Fault.{in_group}
-use Rattle.request_model.specs.Reading.{◌>>=◌, number_in, read_from}
 
 -- `start`, `end`, `period`, `jitter`
 abbrev pub cadence_of : Members → Result Cadence JsonFault

@@ -1,6 +1,7 @@
 // Request groups as documents: what a group asks for, as it was submitted.
 #![tactic(auto)]
 
+mod copies;
 mod fault;
 mod group;
 mod laws;
@@ -12,7 +13,7 @@ mod write;
 
 pub use fault::GroupFault;
 pub use group::{GroupDoc, ObsKind};
-pub use laws::groups_are_read_back;
+pub use laws::{groups_are_in_range, groups_are_read_back};
 pub use read::read_group;
 pub use request::{Cadence, ConfigDoc, Exposure, Location, RequestDoc, When};
 pub use write::write_group;

@@ -3,7 +3,6 @@
 mod configuration;
 mod group;
 mod location;
-mod members;
 mod request;
 mod when;
 

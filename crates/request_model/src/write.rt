@@ -2,7 +2,6 @@
 
 mod configuration;
 mod group;
-mod members;
 mod request;
 mod times;
 

@@ -9,7 +9,6 @@ ghost use Rattle.request_model.specs.Configuration.{exposure_in, typed_of, typed
 ghost use Rattle.request_model.specs.declared.fault.GroupFault.TheVariants.{NoMemory};
 
 use crate::fault::GroupFault;
-use crate::read::members::number;
 use crate::request::{ConfigDoc, Exposure};
 use plan_base::{ListOf, Name};
 use plan_json::{Doc, DocList, JsonFault, Member};
@@ -45,8 +44,8 @@ fn read_exposure(list: &DocList, index: u32) -> Result<Exposure, JsonFault>
     ensures { result ≡ exposure_in (element_of list.now index) }
 {
     let doc = list.object(index)?;
-    let ms = number(&doc, Member::ExposureTimeMs, 1, MOST_MS)?;
-    let count = number(&doc, Member::ExposureCount, 1, MOST_EXPOSURES)?;
+    let ms = doc.number(Member::ExposureTimeMs, 1, MOST_MS)?;
+    let count = doc.number(Member::ExposureCount, 1, MOST_EXPOSURES)?;
     Ok(Exposure { ms, count })
 }
 

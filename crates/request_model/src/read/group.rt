@@ -4,11 +4,11 @@ ghost use Rattle.std.specs.Prelude.{◌≡◌, ◌≢◌, ◌≤◌, IfOk, IfErr
 ghost use Rattle.plan_json.specs.declared.fault.JsonFault.TheVariants as json;
 ghost use Rattle.plan_json.specs.Shown.{members_of};
 ghost use Rattle.request_model.specs.declared.fault.GroupFault.TheVariants.{NoMemory};
-ghost use Rattle.request_model.specs.Group.{operator_named, operator_of, kind_named, kind_of, ipp_of, is_shape, requests_of, group_of};
+ghost use Rattle.request_model.specs.Ranges.{IsGroup};
+ghost use Rattle.request_model.specs.Group.{kind_named, kind_of, ipp_of, is_shape, requests_of, group_of};
 
 use crate::fault::GroupFault;
 use crate::group::{GroupDoc, ObsKind};
-use crate::read::members::{number, number_or};
 use crate::read::request::read_requests;
 use crate::request::RequestDoc;
 use plan_base::{ListOf, Op};
@@ -18,23 +18,11 @@ use std::alloc::Global;
 /// The most requests that are counted.
 const MOST_REQUESTS: u32 = 1024;
 
-/// The ipp where the document doesn't say: neutral.
+/// The intra-proposal priority where the document doesn't say: neutral.
 const IPP: u32 = 1000;
 
 /// The priority where the document doesn't say.
 const PRIORITY: u32 = 10;
-
-fn operator_named(name: &str) -> Option<Op>
-    ensures { result ≡ operator_named name.now }
-{
-    match name {
-        "SINGLE" => Some(Op::Single),
-        "MANY" => Some(Op::Many),
-        "ONEOF" => Some(Op::OneOf),
-        "AND" => Some(Op::And),
-        _ => None,
-    }
-}
 
 fn kind_named(name: &str) -> Option<ObsKind>
     ensures { result ≡ kind_named name.now }
@@ -45,15 +33,6 @@ fn kind_named(name: &str) -> Option<ObsKind>
         "RAPID_RESPONSE" => Some(ObsKind::RapidResponse),
         _ => None,
     }
-}
-
-fn read_operator(alloc: Global, doc: &Doc) -> Result<Op, JsonFault>
-    ensures value { IfOk result (λ op. operator_of (members_of doc.now) ≡ Ok op) }
-    ensures fault { IfErr result (λ e. e ≢ json.NoMemory → operator_of (members_of doc.now) ≡ Err e) }
-{
-    let member = Member::Operator;
-    let name = doc.text(alloc, member)?;
-    operator_named(name.text()).ok_or(JsonFault::OutOfRange { member })
 }
 
 fn read_kind(alloc: Global, doc: &Doc) -> Result<ObsKind, JsonFault>
@@ -73,7 +52,7 @@ fn read_ipp(doc: &Doc) -> Result<u32, JsonFault>
 {
     let member = Member::IppThousandths;
     if doc.has(member) {
-        number(doc, member, 500, 2000)
+        doc.number(member, 500, 2000)
     } else if doc.has(Member::IppValue) {
         Err(JsonFault::Missing { member })
     } else {
@@ -104,6 +83,28 @@ fn read_shaped(alloc: Global, doc: &Doc, operator: Op) -> Result<ListOf<RequestD
     read_requests(alloc, &list)
 }
 
+fn read_members(alloc: Global, doc: &Doc) -> Result<GroupDoc, GroupFault>
+    ensures value { IfOk result (λ group. group_of (members_of doc.now) ≡ Ok group) }
+    ensures fault { IfErr result (λ e. e ≢ NoMemory → group_of (members_of doc.now) ≡ Err e) }
+{
+    let name = doc.text(alloc, Member::Name)?;
+    let proposal = doc.text(alloc, Member::Proposal)?;
+    let op = doc.operator(Member::Operator)?;
+    let kind = read_kind(alloc, doc)?;
+    let ipp = read_ipp(doc)?;
+    let priority = doc.number_or(Member::Priority, 1, 100, PRIORITY)?;
+    let requests = read_shaped(alloc, doc, op)?;
+    Ok(GroupDoc {
+        name,
+        proposal,
+        op,
+        kind,
+        ipp: ipp as u16,
+        priority: priority as u8,
+        requests,
+    })
+}
+
 /// The group that the document is, or its first fault. Its members are read in this order, and others aren't looked at:
 ///
 /// - `name`, `proposal`: texts of 1 to 128 bytes.
@@ -126,21 +127,7 @@ fn read_shaped(alloc: Global, doc: &Doc, operator: Op) -> Result<ListOf<RequestD
 pub fn read_group(alloc: Global, doc: &Doc) -> Result<GroupDoc, GroupFault>
     ensures value { IfOk result (λ group. group_of (members_of doc.now) ≡ Ok group) }
     ensures fault { IfErr result (λ e. e ≢ NoMemory → group_of (members_of doc.now) ≡ Err e) }
+    ensures ranges { IfOk result IsGroup }
 {
-    let name = doc.text(alloc, Member::Name)?;
-    let proposal = doc.text(alloc, Member::Proposal)?;
-    let op = read_operator(alloc, doc)?;
-    let kind = read_kind(alloc, doc)?;
-    let ipp = read_ipp(doc)?;
-    let priority = number_or(doc, Member::Priority, 1, 100, PRIORITY)?;
-    let requests = read_shaped(alloc, doc, op)?;
-    Ok(GroupDoc {
-        name,
-        proposal,
-        op,
-        kind,
-        ipp: ipp as u16,
-        priority: priority as u8,
-        requests,
-    })
+    read_members(alloc, doc)
 }

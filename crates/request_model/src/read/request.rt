@@ -3,14 +3,13 @@
 ghost use Rattle.std.specs.Prelude.{◌≡◌, ◌≢◌, ◌<◌, length, IfOk, IfErr, Ok, Err};
 ghost use Rattle.plan_json.specs.Shown.{members_of, elements_of, element_of, named_by};
 ghost use Rattle.plan_json.specs.declared.member.Member.TheVariants as member;
+ghost use Rattle.plan_json.specs.Reading.{read_from};
 ghost use Rattle.request_model.specs.declared.fault.GroupFault.TheVariants.{NoMemory};
-ghost use Rattle.request_model.specs.Reading.{read_from};
 ghost use Rattle.request_model.specs.Request.{request_of, request_in};
 
 use crate::fault::GroupFault;
 use crate::read::configuration::read_configurations;
 use crate::read::location::read_location;
-use crate::read::members::number_or;
 use crate::read::when::read_when;
 use crate::request::RequestDoc;
 use plan_base::ListOf;
@@ -28,8 +27,8 @@ fn read_request(alloc: Global, doc: &Doc, index: u32) -> Result<RequestDoc, Grou
     let location = read_location(alloc, &doc.object(Member::Location)?)?;
     let when = read_when(alloc, doc, index)?;
     let taken = read_configurations(alloc, doc, index)?;
-    let threshold = number_or(doc, Member::AcceptabilityThreshold, 0, 100, THRESHOLD)?;
-    let fade = number_or(doc, Member::Fade, 0, 1000, 0)?;
+    let threshold = doc.number_or(Member::AcceptabilityThreshold, 0, 100, THRESHOLD)?;
+    let fade = doc.number_or(Member::Fade, 0, 1000, 0)?;
     Ok(RequestDoc {
         location,
         when,

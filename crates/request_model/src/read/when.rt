@@ -3,12 +3,11 @@
 ghost use Rattle.std.specs.Prelude.{◌≡◌, ◌≢◌, ◌<◌, length, IfOk, IfErr, Ok, Err};
 ghost use Rattle.plan_json.specs.declared.member.Member.TheVariants as member;
 ghost use Rattle.plan_json.specs.Shown.{members_of, elements_of, element_of, named_by};
+ghost use Rattle.plan_json.specs.Reading.{read_from};
 ghost use Rattle.request_model.specs.declared.fault.GroupFault.TheVariants.{NoMemory};
-ghost use Rattle.request_model.specs.Reading.{read_from};
 ghost use Rattle.request_model.specs.When.{cadence_of, window_in, when_of};
 
 use crate::fault::GroupFault;
-use crate::read::members::number;
 use crate::request::{Cadence, When};
 use plan_base::{ListOf, Span};
 use plan_json::{Doc, DocList, JsonFault, Member};
@@ -25,8 +24,8 @@ fn read_cadence(doc: &Doc) -> Result<Cadence, JsonFault>
 {
     let start = doc.moment(Member::Start)?;
     let end = doc.moment(Member::End)?;
-    let period = u64::from(number(doc, Member::Period, 0, MOST_SECONDS)?);
-    let jitter = u64::from(number(doc, Member::Jitter, 0, MOST_SECONDS)?);
+    let period = u64::from(doc.number(Member::Period, 0, MOST_SECONDS)?);
+    let jitter = u64::from(doc.number(Member::Jitter, 0, MOST_SECONDS)?);
     Ok(Cadence {
         start,
         end,

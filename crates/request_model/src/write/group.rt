@@ -1,27 +1,13 @@
 // Request groups, as they are written.
 
 ghost use Rattle.std.specs.Prelude.{◌≡◌, IfOk, Ok};
-ghost use Rattle.serde_json.specs.View.{view};
+ghost use Rattle.serde_json.specs.Data.{string};
 ghost use Rattle.request_model.specs.Ranges.{IsGroup};
-ghost use Rattle.request_model.specs.Written.{operator_name, kind_name, group_data, text_of_group, group_of_bytes};
+ghost use Rattle.request_model.specs.Written.{kind_name, group_data, text_of_group, group_of_bytes};
 
 use crate::group::{GroupDoc, ObsKind};
-use crate::write::request::requests_value;
-use plan_base::Op;
-use plan_json::Writer;
-use serde_json::{Value, json};
+use plan_json::{Json, json_text, object};
 use std::alloc::{AllocError, Global};
-
-fn operator_name(op: Op) -> &'static str
-    ensures { result.now ≡ operator_name op }
-{
-    match op {
-        Op::Single => "SINGLE",
-        Op::Many => "MANY",
-        Op::OneOf => "ONEOF",
-        Op::And => "AND",
-    }
-}
 
 fn kind_name(kind: ObsKind) -> &'static str
     ensures { result.now ≡ kind_name kind }
@@ -33,19 +19,34 @@ fn kind_name(kind: ObsKind) -> &'static str
     }
 }
 
-fn group_value(alloc: Global, group: &GroupDoc) -> Result<Value, AllocError>
-    ensures { IfOk result (λ value. view value ≡ group_data group.now) }
-{
-    let requests = requests_value(alloc, group.requests.as_slice())?;
-    json!(in alloc; {
-        "ipp_thousandths": group.ipp,
-        "name": group.name.text(),
-        "observation_type": kind_name(group.kind),
-        "operator": operator_name(group.op),
-        "priority": group.priority,
-        "proposal": group.proposal.text(),
-        "requests": requests
-    })
+impl Json for ObsKind {
+    ghost value = { λ kind. string (kind_name kind) };
+
+    ghost levels = { 0 };
+
+    fn write(&self, out: &mut Vec<u8>) -> Result<(), AllocError> {
+        kind_name(*self).write(out)
+    }
+}
+
+/// A group is written as its document, with the members that [`write_group`] names.
+impl Json for GroupDoc {
+    ghost value = { group_data };
+
+    ghost levels = { 7 };
+
+    fn write(&self, out: &mut Vec<u8>) -> Result<(), AllocError> {
+        object!(
+            "ipp_thousandths": self.ipp,
+            "name": &self.name,
+            "observation_type": self.kind,
+            "operator": self.op,
+            "priority": self.priority,
+            "proposal": &self.proposal,
+            "requests": &self.requests,
+        )
+        .write(out)
+    }
 }
 
 /// The document of the group, as compact text with members in byte order and no newline: all that [`read_group`]
@@ -59,6 +60,5 @@ pub fn write_group(alloc: Global, group: &GroupDoc) -> Result<Vec<u8>, AllocErro
     ensures reads_back { IfOk result
         (λ bytes. IsGroup group.now → group_of_bytes bytes.items ≡ Ok group.now) }
 {
-    let value = group_value(alloc, group)?;
-    Writer::text(alloc, &value)
+    json_text(alloc, group)
 }

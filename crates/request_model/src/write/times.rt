@@ -1,37 +1,38 @@
 // When a request may be observed, as it is written.
 
-ghost use Rattle.std.specs.Prelude.{◌≡◌, IfOk};
-ghost use Rattle.serde_json.specs.View.{view};
-ghost use Rattle.request_model.specs.Written.{list_data, cadence_data, window_data};
+ghost use Rattle.request_model.specs.Written.{cadence_data, window_data};
 
 use crate::request::Cadence;
 use plan_base::Span;
-use serde_json::{Value, json};
-use std::alloc::{AllocError, Global};
+use plan_json::{Form, Json, object};
+use std::alloc::AllocError;
 
-pub(crate) fn cadence_value(alloc: Global, cadence: Cadence) -> Result<Value, AllocError>
-    ensures { IfOk result (λ value. view value ≡ cadence_data cadence) }
-{
-    json!(in alloc; {
-        "end": cadence.end.0,
-        "jitter": cadence.jitter,
-        "period": cadence.period,
-        "start": cadence.start.0
-    })
-}
+impl Json for Cadence {
+    ghost value = { cadence_data };
 
-fn window_value(alloc: Global, window: Span) -> Result<Value, AllocError>
-    ensures { IfOk result (λ value. view value ≡ window_data window) }
-{
-    json!(in alloc; {"end": window.to.0, "start": window.from.0})
-}
+    ghost levels = { 1 };
 
-pub(crate) fn windows_value(alloc: Global, windows: &[Span]) -> Result<Value, AllocError>
-    ensures { IfOk result (λ value. view value ≡ list_data window_data windows.now) }
-{
-    let mut items = Vec::with_capacity(alloc, windows.len())?;
-    for window in windows {
-        items.push(window_value(alloc, *window)?)?;
+    fn write(&self, out: &mut Vec<u8>) -> Result<(), AllocError> {
+        object!(
+            "end": self.end,
+            "jitter": self.jitter,
+            "period": self.period,
+            "start": self.start,
+        )
+        .write(out)
     }
-    Ok(Value::Array(items))
+}
+
+/// Spans as windows: objects with start and end.
+#[derive(Drop)]
+pub(crate) struct AsWindows;
+
+impl Form<Span> for AsWindows {
+    ghost value_of = { λ _. window_data };
+
+    ghost levels = { 1 };
+
+    fn write_value(&self, window: &Span, out: &mut Vec<u8>) -> Result<(), AllocError> {
+        object!("end": window.to, "start": window.from).write(out)
+    }
 }

@@ -1,7 +1,6 @@
 use Rattle.std.proofs.Common.{◌≡◌, ◌++◌, drop}
-use Rattle.plan_json.specs.Reading.{result_map}
+use Rattle.plan_json.specs.Reading.{result_map, read_from}
 use Rattle.plan_json.specs.Shown.{elements_of}
-use Rattle.request_model.specs.Reading.{read_from}
 use Rattle.request_model.specs.Request.{request_in}
 use Rattle.request_model.proofs.read.request.read_requests.Given as goal
 

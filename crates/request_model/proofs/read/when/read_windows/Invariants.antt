@@ -1,7 +1,6 @@
 use Rattle.std.proofs.Common.{◌≡◌, ◌++◌, drop}
-use Rattle.plan_json.specs.Reading.{result_map}
+use Rattle.plan_json.specs.Reading.{result_map, read_from}
 use Rattle.plan_json.specs.Shown.{elements_of}
-use Rattle.request_model.specs.Reading.{read_from}
 use Rattle.request_model.specs.When.{window_in}
 use Rattle.request_model.proofs.read.when.read_windows.Given as goal
 

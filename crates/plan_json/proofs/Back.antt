@@ -1,20 +1,18 @@
 -- What is written is read again.
 use Rattle.std.proofs.Common.{◌≡◌, ℕ, suc, ◌+◌, ◌≤◌, List, [], ◌∷◌, map, length, All, Result, Ok, refl, ap, arith}
 use Rattle.std.proofs.lemmas.Bool.{le-leb}
+use Rattle.std.proofs.lemmas.List.Elements.{All-head, All-tail}
 use Rattle.serde_json.specs.Data.{Data, string}
 use Rattle.plan_base.specs.declared.number.Sec.{Sec}
 use Rattle.plan_json.specs.declared.member.Member.{Member}
-use Rattle.plan_json.specs.declared.member.Member.TheVariants as key
-use Rattle.plan_json.specs.Reading.{read_each}
+use Rattle.plan_json.specs.Reading.{read_each, read_from}
 use Rattle.plan_json.specs.Text.{text_in}
+use Rattle.plan_json.specs.Whole.{number_in}
 use Rattle.plan_json.specs.Moment.{moment_in, last_moment}
 use Rattle.plan_json.specs.List.{list_in}
+use Rattle.plan_json.specs.Values.{whole, list_of}
+use Rattle.plan_json.specs.Ranges.{IsBetween, IsText}
 use Rattle.plan_json.proofs.Values.{elements_of_items}
-use Rattle.request_model.specs.declared.request.Exposure.{Exposure}
-use Rattle.request_model.specs.Reading.{number_in, read_from}
-use Rattle.request_model.specs.Configuration.{exposure_in}
-use Rattle.request_model.specs.Written.{whole, list_data, exposure_data}
-use Rattle.request_model.specs.Ranges.{IsBetween, IsText, IsExposure}
 
 pub number_back : (least most : ℕ) (m : Member) (n : ℕ) → IsBetween least most n → number_in least most m (whole n) ≡ Ok n
 number_back least most m n h = rw (le-leb least n h.low, le-leb n most h.high) refl
@@ -25,32 +23,23 @@ text_back m s h = rw (le-leb 1 (length s) h.low, le-leb (length s) 128 h.high) r
 pub moment_back : (m : Member) (s : Sec) → s.0 ≤ last_moment → moment_in m (whole s.0) ≡ Ok s
 moment_back m s h = rw (le-leb 0 s.0 (omega arith), le-leb s.0 last_moment h) refl
 
-head : {X : Type 0} (P : X → Type 0) (x : X) (xs : List X) → All P (x ∷ xs) → P x
-head P x xs h = h 0 x (omega arith)
-
-tail : {X : Type 0} (P : X → Type 0) (x : X) (xs : List X) → All P (x ∷ xs) → All P xs
-tail P x xs h = λ k d lt. h (suc k) d (omega (arith, lt))
-
 -- elements that are each read again
 pub each_back : {X E : Type 0} (P : X → Type 0) (f : X → Data) (reading : Data → Result X E) → ((x : X) → P x → reading (f x) ≡ Ok x) → (xs : List X) → All P xs
     → read_each reading (map f xs) ≡ Ok xs
 each_back P f reading h [] all = refl
 each_back P f reading h (x ∷ xs) all =
-    rw (h x (head P x xs all), each_back P f reading h xs (tail P x xs all)) refl
+    rw (h x (All-head P x xs all), each_back P f reading h xs (All-tail P x xs all)) refl
 
-pub each_back_from : {X E : Type 0} (P : X → Type 0) (f : X → Data) (reading : ℕ → Data → Result X E) → ((i : ℕ) (x : X) → P x → reading i (f x) ≡ Ok x) → (i : ℕ) (xs : List X) → All P xs
-    → read_from reading i (map f xs) ≡ Ok xs
+pub each_back_from : {X E : Type 0} (P : X → Type 0) (f : X → Data) (reading : ℕ → Data → Result X E) → ((i : ℕ) (x : X) → P x → reading i (f x) ≡ Ok x) → (i : ℕ) (xs : List X)
+    → All P xs → read_from reading i (map f xs) ≡ Ok xs
 each_back_from P f reading h i [] all = refl
 each_back_from P f reading h i (x ∷ xs) all =
-    rw (h i x (head P x xs all), each_back_from P f reading h (i + 1) xs (tail P x xs all)) refl
+    rw (h i x (All-head P x xs all), each_back_from P f reading h (i + 1) xs (All-tail P x xs all)) refl
 
 pub as_long : {X Y : Type 0} (f : X → Y) (xs : List X) → length (map f xs) ≡ length xs
 as_long f [] = refl
 as_long f (x ∷ xs) = ap suc (as_long f xs)
 
 -- a list with a count in the range
-pub list_back : {X : Type 0} (f : X → Data) (m : Member) (least most : ℕ) (xs : List X) → IsBetween least most (length xs) → list_in m least most (list_data f xs) ≡ Ok (map f xs)
+pub list_back : {X : Type 0} (f : X → Data) (m : Member) (least most : ℕ) (xs : List X) → IsBetween least most (length xs) → list_in m least most (list_of f xs) ≡ Ok (map f xs)
 list_back f m least most xs h = rw (elements_of_items (map f xs), as_long f xs, le-leb least (length xs) h.low, le-leb (length xs) most h.high) refl
-
-pub exposure_back : (e : Exposure) → IsExposure e → exposure_in (exposure_data e) ≡ Ok e
-exposure_back e h = rw (number_back 1 86400000 key.ExposureTimeMs e.ms h.time, number_back 1 10000 key.ExposureCount e.count h.number) refl
