@@ -2,7 +2,7 @@
 use Rattle.std.proofs.Common.{◌≡◌, ℕ, suc, ◌≤◌, List, [], ◌∷◌, map, length, All, Bool, true, false, cond, nat_lt, bytes_eq, Option, Some, None, option_map, IfSome, Ok, refl, ap, arith}
 use Rattle.std.proofs.lemmas.Bool.{lt-ltb, ltb-false}
 use Rattle.std.proofs.lemmas.Slice.Eq.{bytes_eq-Decides}
-use Rattle.serde_json.specs.Data.{Data, string, array, object, Items, Members, no_members}
+use Rattle.serde_json.specs.Data.{string, array, object, Items, Members}
 use Rattle.serde_json.specs.View.{items_of}
 use Rattle.plan_base.specs.declared.span.Span.{Span}
 use Rattle.plan_json.specs.declared.member.Member.{Member}
@@ -11,7 +11,7 @@ use Rattle.plan_json.specs.Reading.{read_each, ◌>>=◌}
 use Rattle.plan_json.specs.Object.{value_of, object_in, if_there, or_default}
 use Rattle.plan_json.specs.Text.{text_in}
 use Rattle.plan_json.specs.Whole.{number_in}
-use Rattle.plan_json.specs.Values.{whole, list_of, Named, given, given_if, in_byte_order, those_there}
+use Rattle.plan_json.specs.Values.{whole, given, given_if, in_byte_order, those_there}
 use Rattle.plan_json.specs.Ranges.{IsText}
 use Rattle.plan_json.proofs.Back.{number_back, text_back, moment_back, each_back, each_back_from, list_back}
 use Rattle.request_model.specs.declared.request.Exposure.{Exposure}
@@ -26,7 +26,7 @@ use Rattle.request_model.specs.Configuration.{exposure_in, typed_in, are_of_type
 use Rattle.request_model.specs.Location.{location_of}
 use Rattle.request_model.specs.When.{cadence_of, window_in, when_of}
 use Rattle.request_model.specs.Request.{request_in}
-use Rattle.request_model.specs.Written.{cadence_given, windows_given, fade_above_0, exposure_data, configuration_data, location_data, cadence_data, window_data, request_at, request_data}
+use Rattle.request_model.specs.Written.{cadence_given, windows_given, exposure_data, configuration_data, location_data, cadence_data, window_data, request_at, request_data}
 use Rattle.request_model.specs.Ranges.{IsExposure, IsConfiguration, IsLocation, IsCadence, IsWindow, IsWhen, IsRequest}
 
 exposure_back : (e : Exposure) → IsExposure e → exposure_in (exposure_data e) ≡ Ok e

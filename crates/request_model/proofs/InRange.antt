@@ -1,30 +1,18 @@
 -- A group that was read lies in the ranges.
-use Rattle.std.proofs.Common.{◌≡◌, ℕ, ◌+◌, ◌≤◌, ◌<◌, List, [], ◌∷◌, map, length, All, Bool, true, nat_lt, cond, is_some, IfSome, Option, Some, None, ok_or, Result, Ok, Err, IfOk, sym, ap, ◌∙◌, subst, arith, ltb-true}
-use Rattle.std.specs.Prelude.{⊤}
+use Rattle.std.proofs.Common.{◌≡◌, ℕ, List, [], ◌∷◌, map, length, All, true, nat_lt, is_some, Result, Ok, Err, IfOk, sym, ap, ◌∙◌, subst, arith, ltb-true}
 use Rattle.std.proofs.lemmas.List.Elements.{All-head, All-map}
 use Rattle.serde_json.specs.Data.{Data, Members}
 use Rattle.plan_base.specs.declared.parts.Op.{Op}
-use Rattle.plan_base.specs.declared.span.Span.{Span}
-use Rattle.plan_json.specs.declared.member.Member.{Member}
 use Rattle.plan_json.specs.declared.member.Member.TheVariants as key
 use Rattle.plan_json.specs.declared.fault.JsonFault.{JsonFault}
-use Rattle.plan_json.specs.Reading.{◌>>=◌, result_map, read_each, read_from}
-use Rattle.plan_json.specs.Object.{value_of, member_of, object_in, if_there, or_default}
+use Rattle.plan_json.specs.Reading.{read_from}
+use Rattle.plan_json.specs.Object.{value_of, member_of, object_in}
 use Rattle.plan_json.specs.Operator.{operator_in}
-use Rattle.plan_json.specs.Whole.{number_in}
-use Rattle.plan_json.specs.Text.{text_in}
-use Rattle.plan_json.specs.Moment.{moment_in, last_moment}
 use Rattle.plan_json.specs.List.{list_in}
 use Rattle.plan_json.specs.Ranges.{IsBetween, IsText}
 use Rattle.plan_json.proofs.Back.{as_long}
-use Rattle.plan_json.proofs.Ranges.{Gives, IsEarly, AreEach, any, weaker, either, if_test, after, made, number_member, number_member_or, text_member, text_member_if, moment_member, list_member, each, each_from}
-use Rattle.request_model.specs.declared.fault.GroupFault.{GroupFault}
+use Rattle.plan_json.proofs.Ranges.{Gives, any, weaker, either, if_test, after, made, number_member, number_member_or, text_member, text_member_if, moment_member, list_member, each, each_from}
 use Rattle.request_model.specs.declared.fault.GroupFault.TheVariants.{BadShape, BadWindow, MixedInstruments}
-use Rattle.request_model.specs.declared.group.GroupDoc.{GroupDoc}
-use Rattle.request_model.specs.declared.request.Exposure.{Exposure}
-use Rattle.request_model.specs.declared.request.Location.{Location}
-use Rattle.request_model.specs.declared.request.Cadence.{Cadence}
-use Rattle.request_model.specs.declared.request.When.{When}
 use Rattle.request_model.specs.declared.request.When.TheVariants as when
 use Rattle.request_model.specs.declared.request.RequestDoc.{RequestDoc}
 use Rattle.request_model.specs.declared.read.configuration.Typed.{Typed}
@@ -34,7 +22,7 @@ use Rattle.request_model.specs.Configuration.{exposure_of, exposure_in, typed_of
 use Rattle.request_model.specs.Location.{location_of}
 use Rattle.request_model.specs.When.{cadence_of, window_in, windows_of, when_of}
 use Rattle.request_model.specs.Request.{request_of, request_in}
-use Rattle.request_model.specs.Group.{kind_of, ipp_of, is_shape, shaped, requests_of, group_of}
+use Rattle.request_model.specs.Group.{kind_of, ipp_of, is_shape, requests_of, group_of}
 use Rattle.request_model.specs.Ranges.{IsExposure, IsConfiguration, AreConfigurations, IsLocation, IsCadence, IsWindow, AreWindows, IsWhen, IsRequest, IsGroup}
 use Rattle.request_model.specs.Laws.{GroupsAreInRange}
 

@@ -73,20 +73,21 @@ windows_given (when.Windows ws) = Some (list_of window_data ws)
 abbrev pub fade_above_0 : ℕ → Option ℕ
 fade_above_0 fade = if nat_lt 0 fade then Some fade else None
 
--- A request with these times. It unfolds only where it is asked, so that each kind of times is apart from the other.
-unfoldable pub request_at : RequestDoc → When → Data
-request_at r times =
+-- A request with these times and this fade. It unfolds only where it is asked, so that each kind of times is apart from
+-- the other.
+unfoldable pub request_at : RequestDoc → When → Option ℕ → Data
+request_at r times fade =
     object_of
     (given member.Location (location_data r.location)
     ∷ given_if member.Cadence (cadence_given times)
     ∷ given_if member.Windows (windows_given times)
     ∷ given member.Configurations (list_of (configuration_data r.instrument) r.configurations)
     ∷ given member.AcceptabilityThreshold (whole r.threshold)
-    ∷ given_if member.Fade (option_map whole (fade_above_0 r.fade))
+    ∷ given_if member.Fade (option_map whole fade)
     ∷ [])
 
 abbrev pub request_data : RequestDoc → Data
-request_data r = request_at r r.when
+request_data r = request_at r r.when (fade_above_0 r.fade)
 
 abbrev pub kind_name : ObsKind → List ℕ
 kind_name Normal = codes "NORMAL"

@@ -1,10 +1,7 @@
 // Documents of groups, with what each is read as or its first fault.
 
 mod counts;
-mod edges;
 mod faults;
-mod order;
-mod values;
 mod written;
 
 use crate::{GroupDoc, GroupFault, read_group};

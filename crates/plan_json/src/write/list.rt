@@ -30,17 +30,17 @@ pub trait Form<T> {
 #[derive(Drop)]
 pub struct Each<'a, F, T> {
     pub form: F,
-    pub items: &'a [T],
+    pub items: &'a ListOf<T>,
 }
 
-impl<'a, T, F: Form<T>> Json for Each<'a, F, T> {
+impl<'a, T: Drop, F: Form<T>> Json for Each<'a, F, T> {
     ghost value = { λ each. list_of (F.value_of each.form) each.items.now };
 
     ghost levels = { suc F.levels };
 
     #[inline]
     fn write(&self, out: &mut Vec<u8>) -> Result<(), AllocError> {
-        write_list(out, &self.form, self.items)
+        write_list(out, &self.form, self.items.as_slice())
     }
 }
 

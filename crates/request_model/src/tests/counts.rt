@@ -37,21 +37,34 @@ fn fault_of_list(alloc: Global, piece: &str, count: usize) -> Result<Option<Grou
     fault_with(alloc, LEAST, piece, elements.as_str())
 }
 
-/// An element, and the most that its list may have.
-const LISTS: [(&str, usize, Member); 3] = [
-    (WINDOW, 32, Member::Windows),
-    (EXPOSURE, 16, Member::InstrumentConfigs),
-    (CONFIGURATION, 16, Member::Configurations),
+const MANY_WINDOWS: GroupFault = GroupFault::Json(JsonFault::OutOfRange {
+    member: Member::Windows,
+});
+
+const MANY_EXPOSURES: GroupFault = GroupFault::Json(JsonFault::OutOfRange {
+    member: Member::InstrumentConfigs,
+});
+
+const MANY_CONFIGURATIONS: GroupFault = GroupFault::Json(JsonFault::OutOfRange {
+    member: Member::Configurations,
+});
+
+/// An element, how many there are, and the fault, if there is one.
+const LISTS: [(&str, usize, Option<GroupFault>); 7] = [
+    (WINDOW, 0, Some(MANY_WINDOWS)),
+    (WINDOW, 32, None),
+    (WINDOW, 33, Some(MANY_WINDOWS)),
+    (EXPOSURE, 16, None),
+    (EXPOSURE, 17, Some(MANY_EXPOSURES)),
+    (CONFIGURATION, 16, None),
+    (CONFIGURATION, 17, Some(MANY_CONFIGURATIONS)),
 ];
 
 #[test]
 fn lists_have_counts(rt: HostRuntime) -> Result<(), Fail> {
-    for (piece, most, member) in LISTS.iter() {
-        let fault = Some(GroupFault::Json(JsonFault::OutOfRange { member: *member }));
-        for (count, wanted) in [(0, fault), (*most, None), (*most + 1, fault)] {
-            let found = fault_of_list(rt.alloc(), piece, count)?;
-            assert_eq!(rt; found, wanted, "{count} {member}");
-        }
+    for (piece, count, wanted) in LISTS.iter() {
+        let found = fault_of_list(rt.alloc(), piece, *count)?;
+        assert_eq!(rt; found, *wanted, "{count}");
     }
     Ok(())
 }
@@ -76,44 +89,76 @@ const TOO_MANY: GroupFault = GroupFault::Json(JsonFault::OutOfRange {
     member: Member::Requests,
 });
 
-/// How many elements, which they are, and the fault. `5` is no request, but the number is tested before.
-const SINGLES: [(usize, &str, GroupFault); 2] = [(1, "5", NO_OBJECT), (1025, "5", TOO_MANY)];
-
-#[test]
-fn requests_are_counted_then_read(rt: HostRuntime) -> Result<(), Fail> {
-    for (count, piece, fault) in SINGLES.iter() {
-        let found = fault_of_group(rt.alloc(), "SINGLE", piece, *count)?;
-        assert_eq!(rt; found, Some(*fault), "{count}");
-    }
-    Ok(())
-}
-
-/// Numbers of requests that an operator doesn't have.
-const SHAPES: [(&str, Op, u32); 9] = [
-    ("SINGLE", Op::Single, 0),
-    ("SINGLE", Op::Single, 2),
-    ("SINGLE", Op::Single, 1024),
-    ("MANY", Op::Many, 1),
-    ("MANY", Op::Many, 33),
-    ("ONEOF", Op::OneOf, 1),
-    ("ONEOF", Op::OneOf, 33),
-    ("AND", Op::And, 1),
-    ("AND", Op::And, 33),
+/// An operator, how many elements its group has, which they are, and the fault. `5` is no request, but their number is
+/// tested before.
+const GROUPS: [(&str, usize, &str, Option<GroupFault>); 12] = [
+    ("SINGLE", 1, "5", Some(NO_OBJECT)),
+    ("SINGLE", 1025, "5", Some(TOO_MANY)),
+    (
+        "SINGLE",
+        0,
+        "5",
+        Some(GroupFault::BadShape {
+            operator: Op::Single,
+            count: 0,
+        }),
+    ),
+    (
+        "SINGLE",
+        1024,
+        "5",
+        Some(GroupFault::BadShape {
+            operator: Op::Single,
+            count: 1024,
+        }),
+    ),
+    (
+        "MANY",
+        1,
+        "5",
+        Some(GroupFault::BadShape {
+            operator: Op::Many,
+            count: 1,
+        }),
+    ),
+    (
+        "MANY",
+        33,
+        "5",
+        Some(GroupFault::BadShape {
+            operator: Op::Many,
+            count: 33,
+        }),
+    ),
+    (
+        "ONEOF",
+        1,
+        "5",
+        Some(GroupFault::BadShape {
+            operator: Op::OneOf,
+            count: 1,
+        }),
+    ),
+    (
+        "AND",
+        33,
+        "5",
+        Some(GroupFault::BadShape {
+            operator: Op::And,
+            count: 33,
+        }),
+    ),
+    ("MANY", 2, REQUEST, None),
+    ("MANY", 32, REQUEST, None),
+    ("ONEOF", 2, REQUEST, None),
+    ("AND", 32, REQUEST, None),
 ];
 
 #[test]
 fn operators_have_numbers_of_requests(rt: HostRuntime) -> Result<(), Fail> {
-    for (name, operator, count) in SHAPES.iter() {
-        let fault = GroupFault::BadShape {
-            operator: *operator,
-            count: *count,
-        };
-        let found = fault_of_group(rt.alloc(), name, "5", *count as usize)?;
-        assert_eq!(rt; found, Some(fault), "{count} in {name}");
-    }
-    for (name, count) in [("MANY", 2), ("MANY", 32), ("ONEOF", 2), ("AND", 32)] {
-        let found = fault_of_group(rt.alloc(), name, REQUEST, count)?;
-        assert_eq!(rt; found, None, "{count} in {name}");
+    for (operator, count, piece, wanted) in GROUPS.iter() {
+        let found = fault_of_group(rt.alloc(), operator, piece, *count)?;
+        assert_eq!(rt; found, *wanted, "{count} in {operator}");
     }
     Ok(())
 }

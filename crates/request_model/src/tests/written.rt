@@ -5,9 +5,9 @@ use crate::write_group;
 use std::alloc::Global;
 use std::test::Fail;
 
-/// The document of the group that the text is read as.
+/// The document of a copy of the group that the text is read as.
 fn rewritten(alloc: Global, text: &str) -> Result<Vec<u8>, Fail> {
-    let group = group(alloc, text)?;
+    let group = group(alloc, text)?.copy(alloc)?;
     Ok(write_group(alloc, &group)?)
 }
 

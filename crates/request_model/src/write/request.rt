@@ -8,7 +8,7 @@ ghost use Rattle.request_model.specs.Written.{location_data, fade_above_0, reque
 use crate::request::{Cadence, Location, RequestDoc, When};
 use crate::write::configuration::OfType;
 use crate::write::times::AsWindows;
-use plan_base::Span;
+use plan_base::{ListOf, Span};
 use plan_json::{Each, Json, object};
 use std::alloc::AllocError;
 
@@ -39,19 +39,20 @@ fn fade_above_0(fade: u16) -> Option<u16>
 fn write_with_cadence(
     request: &RequestDoc,
     cadence: &Cadence,
+    fade: &Option<u16>,
     out: &mut Vec<u8>,
 ) -> Result<(), AllocError>
     ensures { AddsNested result out.old.items out.new.items 5
-        (request_at request.now (when.Cadence cadence.now)) }
+        (request_at request.now (when.Cadence cadence.now) fade.now) }
 {
     object!(
         "acceptability_threshold": request.threshold,
         "cadence": cadence,
         "configurations": Each {
             form: OfType { instrument: &request.instrument },
-            items: request.configurations.as_slice(),
+            items: &request.configurations,
         },
-        "fade"?: &fade_above_0(request.fade),
+        "fade"?: fade,
         "location": &request.location,
     )
     .write(out)
@@ -60,19 +61,20 @@ fn write_with_cadence(
 #[tactic(auto, unfolding(crate::specs::Written::request_at))]
 fn write_with_windows(
     request: &RequestDoc,
-    windows: &[Span],
+    windows: &ListOf<Span>,
+    fade: &Option<u16>,
     out: &mut Vec<u8>,
 ) -> Result<(), AllocError>
     ensures { AddsNested result out.old.items out.new.items 5
-        (request_at request.now (when.Windows windows.now)) }
+        (request_at request.now (when.Windows windows.now) fade.now) }
 {
     object!(
         "acceptability_threshold": request.threshold,
         "configurations": Each {
             form: OfType { instrument: &request.instrument },
-            items: request.configurations.as_slice(),
+            items: &request.configurations,
         },
-        "fade"?: &fade_above_0(request.fade),
+        "fade"?: fade,
         "location": &request.location,
         "windows": Each { form: AsWindows, items: windows },
     )
@@ -85,9 +87,10 @@ impl Json for RequestDoc {
     ghost levels = { 5 };
 
     fn write(&self, out: &mut Vec<u8>) -> Result<(), AllocError> {
+        let fade = fade_above_0(self.fade);
         match &self.when {
-            When::Cadence(cadence) => write_with_cadence(self, cadence, out),
-            When::Windows(windows) => write_with_windows(self, windows.as_slice(), out),
+            When::Cadence(cadence) => write_with_cadence(self, cadence, &fade, out),
+            When::Windows(windows) => write_with_windows(self, windows, &fade, out),
         }
     }
 }
