@@ -1,5 +1,6 @@
 -- Which texts are moments, and which second each names.
-use Rattle.std.specs.Prelude.{ℕ, ◌+◌, ◌-◌, ◌*◌, ◌==◌, List, [], ◌∷◌, Bool, ◌&&◌, ◌||◌, nat_le, nat_lt, if◌then◌else◌, length, drop, slice_index, take_while, bytes_eq, codes, pos, unsigned_abs, Option, Some, None, option_map, option_and_then, ok_or, Result, Err}
+use Rattle.std.specs.Prelude.{ℕ, ◌+◌, ◌-◌, ◌*◌, ◌==◌, List, [], ◌∷◌, Bool, ◌&&◌, ◌||◌, nat_le, nat_lt, if◌then◌else◌, length, drop, slice_index}
+use Rattle.std.specs.Prelude.{take_while, bytes_eq, codes, pos, unsigned_abs, Option, Some, None, option_map, option_and_then, ok_or, Result, Err}
 use Rattle.std.specs.Char.{is_ascii_digit}
 use Rattle.std.specs.Int.{is_in_range}
 use Rattle.std.specs.List.{list_all}

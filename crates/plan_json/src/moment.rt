@@ -2,7 +2,8 @@
 
 ghost use Rattle.std.specs.Prelude.{◌≡◌, ◌≤◌, ◌<◌, ◌+◌, ◌≤ℤ◌, pos, length, IsTrue, IfSome};
 ghost use Rattle.jiff_core.specs.Date.{epoch_day};
-ghost use Rattle.plan_json.specs.Moment.{is_utc, zeros_of, is_fraction, is_ending, has_digits, has_marks, has_form, two_digits, day_number, second_of_day, second_of};
+ghost use Rattle.plan_json.specs.Moment.{is_utc, zeros_of, is_fraction, is_ending, has_digits, has_marks, has_form, two_digits, day_number};
+ghost use Rattle.plan_json.specs.Moment.{second_of_day, second_of};
 ghost use Rattle.plan_json.specs.MomentText.{MomentsAreRead};
 
 use jiff::civil::Date;

@@ -33,7 +33,7 @@ kind_named s =
 abbrev pub kind_of : Members → Result ObsKind JsonFault
 kind_of ms = member_of text_in ms member.ObservationType >>= λ s. ok_or (kind_named s) (OutOfRange member.ObservationType)
 
--- `ipp_thousandths`, or else 1000; but it is missing where the portal's own member `ipp_value` is there
+-- the intra-proposal priority: `ipp_thousandths`, or else 1000; but it is missing where the portal's own member `ipp_value` is there
 abbrev pub ipp_of : Members → Result ℕ JsonFault
 ipp_of ms =
     if is_some (value_of ms member.IppThousandths)

@@ -1,5 +1,5 @@
 -- The windows of a cadence.
-use Rattle.std.specs.Prelude.{ℕ, ◌+◌, ◌*◌, ◌-◌, ◌/◌, ◌≤◌, nat_le, nat_lt, min, max, Bool, ◌&&◌, List, [], ◌∷◌, map, filter, Result, Ok, Err, if◌then◌else◌}
+use Rattle.std.specs.Prelude.{ℕ, ◌+◌, ◌*◌, ◌-◌, ◌/◌, nat_le, nat_lt, min, max, Bool, ◌&&◌, List, [], ◌∷◌, map, filter, Result, Ok, Err, if◌then◌else◌}
 use Rattle.std.specs.Int.{div_ceil}
 use Rattle.std.specs.List.{range_with_len}
 use Rattle.plan_base.specs.declared.span.Span.{Span}
@@ -46,10 +46,3 @@ expansion c seconds =
     if is_cadence c
     then (if nat_le (centre_count c) 256 then if_any (windows_of c seconds (centre_count c)) else Err (TooManyWindows (centre_count c)))
     else Err BadCadence
-
--- the numbers are in the ranges of a document
-pub record IsInRange (c : Cadence) : Type 0 where
-  pub start : c.start.0 ≤ 253402300799
-  pub end : c.end.0 ≤ 253402300799
-  pub period : c.period ≤ 15552000
-  pub jitter : c.jitter ≤ 15552000

@@ -1,5 +1,5 @@
 -- How long a request takes on an instrument.
-use Rattle.std.specs.Prelude.{ℕ, ◌+◌, ◌*◌, ◌≤◌, nat_le, List, length, All, sum_by, Result, Ok, Err, if◌then◌else◌}
+use Rattle.std.specs.Prelude.{ℕ, ◌+◌, ◌*◌, ◌≤◌, nat_le, List, sum_by, Result, Ok, Err, if◌then◌else◌}
 use Rattle.std.specs.Int.{div_ceil}
 use Rattle.request_model.specs.declared.request.Exposure.{Exposure}
 use Rattle.request_model.specs.declared.request.ConfigDoc.{ConfigDoc}
@@ -36,18 +36,3 @@ pub record IsOverhead (instrument : Instrument) : Type 0 where
   pub config : instrument.config_ms ≤ 86400000
   pub readout : instrument.readout_ms ≤ 86400000
   pub change : instrument.change_ms ≤ 86400000
-
--- an exposure takes a day at most, and there are 10,000 at most
-pub record IsShort (e : Exposure) : Type 0 where
-  pub ms : e.ms ≤ 86400000
-  pub count : e.count ≤ 10000
-
--- a configuration has 16 kinds of exposures at most
-pub record IsSmall (c : ConfigDoc) : Type 0 where
-  pub few : length c.exposures ≤ 16
-  pub short : All IsShort c.exposures
-
--- a request has 16 configurations at most
-pub record IsFew (configurations : List ConfigDoc) : Type 0 where
-  pub few : length configurations ≤ 16
-  pub small : All IsSmall configurations

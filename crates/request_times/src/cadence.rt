@@ -1,8 +1,10 @@
 // The windows of a cadence.
 
-ghost use Rattle.std.specs.Prelude.{◌≡◌, ◌≢◌, ◌+◌, ◌<◌, ◌≤◌, ◌^◌, true, IfOk, IfErr, Ok, Err};
+ghost use Rattle.std.specs.Prelude.{◌≡◌, ◌≢◌, ◌+◌, ◌<◌, ◌≤◌, ◌^◌, length, true, IfOk, IfErr, Ok, Err};
+ghost use Rattle.plan_json.specs.Ranges.{IsBetween};
+ghost use Rattle.request_model.specs.Ranges.{IsCadence};
 ghost use Rattle.request_times.specs.declared.fault.TimeFault.TheVariants.{NoMemory};
-ghost use Rattle.request_times.specs.Cadence.{centre, centre_count, window, is_long, windows_of, is_cadence, expansion, IsInRange};
+ghost use Rattle.request_times.specs.Cadence.{centre, centre_count, window, is_long, windows_of, is_cadence, expansion};
 
 use crate::fault::TimeFault;
 use plan_base::{Sec, Span};
@@ -18,11 +20,12 @@ const MOST_CENTRES: u64 = 256;
 /// [`TimeFault::TooManyWindows`] where there are more than 256 centres; then with [`TimeFault::BadCadence`] where no
 /// window is left; and for want of memory, where there are windows to make.
 pub fn expand_cadence(alloc: Global, cadence: Cadence, seconds: u32) -> Result<Vec<Span>, TimeFault>
-    requires range { IsInRange cadence }
+    requires range { IsCadence cadence }
     requires seconds { seconds ≤ 86400 }
     ensures value { IfOk result (λ windows. expansion cadence seconds ≡ Ok windows.items) }
     ensures fault { IfErr result (λ e. e ≢ NoMemory → expansion cadence seconds ≡ Err e) }
     ensures memory { IfErr result (λ e. e ≡ NoMemory → (is_cadence cadence ≡ true) × (centre_count cadence ≤ 256)) }
+    ensures count { IfOk result (λ windows. IsBetween 1 256 (length windows.items)) }
 {
     if !is_cadence(cadence) {
         return Err(TimeFault::BadCadence);
@@ -61,9 +64,10 @@ fn windows_of(
     seconds: u32,
     count: u32,
 ) -> Result<Vec<Span>, AllocError>
-    requires range { IsInRange cadence }
+    requires range { IsCadence cadence }
     requires seconds { seconds ≤ 86400 }
-    ensures { IfOk result (λ windows. windows.items ≡ windows_of cadence seconds count) }
+    ensures value { IfOk result (λ windows. windows.items ≡ windows_of cadence seconds count) }
+    ensures few { IfOk result (λ windows. length windows.items ≤ count) }
 {
     (0..count)
         .map(|k| window_at(cadence, k))
@@ -80,7 +84,7 @@ fn is_long(window: Span, seconds: u32) -> bool
 
 /// The window round a centre.
 fn window_at(cadence: Cadence, k: u32) -> Span
-    requires { IsInRange cadence }
+    requires { IsCadence cadence }
     ensures { result ≡ window cadence (centre cadence k) }
 {
     let centre = centre(cadence, k);
@@ -95,7 +99,7 @@ fn window_at(cadence: Cadence, k: u32) -> Span
 
 #[tactic(auto, using(crate::proofs::Centres::product_fits))]
 fn centre(cadence: Cadence, k: u32) -> u64
-    requires { IsInRange cadence }
+    requires { IsCadence cadence }
     ensures value { result ≡ centre cadence k }
     ensures small { result < 2 ^ 60 }
 {

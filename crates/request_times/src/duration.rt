@@ -1,7 +1,9 @@
 // How long a request takes.
 
-ghost use Rattle.std.specs.Prelude.{◌≡◌, ◌+◌, ◌≤◌, length, All, sum_by};
-ghost use Rattle.request_times.specs.Duration.{exposure_ms, configuration_ms, request_ms, request_seconds, duration, IsOverhead, IsShort, IsSmall, IsFew};
+ghost use Rattle.std.specs.Prelude.{◌≡◌, ◌+◌, ◌≤◌, length, All, sum_by, IfOk};
+ghost use Rattle.plan_json.specs.Ranges.{IsBetween};
+ghost use Rattle.request_model.specs.Ranges.{IsExposure, AreConfigurations};
+ghost use Rattle.request_times.specs.Duration.{exposure_ms, configuration_ms, request_ms, duration, IsOverhead};
 
 use crate::fault::TimeFault;
 use crate::instrument::Instrument;
@@ -15,8 +17,9 @@ const MOST_SECONDS: u64 = 86_400;
 /// [`TimeFault::TooLong`] where that is more than a day, and with nothing else.
 pub fn seconds_of(request: &RequestDoc, instrument: Instrument) -> Result<u32, TimeFault>
     requires overhead { IsOverhead instrument }
-    requires few { IsFew request.now.configurations }
-    ensures { result ≡ duration instrument request.now.configurations }
+    requires range { AreConfigurations request.now.configurations }
+    ensures value { result ≡ duration instrument request.now.configurations }
+    ensures least { IfOk result (λ seconds. 1 ≤ seconds) }
 {
     let configurations = request.configurations.as_slice();
     let seconds = request_ms(instrument, configurations).div_ceil(1000);
@@ -29,9 +32,10 @@ pub fn seconds_of(request: &RequestDoc, instrument: Instrument) -> Result<u32, T
 
 fn request_ms(instrument: Instrument, configurations: &[ConfigDoc]) -> u64
     requires overhead { IsOverhead instrument }
-    requires few { IsFew configurations.now }
+    requires range { AreConfigurations configurations.now }
     ensures value { result ≡ request_ms instrument configurations.now }
     ensures small { result ≤ 443_000_000_000_000 }
+    ensures least { 1 ≤ result }
 {
     let mut sum = u64::from(instrument.front_ms);
     for configuration in configurations {
@@ -42,10 +46,11 @@ fn request_ms(instrument: Instrument, configurations: &[ConfigDoc]) -> u64
 
 fn configuration_ms(instrument: Instrument, exposures: &[Exposure]) -> u64
     requires overhead { IsOverhead instrument }
-    requires few { length exposures.now ≤ 16 }
-    requires short { All IsShort exposures.now }
+    requires count { IsBetween 1 16 (length exposures.now) }
+    requires range { All IsExposure exposures.now }
     ensures value { result ≡ instrument.config_ms + sum_by (exposure_ms instrument) exposures.now }
     ensures small { result ≤ 27_650_000_000_000 }
+    ensures least { 1 ≤ result }
 {
     let mut sum = u64::from(instrument.config_ms);
     for exposure in exposures {
@@ -56,9 +61,10 @@ fn configuration_ms(instrument: Instrument, exposures: &[Exposure]) -> u64
 
 fn exposure_ms(instrument: Instrument, exposure: Exposure) -> u64
     requires overhead { IsOverhead instrument }
-    requires short { IsShort exposure }
+    requires range { IsExposure exposure }
     ensures value { result ≡ exposure_ms instrument exposure }
     ensures small { result ≤ 1_728_086_400_000 }
+    ensures least { 1 ≤ result }
 {
     let each = u64::from(exposure.ms) + u64::from(instrument.readout_ms);
     u64::from(exposure.count) * each + u64::from(instrument.change_ms)

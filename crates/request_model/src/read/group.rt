@@ -110,7 +110,8 @@ fn read_members(alloc: Global, doc: &Doc) -> Result<GroupDoc, GroupFault>
 /// - `name`, `proposal`: texts of 1 to 128 bytes.
 /// - `operator`: `SINGLE`, `MANY`, `ONEOF` or `AND`.
 /// - `observation_type`: `NORMAL`, `TIME_CRITICAL` or `RAPID_RESPONSE`.
-/// - `ipp_thousandths`: 500 to 2,000, by default 1,000; but it is missing where the portal's `ipp_value` stands alone.
+/// - `ipp_thousandths`, the intra-proposal priority: 500 to 2,000, by default 1,000; but it is missing where the
+///   portal's `ipp_value` stands alone.
 /// - `priority`: 1 to 100, by default 10.
 /// - `requests`: one for `SINGLE`, 2 to 32 for the others, of which each has
 ///   - `location`: `telescope_class`, and where they are given `site`, `enclosure`, `telescope`, texts as above;

@@ -1,5 +1,5 @@
-// What stands at the edges of the ranges, each fault at its place, and documents with two faults, of which the first in the
-// order of reading is answered, wherever it stands in the text.
+// What stands at the edges of the ranges, each fault at its place, and documents with two faults, of which the first in
+// the order of reading is answered, wherever it stands in the text.
 
 use super::{PORTAL, fault_with};
 use crate::GroupFault;

@@ -1,7 +1,6 @@
 // Which windows cadences have.
 
 ghost use Rattle.std.specs.Prelude.{◌≤◌};
-ghost use Rattle.request_times.specs.Cadence.{IsInRange};
 
 use crate::{TimeFault, expand_cadence};
 use plan_base::{Sec, Span};

@@ -1,7 +1,9 @@
 // How long requests take.
 
-ghost use Rattle.std.specs.Prelude.{◌≡◌, ◌≤◌, length, All, IfOk};
-ghost use Rattle.request_times.specs.Duration.{IsOverhead, IsShort, IsSmall, IsFew};
+ghost use Rattle.std.specs.Prelude.{◌≡◌, length, All, IfOk};
+ghost use Rattle.plan_json.specs.Ranges.{IsBetween, IsText};
+ghost use Rattle.request_model.specs.Ranges.{IsExposure, IsConfiguration, AreConfigurations};
+ghost use Rattle.request_times.specs.Duration.{IsOverhead};
 
 use crate::{Instrument, TimeFault, seconds_of};
 use plan_base::{ListOf, Name};
@@ -15,8 +17,8 @@ use std::test::Fail;
 struct Kind {
     count: u32,
     ms: u32,
-    ghost few: { count ≤ 10000 },
-    ghost short: { ms ≤ 86400000 },
+    ghost some: { IsBetween 1 10000 count },
+    ghost long: { IsBetween 1 86400000 ms },
 }
 
 /// So many configurations of the same exposures, and how long they take.
@@ -25,8 +27,8 @@ struct Row<'a> {
     configurations: u32,
     kinds: &'a [Kind],
     duration: Result<u32, TimeFault>,
-    ghost few: { configurations ≤ 16 },
-    ghost few_kinds: { length kinds.now ≤ 16 },
+    ghost some: { IsBetween 1 16 configurations },
+    ghost some_kinds: { IsBetween 1 16 (length kinds.now) },
 }
 
 const NONE: Instrument = Instrument {
@@ -54,15 +56,15 @@ const DAYS: Instrument = Instrument {
 const DAY: u32 = 86_400_000;
 
 fn exposed(count: u32, ms: u32) -> Kind
-    requires few { count ≤ 10000 }
-    requires short { ms ≤ 86400000 }
+    requires some { IsBetween 1 10000 count }
+    requires long { IsBetween 1 86400000 ms }
 {
     Kind { count, ms }
 }
 
 fn asked(configurations: u32, kinds: &[Kind], duration: Result<u32, TimeFault>) -> Row
-    requires few { configurations ≤ 16 }
-    requires few_kinds { length kinds.now ≤ 16 }
+    requires some { IsBetween 1 16 configurations }
+    requires some_kinds { IsBetween 1 16 (length kinds.now) }
 {
     Row {
         configurations,
@@ -73,7 +75,7 @@ fn asked(configurations: u32, kinds: &[Kind], duration: Result<u32, TimeFault>) 
 
 fn exposures(alloc: Global, kinds: &[Kind]) -> Result<ListOf<Exposure>, AllocError>
     ensures count { IfOk result (λ list. length list ≡ length kinds.now) }
-    ensures short { IfOk result (λ list. All IsShort list) }
+    ensures range { IfOk result (λ list. All IsExposure list) }
 {
     let mut list = ListOf::new(alloc);
     for kind in kinds {
@@ -86,8 +88,8 @@ fn exposures(alloc: Global, kinds: &[Kind]) -> Result<ListOf<Exposure>, AllocErr
 }
 
 fn configuration(alloc: Global, kinds: &[Kind]) -> Result<ConfigDoc, Fail>
-    requires { length kinds.now ≤ 16 }
-    ensures { IfOk result IsSmall }
+    requires { IsBetween 1 16 (length kinds.now) }
+    ensures { IfOk result IsConfiguration }
 {
     Ok(ConfigDoc {
         target: name(alloc)?,
@@ -96,7 +98,7 @@ fn configuration(alloc: Global, kinds: &[Kind]) -> Result<ConfigDoc, Fail>
 }
 
 fn configurations(alloc: Global, row: &Row) -> Result<ListOf<ConfigDoc>, Fail>
-    ensures { IfOk result IsFew }
+    ensures { IfOk result AreConfigurations }
 {
     let mut list = ListOf::new(alloc);
     for _ in 0..row.configurations {
@@ -105,7 +107,9 @@ fn configurations(alloc: Global, row: &Row) -> Result<ListOf<ConfigDoc>, Fail>
     Ok(list)
 }
 
-fn name(alloc: Global) -> Result<Name, Fail> {
+fn name(alloc: Global) -> Result<Name, Fail>
+    ensures { IfOk result IsText }
+{
     let Some(name) = Name::new(alloc, "name")? else {
         return Err(Fail::new("the name is too long"));
     };
@@ -113,7 +117,7 @@ fn name(alloc: Global) -> Result<Name, Fail> {
 }
 
 fn request(alloc: Global, row: &Row) -> Result<RequestDoc, Fail>
-    ensures { IfOk result (λ request. IsFew request.configurations) }
+    ensures { IfOk result (λ request. AreConfigurations request.configurations) }
 {
     Ok(RequestDoc {
         location: Location {
