@@ -1,7 +1,7 @@
 -- From the prices of a group's requests to what it takes.
-use Rattle.std.proofs.Common.{◌≡◌, ℕ, zero, suc, ◌<◌, ◌≤◌, Bool, true, false, cond, ◌&&◌, nat_lt, int_lt, int_le, ℤ, pos, List, [], ◌∷◌, length, map, take, drop, slice_index_or, None, All, AllPairs, refl, sym, ◌∙◌, ap, subst, arith}
+use Rattle.std.proofs.Common.{◌≡◌, ℕ, zero, suc, ◌<◌, ◌≤◌, Bool, true, false, ◌&&◌, nat_lt, int_lt, int_le, ℤ, pos, List, [], ◌∷◌, length, map, take, drop, slice_index_or, None, All, AllPairs, refl, sym, ◌∙◌, ap, subst, arith}
 use Rattle.std.specs.List.{list_all}
-use Rattle.std.specs.Prelude.{if◌then◌else◌, HoldsAt}
+use Rattle.std.specs.Prelude.{if◌then◌else◌}
 use Rattle.std.proofs.lemmas.Bool.Decides.{nat_tests}
 use Rattle.std.proofs.lemmas.List.{get_or-map}
 use Rattle.std.proofs.lemmas.List.Elements.{All-cons, All-head, All-tail, Contains-get_or}
@@ -9,8 +9,7 @@ use Rattle.plan_base.specs.declared.parts.Parts.{Parts}
 use Rattle.plan_base.specs.declared.parts.GroupPart.{GroupPart}
 use Rattle.plan_base.specs.declared.parts.Op.{Op}
 use Rattle.plan_base.specs.declared.parts.Op.TheVariants.{Single, Many, OneOf, And}
-use Rattle.plan_base.specs.Sums.{total}
-use Rattle.plan_base.specs.Requests.{group_of, members, IsKind, IsOf}
+use Rattle.plan_base.specs.Requests.{members, IsKind, IsOf}
 use Rattle.plan_base.specs.Snapshot.{IsOrderly}
 use Rattle.plan_base.specs.Bound.{price}
 use Rattle.plan_base.specs.Round.{op_at, takes, is_taken}

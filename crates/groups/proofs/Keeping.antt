@@ -1,9 +1,9 @@
 -- What a plan that is being built keeps as placements are added and removed.
-use Rattle.std.proofs.Common.{◌≡◌, ℕ, ◌+◌, ◌-◌, ◌*◌, ◌<◌, ◌≤◌, ◌↔◌, IsTrue, not, take, drop, ◌==◌, Bool, true, false, cond, ◌⊎◌, inl, inr, List, [], ◌∷◌, ◌++◌, length, replicate, map, slice_index_or, filter, sum_by, Option, None, Some, All, Contains, find, refl, sym, ◌∙◌, ap, subst, arith}
+use Rattle.std.proofs.Common.{◌≡◌, ℕ, ◌+◌, ◌-◌, ◌*◌, ◌<◌, ◌≤◌, ◌↔◌, IsTrue, not, take, drop, ◌==◌, Bool, true, false, cond, ◌⊎◌, inl, inr, List, [], ◌∷◌, ◌++◌, length, replicate, slice_index_or, Option, None, Some, Contains, find, refl, sym, ◌∙◌, ap, subst, arith}
 use Rattle.std.proofs.lemmas.List.{length_push, length-replicate, length-take, length-drop, get_or-replicate, get_or-take, get_or-drop, get_or_default, get_or_past}
 use Rattle.std.proofs.lemmas.List.Sums.{AllPass-from_list_all, list_all-from_AllPass}
 use Rattle.std.specs.List.{list_all, slice_range}
-use Rattle.std.proofs.lemmas.List.Elements.{All-nil, All-contains}
+use Rattle.std.proofs.lemmas.List.Elements.{All-nil}
 use Rattle.std.proofs.lemmas.Bool.{eqb-true, eq-eqb}
 use Rattle.plan_base.specs.declared.parts.Parts.{Parts}
 use Rattle.plan_base.specs.declared.parts.Op.TheVariants.{OneOf}
@@ -16,15 +16,14 @@ use Rattle.plan_base.specs.FeasibleSoFar.{IsFeasibleSoFar}
 use Rattle.plan_base.proofs.Adding.{so_far_push, fits_from_push}
 use Rattle.plan_base.proofs.Removing.{so_far_filter}
 use Rattle.plan_base.proofs.Lists.{contains_map}
-use Rattle.plan_base.proofs.Members.{contains_from_map}
 use Rattle.plan_base.proofs.Orders.{contains_cases, contains_first, contains_rest}
 use Rattle.groups.specs.declared.footprint.Footprint.{Footprint}
 use Rattle.groups.specs.declared.tables.Tables.{Tables}
 use Rattle.groups.specs.Footprints.{IsFootprint}
-use Rattle.groups.specs.Tables.{flag, AreTables, IsInTables, HasRoom, IsLeftOut, IsTakenUp, TellsMore}
+use Rattle.groups.specs.Tables.{flag, AreTables, IsInTables, HasRoom, IsTakenUp, TellsMore}
 use Rattle.groups.specs.Building.{without}
 use Rattle.groups.specs.Kept.{IsKept}
-use Rattle.groups.proofs.Shares.{AddsUp, adds_up_push, adds_up_without, not_placed}
+use Rattle.groups.proofs.Shares.{adds_up_push, adds_up_without}
 use Rattle.groups.proofs.Told.{tables_more, tables_less, taken_up}
 use Rattle.groups.proofs.Rooms.{fits_from_room, room_from_fits, placed_at_most}
 

@@ -3,7 +3,7 @@ use Rattle.std.proofs.Common.{◌≡◌, ◌≢◌, ℕ, ◌+◌, ◌<◌, ◌�
 use Rattle.std.proofs.lemmas.Bool.{eqb-true, eq-eqb}
 use Rattle.std.proofs.lemmas.Bool.Decides.{eqb_tells}
 use Rattle.std.proofs.lemmas.List.{length-map, get_or-map, get_or_past}
-use Rattle.std.proofs.lemmas.List.Elements.{All-nil, All-cons, All-head, All-tail, All-filter, All-map, All-contains, Contains-get_or, filter_passes}
+use Rattle.std.proofs.lemmas.List.Elements.{All-nil, All-cons, All-filter, All-map, All-contains, Contains-get_or, filter_passes}
 use Rattle.std.proofs.lemmas.List.Kept.{AllPairs-cons, AllPairs-filter}
 use Rattle.std.proofs.lemmas.List.Sums.{sum_by-cons}
 use Rattle.std.specs.Prelude.{HoldsAt}
@@ -13,10 +13,9 @@ use Rattle.plan_base.specs.declared.parts.Op.TheVariants.{Single, And}
 use Rattle.plan_base.specs.declared.claim.Placement.{Placement}
 use Rattle.plan_base.specs.Requests.{IsKnown, group_of, IsOf, IsKind, members_of, members, AllOrNone}
 use Rattle.plan_base.specs.Snapshot.{IsOrderly}
-use Rattle.plan_base.specs.Feasible.{requests_of, IsAndWhole, IsFeasible}
+use Rattle.plan_base.specs.Feasible.{requests_of, IsFeasible}
 use Rattle.plan_base.specs.FeasibleSoFar.{IsFeasibleSoFar}
-use Rattle.plan_base.proofs.Rebates.{AreMembers}
-use Rattle.plan_base.proofs.Members.{are_members, contains_from_map}
+use Rattle.plan_base.proofs.Members.{are_members}
 use Rattle.plan_base.proofs.Lists.{contains_filter, contains_map, length_among}
 use Rattle.plan_base.proofs.Orders.{contains_cases, contains_first, contains_rest}
 use Rattle.plan_base.proofs.Adding.{feasible_from_whole}

@@ -1,5 +1,5 @@
 -- The tables tell which requests are placed, and of which groups none is.
-use Rattle.std.proofs.Common.{◌≡◌, ℕ, ◌<◌, ◌⊎◌, inl, inr, Bool, true, false, cond, ◌==◌, nat_eq, List, length, slice_index_or, sum_by, All, Contains, refl, sym, ◌∙◌, ap, subst, arith}
+use Rattle.std.proofs.Common.{◌≡◌, ℕ, ◌<◌, ◌⊎◌, inl, inr, Bool, true, false, cond, nat_eq, List, slice_index_or, sum_by, Contains, refl, sym, ◌∙◌, ap, subst, arith}
 use Rattle.std.proofs.lemmas.Bool.{eq-eqb, eqb-true}
 use Rattle.std.proofs.lemmas.List.{get_or_default}
 use Rattle.std.proofs.lemmas.List.Elements.{All-contains}
@@ -11,11 +11,10 @@ use Rattle.plan_base.specs.Feasible.{requests_of}
 use Rattle.plan_base.specs.FeasibleSoFar.{IsFeasibleSoFar}
 use Rattle.plan_base.specs.Saturated.{HasNonePlaced}
 use Rattle.plan_base.proofs.Lists.{contains_map}
-use Rattle.plan_base.proofs.Known.{IsListedAs, known_as}
+use Rattle.plan_base.proofs.Known.{known_as}
 use Rattle.plan_base.proofs.Members.{contains_from_map, is_of_member, member_is_of}
-use Rattle.plan_base.proofs.Orders.{contains_cases}
 use Rattle.std.proofs.lemmas.List.Elements.{Contains-get_or}
-use Rattle.groups.specs.Tables.{flag, same, AreTables}
+use Rattle.groups.specs.Tables.{flag, same}
 use Rattle.groups.proofs.Shares.{sum_zero, sum_above}
 use Rattle.groups.proofs.Told.{same_self, same_above}
 use Rattle.groups.proofs.Opens.{none_when_none}

@@ -1,5 +1,5 @@
 -- What is said of a rebate.
-use Rattle.std.proofs.Common.{◌≡◌, ℕ, ◌≤◌, inr, ℤ, pos, ◌≤ℤ◌, List, [], length, subst, arith}
+use Rattle.std.proofs.Common.{◌≡◌, ℕ, inr, ℤ, pos, ◌≤ℤ◌, List, [], length, subst, arith}
 use Rattle.std.proofs.lemmas.List.Elements.{All-nil}
 use Rattle.plan_base.specs.declared.parts.Parts.{Parts}
 use Rattle.plan_base.specs.Requests.{listed, IsOf}

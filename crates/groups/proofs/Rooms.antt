@@ -1,32 +1,29 @@
 -- Where there is room in the tables, a placement can be added, and where it can be added there is room.
 use Rattle.std.proofs.Common.{◌≡◌, ◌≢◌, ℕ, ◌+◌, ◌-◌, ◌*◌, ◌^◌, ◌<◌, ◌≤◌, ◌⊎◌, inl, inr, Bool, true, false, cond, ◌==◌, List, [], ◌∷◌, ◌++◌, length, map, slice_index_or, sum_by, Option, None, Some, All, Contains, refl, sym, ◌∙◌, ap, subst, arith}
 use Rattle.std.proofs.lemmas.Nat.{mul-le}
-use Rattle.std.proofs.lemmas.Bool.{eq-eqb}
 use Rattle.std.proofs.lemmas.Bool.Decides.{eqb_tells}
 use Rattle.std.proofs.lemmas.List.{length-map, get_or_default}
 use Rattle.std.proofs.lemmas.List.Elements.{All-map}
-use Rattle.std.proofs.lemmas.List.Sums.{sum_by-le, get_or-le-sum_by}
-use Rattle.std.specs.Prelude.{HoldsAt}
+use Rattle.std.proofs.lemmas.List.Sums.{sum_by-le}
 use Rattle.plan_base.specs.declared.parts.Parts.{Parts}
-use Rattle.plan_base.specs.declared.parts.GroupPart.{GroupPart}
 use Rattle.plan_base.specs.declared.parts.Op.{Op}
-use Rattle.plan_base.specs.declared.parts.Op.TheVariants.{Single, OneOf}
+use Rattle.plan_base.specs.declared.parts.Op.TheVariants.{OneOf}
 use Rattle.plan_base.specs.declared.fault.Counted.TheVariants.{Requests}
 use Rattle.plan_base.specs.declared.number.TelescopeNo.{TelescopeNo}
 use Rattle.plan_base.specs.declared.claim.Placement.{Placement}
-use Rattle.plan_base.specs.Requests.{Listed, listed, place_of, IsKnown, group_of, quota_of, seconds_of, IsOf, IsKind}
+use Rattle.plan_base.specs.Requests.{Listed, listed, place_of, IsKnown, group_of, quota_of, seconds_of, IsKind}
 use Rattle.plan_base.specs.Snapshot.{IsOrderly}
 use Rattle.plan_base.specs.Starts.{IsPossibleStart, ShareSlice, size_of}
 use Rattle.plan_base.specs.Feasible.{requests_of, AreOfOneOneOf, is_quota, quota_seconds, quota_at}
 use Rattle.plan_base.specs.FeasibleSoFar.{IsFeasibleSoFar}
-use Rattle.plan_base.proofs.Known.{IsListedAs, known_as, known_has, group_known, quota_known}
+use Rattle.plan_base.proofs.Known.{IsListedAs, known_as, known_has, quota_known}
 use Rattle.plan_base.proofs.Rebates.{one_kind}
 use Rattle.plan_base.proofs.Lists.{contains_map, length_among}
-use Rattle.plan_base.proofs.Adding.{FitsPlan, fits_from_push, so_far_push, seconds_towards}
+use Rattle.plan_base.proofs.Adding.{FitsPlan, fits_from_push, seconds_towards}
 use Rattle.groups.specs.declared.footprint.Footprint.{Footprint}
 use Rattle.groups.specs.declared.tables.Tables.{Tables}
 use Rattle.groups.specs.Footprints.{first_slot, end_slot, IsFootprint}
-use Rattle.groups.specs.Tables.{flag, within, same, towards, AreTables, HasRoom, IsLeftOut}
+use Rattle.groups.specs.Tables.{within, same, AreTables, HasRoom, IsLeftOut}
 use Rattle.plan_base.proofs.GroupRebates.{all_from_map}
 use Rattle.groups.proofs.Shares.{sum_zero, zero_sum}
 use Rattle.groups.proofs.Told.{within_inside, within_above, same_self, same_above, flag_zero, flag_false, towards_named, seconds_told}

@@ -1,19 +1,16 @@
 -- Tables that tell of a plan, with a placement more or less.
-use Rattle.std.proofs.Common.{◌≡◌, ◌≢◌, ℕ, ◌+◌, ◌-◌, ◌*◌, ◌^◌, ◌<◌, ◌≤◌, inl, inr, Bool, true, false, cond, ◌==◌, ◌&&◌, nat_le, nat_lt, List, [], ◌∷◌, ◌++◌, length, map, slice_index_or, filter, sum_by, Option, None, Some, All, Contains, refl, sym, ◌∙◌, ap, subst, arith}
-use Rattle.std.proofs.lemmas.Bool.{eqb-true, eq-eqb}
+use Rattle.std.proofs.Common.{◌≡◌, ℕ, ◌+◌, ◌-◌, ◌*◌, ◌<◌, ◌≤◌, inl, inr, Bool, true, false, cond, List, [], ◌∷◌, length, slice_index_or, filter, sum_by, Option, Some, refl, sym, ◌∙◌, ap, arith}
+use Rattle.std.proofs.lemmas.Bool.{eq-eqb}
 use Rattle.std.proofs.lemmas.Bool.Decides.{nat_tests, eqb_tells}
-use Rattle.std.proofs.lemmas.List.{length-map, get_or_default}
 use Rattle.std.proofs.lemmas.Nat.{mul-le}
-use Rattle.std.proofs.lemmas.List.Sums.{sum_by-cons, sum_by-le}
+use Rattle.std.proofs.lemmas.List.Sums.{sum_by-cons}
 use Rattle.plan_base.specs.declared.parts.Parts.{Parts}
 use Rattle.plan_base.specs.declared.claim.Placement.{Placement}
-use Rattle.plan_base.specs.Requests.{listed, place_of, IsKnown, group_of, quota_of, seconds_of}
+use Rattle.plan_base.specs.Requests.{place_of, IsKnown, group_of, quota_of, seconds_of}
 use Rattle.plan_base.specs.Snapshot.{IsOrderly}
 use Rattle.plan_base.specs.Starts.{IsPossibleStart, size_of}
-use Rattle.plan_base.specs.Feasible.{requests_of, is_quota, quota_seconds, quota_at}
-use Rattle.plan_base.specs.FeasibleSoFar.{IsFeasibleSoFar}
+use Rattle.plan_base.specs.Feasible.{requests_of, is_quota, quota_seconds}
 use Rattle.plan_base.proofs.Known.{group_known, quota_known, telescope_known}
-use Rattle.plan_base.proofs.Adding.{seconds_towards, quota_seconds_push}
 use Rattle.groups.specs.declared.footprint.Footprint.{Footprint}
 use Rattle.groups.specs.declared.tables.Tables.{Tables}
 use Rattle.groups.specs.Footprints.{first_slot, end_slot, IsFootprint}

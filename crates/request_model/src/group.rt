@@ -15,7 +15,7 @@ pub enum ObsKind {
 }
 
 /// A request group, as its document has it.
-#[derive(Debug, Drop, PartialEq, Eq)]
+#[derive(Clone, Debug, Drop, PartialEq, Eq)]
 pub struct GroupDoc {
     pub name: Name,
     /// The proposal that is charged.

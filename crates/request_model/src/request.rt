@@ -1,10 +1,13 @@
 // The requests of a group, with where, when and how long to observe.
 
+ghost use Rattle.std.specs.Prelude.{◌≡◌, IfOk};
+
 use plan_base::{ListOf, Name, Sec, Span};
+use std::alloc::AllocError;
 
 /// Where a request may be observed: on telescopes of a class and, where they are named, at that site, in that
 /// enclosure, on that telescope.
-#[derive(Debug, Drop, PartialEq, Eq)]
+#[derive(Clone, Debug, Drop, PartialEq, Eq)]
 pub struct Location {
     pub class: Name,
     pub site: Option<Name>,
@@ -25,7 +28,7 @@ pub struct Cadence {
 }
 
 /// When a request may be observed.
-#[derive(Debug, Drop, PartialEq, Eq)]
+#[derive(Clone, Debug, Drop, PartialEq, Eq)]
 pub enum When {
     /// Inside one of these, 1 to 32, each of which has a second.
     Windows(ListOf<Span>),
@@ -43,7 +46,7 @@ pub struct Exposure {
 }
 
 /// What is taken of one target.
-#[derive(Debug, Drop, PartialEq, Eq)]
+#[derive(Clone, Debug, Drop, PartialEq, Eq)]
 pub struct ConfigDoc {
     pub target: Name,
     /// 1 to 16, taken in this order.
@@ -63,4 +66,36 @@ pub struct RequestDoc {
     pub threshold: u8,
     /// The thousandths of the value, 0 to 1,000, that are lost with each slice of delay.
     pub fade: u16,
+}
+
+impl Location {
+    fn copy(&self) -> Result<Location, AllocError>
+        ensures { IfOk result (λ copy. copy ≡ self.now) }
+    {
+        self.clone()
+    }
+}
+
+impl When {
+    fn copy(&self) -> Result<When, AllocError>
+        ensures { IfOk result (λ copy. copy ≡ self.now) }
+    {
+        self.clone()
+    }
+}
+
+// By hand, since a derived one says too little for a list of requests to be known as equal.
+impl Clone for RequestDoc {
+    ghost is_clone = { λ x y. y ≡ x };
+
+    fn clone(&self) -> Result<RequestDoc, AllocError> {
+        Ok(RequestDoc {
+            location: self.location.copy()?,
+            when: self.when.copy()?,
+            instrument: self.instrument.clone()?,
+            configurations: self.configurations.clone()?,
+            threshold: self.threshold,
+            fade: self.fade,
+        })
+    }
 }

@@ -129,7 +129,7 @@ fn of_one_type(alloc: Global, index: u32, typed: Vec<Typed>) -> Result<OfOneType
     if !are_of_type(&typed, &first.instrument) {
         return Err(GroupFault::MixedInstruments { index });
     }
-    let instrument = first.instrument.copy(alloc)?;
+    let instrument = first.instrument.clone()?;
     let configurations = without_types(alloc, typed)?;
     Ok(OfOneType {
         instrument,

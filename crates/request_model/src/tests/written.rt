@@ -7,7 +7,7 @@ use std::test::Fail;
 
 /// The document of a copy of the group that the text is read as.
 fn rewritten(alloc: Global, text: &str) -> Result<Vec<u8>, Fail> {
-    let group = group(alloc, text)?.copy(alloc)?;
+    let group = group(alloc, text)?.copy()?;
     Ok(write_group(alloc, &group)?)
 }
 

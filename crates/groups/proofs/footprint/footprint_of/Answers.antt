@@ -1,4 +1,4 @@
-use Rattle.std.proofs.Common.{◌≡◌, ℕ, ◌+◌, refl, ap, ◌∙◌, slice_index_or, List, arith}
+use Rattle.std.proofs.Common.{◌≡◌, refl, ap, ◌∙◌, slice_index_or, List, arith}
 use Rattle.plan_base.specs.declared.parts.Parts.{Parts}
 use Rattle.plan_base.specs.declared.parts.GroupPart.{GroupPart}
 use Rattle.plan_base.specs.Requests.{seconds_of}

@@ -1,5 +1,4 @@
-use Rattle.std.proofs.Common.{ℕ, ◌+◌, drop, slice_index_or}
-use Rattle.plan_base.specs.declared.claim.Placement.{Placement}
+use Rattle.std.proofs.Common.{◌+◌, drop}
 use Rattle.groups.proofs.Shares.{adds_up_rest}
 use Rattle.groups.proofs.Told.{in_tables, tables_less, taken_up}
 use Rattle.groups.proofs.plan.release_all.Goals as goal

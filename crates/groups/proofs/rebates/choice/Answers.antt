@@ -1,4 +1,4 @@
-use Rattle.std.proofs.Common.{◌≡◌, ℕ, ◌<◌, ℤ, pos, List, length, slice_index_or, refl, ◌∙◌, sym, ap, subst, arith, rules, w64}
+use Rattle.std.proofs.Common.{◌≡◌, ℕ, ◌<◌, ℤ, pos, List, length, slice_index_or, refl, ◌∙◌, sym, ap, subst, rules, w64}
 use Rattle.std.proofs.lemmas.Int.{to_z-of_z}
 use Rattle.std.proofs.lemmas.List.{length-map}
 use Rattle.plan_base.specs.declared.parts.Parts.{Parts}

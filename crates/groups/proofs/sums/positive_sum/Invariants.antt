@@ -1,4 +1,3 @@
-use Rattle.std.proofs.Common.{◌≡◌, ◌*◌, ◌≤◌, pos, neg_ℤ, ◌+ℤ◌, ◌≤ℤ◌, drop}
 use Rattle.plan_base.specs.NetPrices.{positive}
 use Rattle.plan_base.proofs.Growing.{IsGrown}
 use Rattle.groups.proofs.sums.positive_sum.Given as goal

@@ -1,4 +1,3 @@
-use Rattle.std.proofs.Common.{◌≡◌, ◌*◌, ◌≤◌, pos, neg_ℤ, ◌+ℤ◌, ◌≤ℤ◌, drop}
 use Rattle.plan_base.proofs.Growing.{IsGrown}
 use Rattle.groups.proofs.sums.price_sum.Given as goal
 

@@ -1,4 +1,4 @@
-use Rattle.std.proofs.Common.{◌≡◌, ℕ, ◌<◌, nat_le, nat_lt, ◌&&◌, false, cond, length, slice_index_or}
+use Rattle.std.proofs.Common.{◌≡◌, ℕ, nat_le, nat_lt, ◌&&◌, false, cond, length, slice_index_or}
 use Rattle.groups.proofs.tables.set_flags.Given as goal
 
 abbrev pub invariant-loop-place : goal.invariant-loop-place

@@ -1,7 +1,7 @@
-use Rattle.std.proofs.Common.{◌≡◌, ◌<◌, ◌↔◌, false, true, Contains, IsTrue, length, slice_index_or, sym, ◌∙◌, ap, subst, arith}
+use Rattle.std.proofs.Common.{◌≡◌, ◌<◌, ◌↔◌, false, Contains, IsTrue, length, slice_index_or, sym, ◌∙◌, ap, subst}
 use Rattle.std.proofs.lemmas.Bool.{false≢true}
 use Rattle.std.proofs.lemmas.List.{get_or_default}
-use Rattle.plan_base.specs.Requests.{listed, place_of, IsKnown}
+use Rattle.plan_base.specs.Requests.{place_of, IsKnown}
 use Rattle.plan_base.specs.Feasible.{requests_of}
 use Rattle.groups.specs.Building.{Building}
 use Rattle.groups.proofs.PlacedFlags.{flag_tells, unknown_not_placed}

@@ -1,4 +1,4 @@
-use Rattle.std.proofs.Common.{◌≡◌, ◌==◌, true, false, List, None, Some, find, refl, ◌∙◌, sym, ap, subst, rules}
+use Rattle.std.proofs.Common.{◌≡◌, ◌==◌, true, false, List, None, Some, find, refl, ◌∙◌, sym, ap, rules}
 use Rattle.std.proofs.lemmas.Fn.{filter_same}
 use Rattle.std.proofs.lemmas.List.Elements.{All-contains}
 use Rattle.plan_base.specs.declared.claim.Placement.{Placement}

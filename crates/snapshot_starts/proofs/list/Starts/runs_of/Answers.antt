@@ -1,7 +1,7 @@
-use Rattle.std.proofs.Common.{◌≡◌, ℕ, ◌+◌, ◌-◌, ◌<◌, ◌≤◌, List, AllPairs, length, take, drop, nat_lt, nat_le, sym, ◌∙◌, ap, subst, arith}
+use Rattle.std.proofs.Common.{◌≡◌, ℕ, ◌+◌, ◌-◌, ◌≤◌, List, AllPairs, nat_le, sym, ◌∙◌, ap, subst, arith}
 use Rattle.plan_base.specs.declared.claim.Placement.{Placement}
 use Rattle.snapshot_starts.specs.declared.run.Run.{Run}
-use Rattle.snapshot_starts.specs.Runs.{IsRunBefore, AreRuns, starts_of, starts_with}
+use Rattle.snapshot_starts.specs.Runs.{IsRunBefore, AreRuns, starts_with}
 use Rattle.snapshot_starts.specs.Kept.{HoldsBelow}
 use Rattle.snapshot_starts.proofs.RunParts.{runs_with, runs_between, are_runs_of_part, no_fewer}
 use Rattle.snapshot_starts.proofs.list.Starts.runs_of.Goals as goal
