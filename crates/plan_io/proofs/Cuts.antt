@@ -1,11 +1,11 @@
 -- Where bytes are cut into lines.
-use Rattle.std.proofs.Common.{◌≡◌, ◌≢◌, ℕ, suc, ◌+◌, ◌-◌, ◌≤◌, ◌<◌, List, [], ◌∷◌, ◌++◌, length, take, drop, get_or, refl, sym, ◌∙◌, ap, subst, arith, append_assoc, append-nil, length-append, Bool, true, false, cond, nat_eq, nat_le, inl, inr, length-drop, length-take, get_or-drop, get_or-take}
+use Rattle.std.proofs.Common.{◌≡◌, ◌≢◌, ℕ, zero, suc, ◌+◌, ◌-◌, ◌≤◌, ◌<◌, List, [], ◌∷◌, ◌++◌, length, take, drop, get_or, refl, sym, ◌∙◌, ap, subst, arith, append_assoc, append-nil, length-append, Bool, true, false, cond, nat_eq, nat_le, nat_lt, IsTrue, ◌↔◌, inl, inr, length-drop, length-take, get_or-drop, get_or-take}
 use Rattle.std.proofs.lemmas.List.{drop_more}
-use Rattle.std.proofs.lemmas.Bool.{cond-false, ne_eqb, le-leb}
+use Rattle.std.proofs.lemmas.Bool.{cond-false, ne_eqb, le-leb, true≢false}
 use Rattle.std.proofs.lemmas.Bool.Decides.{leb_tells}
 use Rattle.plan_io.specs.declared.lines.ScriptLine.{ScriptLine}
 use Rattle.plan_io.specs.declared.lines.ScriptLine.TheVariants.{Bytes, TooLong}
-use Rattle.plan_io.specs.Newline.{NoNewline, EndsAt}
+use Rattle.plan_io.specs.Newline.{NoNewline, EndsAt, HasNewline}
 use Rattle.plan_io.specs.LinesOf.{line_of, last_of, lines_from, lines_of, after_newline}
 
 -- bytes with no newline join the open piece
@@ -89,3 +89,20 @@ none_from xs ys start n is none k low high e =
     let under : k - start < n = omega (arith, low, high) in
     let at : start + (k - start) ≡ k = omega (arith, low) in
     none (k - start) under (get_after xs ys start (k - start) is ∙ ap (λ (i : ℕ). get_or xs i 0) at ∙ e)
+
+-- no newline is found among bytes that have none
+pub none_stands : (n : ℕ) (bytes r : List ℕ) → NoNewline bytes → drop n bytes ≡ 10 ∷ r → ⊥
+none_stands n [] r h is = absurd (omega (arith, ap length is, length-drop {A = ℕ} n []))
+none_stands zero (b ∷ bs) r h is = h.0 (ap (λ (xs : List ℕ). get_or xs 0 0) is)
+none_stands (suc n) (b ∷ bs) r h is = none_stands n bs r h.1 is
+
+pub no_place : (bytes : List ℕ) → NoNewline bytes → HasNewline bytes → ⊥
+no_place bytes clear has = none_stands has.0 bytes (drop (has.0 + 1) bytes) clear has.1.newline
+
+-- a search that stopped before the end found one, and else there is none
+pub found_or_none : (bytes : List ℕ) (at len n : ℕ) → (at < len → EndsAt bytes n) → (len ≤ at → NoNewline bytes) → IsTrue (nat_lt at len) ↔ HasNewline bytes
+found_or_none bytes at len n ends clear =
+    elim (leb_tells (suc at) len) [
+      | inl t ↦ (λ yes. (n, ends (omega (arith, t.1))), λ has. t.0)
+      | inr t ↦ (λ yes. absurd (true≢false (sym yes ∙ t.0)), λ has. absurd (no_place bytes (clear (omega (arith, t.1))) has))
+    ]

@@ -9,20 +9,20 @@ use Rattle.plan_io.specs.declared.lines.LineAnswer.{LineAnswer}
 use Rattle.plan_io.specs.declared.lines.LineAnswer.TheVariants.{Line, End, ReadFault, InputOver}
 use Rattle.plan_io.specs.LinesSeen.{LinesSeen, IsFresh}
 use Rattle.plan_io.specs.LinesOf.{line_of, lines_from, lines_of, whole_lines_of, lines_left}
-use Rattle.plan_io.specs.Next.{Cuts, ReadsOn, ReadsOver, BeginsTooMany, NextIs}
-use Rattle.plan_io.specs.Reading.{HasEnded, SoFar, AllRead}
+use Rattle.plan_io.specs.Next.{Cuts, ReadsOn, ReadsOver, BeginsTooMany, IsNext}
+use Rattle.plan_io.specs.Reading.{HasEnded, HasAnswered, ReadsAll}
 use Rattle.plan_io.proofs.Readings.{advances_on, cuts_on}
 use Rattle.plan_io.proofs.Turns.{reads_none}
 use Rattle.plan_io.proofs.Wholes.{all_lines, all_with_last, all_whole_lines, first_whole_lines, fresh_lines}
 
-pub so_far_start : (s : LinesSeen) (a : Option (List ℕ)) → s.ended ≡ false → SoFar s a [] s a
+pub so_far_start : (s : LinesSeen) (a : Option (List ℕ)) → s.ended ≡ false → HasAnswered s a [] s a
 so_far_start s a opened = inl (reads_none s a, opened)
 
 -- lines and then more lines
 reads_on : (s t u : LinesSeen) (a b c : Option (List ℕ)) (ls ms : List ScriptLine) → ReadsOn s a ls t b → ReadsOn t b ms u c → ReadsOn s a (ls ++ ms) u c
 reads_on s t u a b c ls ms h g = (h.0 ++ g.0, Consumes-trans a b c h.0 g.0 h.1 g.1, advances_on s t u h.0 g.0 ls ms h.2 g.2)
 
-open_line : (s t u : LinesSeen) (a b c : Option (List ℕ)) (ls : List ScriptLine) (l : ScriptLine) → IsFresh s → ReadsOn s a ls t b → t.ended ≡ false → NextIs t b u c (Line l) → SoFar s a (ls ++ l ∷ []) u c
+open_line : (s t u : LinesSeen) (a b c : Option (List ℕ)) (ls : List ScriptLine) (l : ScriptLine) → IsFresh s → ReadsOn s a ls t b → t.ended ≡ false → IsNext t b u c (Line l) → HasAnswered s a (ls ++ l ∷ []) u c
 open_line s t u a b c ls l fresh h opened next =
     elim next.0 [
       | inl cut ↦ inl (reads_on s t u a b c ls (l ∷ []) h cut.0, cut.1)
@@ -44,7 +44,7 @@ open_line s t u a b c ls l fresh h opened next =
     ]
 
 -- a line more
-pub so_far_line : (s t u : LinesSeen) (a b c : Option (List ℕ)) (ls : List ScriptLine) (l : ScriptLine) → IsFresh s → SoFar s a ls t b → NextIs t b u c (Line l) → (t.ended ≡ true → IsFresh t → Line l ≡ End) → SoFar s a (ls ++ l ∷ []) u c
+pub so_far_line : (s t u : LinesSeen) (a b c : Option (List ℕ)) (ls : List ScriptLine) (l : ScriptLine) → IsFresh s → HasAnswered s a ls t b → IsNext t b u c (Line l) → (t.ended ≡ true → IsFresh t → Line l ≡ End) → HasAnswered s a (ls ++ l ∷ []) u c
 so_far_line s t u a b c ls l fresh (inl h) next stays = open_line s t u a b c ls l fresh h.0 h.1 next
 so_far_line s t u a b c ls l fresh (inr h) next stays = absurd (let e = stays h.ended h.fresh in cc)
 
@@ -74,7 +74,7 @@ open_over s t u a b c ls fresh zero within h g =
     let kept = h.0 ++ g.0 in
     let lost = g.1.0 in
     let over = g.1.2 in
-    let size : length kept ≡ s.most_bytes = omega (arith, over.limit within, h.2.taken, zero, h.2.most_bytes, length-append h.0 g.0) in
+    let size : length kept ≡ s.most_bytes = omega (arith, over.one within, over.over, over.taken, over.most_bytes, length-append g.0 lost, h.2.taken, zero, h.2.most_bytes, length-append h.0 g.0) in
     let all : length (kept ++ lost) ≡ length kept + length lost = length-append kept lost in
     let came : length (g.0 ++ lost) ≡ length g.0 + length lost = length-append g.0 lost in
     let cuts : Cuts s kept ls u = subst (λ (ks : List ScriptLine). Cuts s kept ks u) (append-nil ls) (cuts_on s t u h.0 g.0 ls [] h.2.cuts over.cuts) in
@@ -101,7 +101,7 @@ open_many s u a c ls fresh zero none h many =
     )
 
 open_read : (s t u : LinesSeen) (a b c : Option (List ℕ)) (ls : List ScriptLine) (ending : LineAnswer) → IsFresh s → s.taken ≡ 0 → s.answered ≡ 0 → t.taken ≤ t.most_bytes → ReadsOn s a ls t b → t.ended ≡ false
-    → NextIs t b u c ending → ((l : ScriptLine) → ending ≡ Line l → ⊥) → AllRead s.most_bytes s.most_lines a ls ending c
+    → IsNext t b u c ending → ((l : ScriptLine) → ending ≡ Line l → ⊥) → ReadsAll s.most_bytes s.most_lines a ls ending c
 open_read s t u a b c ls (Line l) fresh zero none within h opened next unlike = unlike l refl
 open_read s t u a b c ls End fresh zero none within h opened next unlike =
     let r = reads_on_none s t u a b c ls h next.0 in (
@@ -125,12 +125,12 @@ open_read s t u a b c ls InputOver fresh zero none within h opened next unlike =
       | inr many ↦ let r = open_many s u a c ls fresh zero none (reads_on_none s t u a b c ls h many.0) many.1 in (r.0, r.1, inr (r.2, r.3, r.4))
     ]
 
-ended_read : (s t : LinesSeen) (a c : Option (List ℕ)) (ls : List ScriptLine) → s.taken ≡ 0 → s.answered ≡ 0 → t.taken ≤ t.most_bytes → t.answered ≤ t.most_lines → HasEnded s a ls t → AllRead s.most_bytes s.most_lines a ls End c
+ended_read : (s t : LinesSeen) (a c : Option (List ℕ)) (ls : List ScriptLine) → s.taken ≡ 0 → s.answered ≡ 0 → t.taken ≤ t.most_bytes → t.answered ≤ t.most_lines → HasEnded s a ls t → ReadsAll s.most_bytes s.most_lines a ls End c
 ended_read s t a c ls zero none within few h = (h.given, h.all, h.are, omega (arith, h.taken, zero, within, h.most_bytes), omega (arith, h.answered, none, few, h.most_lines))
 
 -- the first answer that is no line
-pub so_far_ends : (s t u : LinesSeen) (a b c : Option (List ℕ)) (ls : List ScriptLine) (ending : LineAnswer) → IsFresh s → s.taken ≡ 0 → s.answered ≡ 0 → t.taken ≤ t.most_bytes → t.answered ≤ t.most_lines → SoFar s a ls t b
-    → NextIs t b u c ending → (t.ended ≡ true → IsFresh t → ending ≡ End) → ((l : ScriptLine) → ending ≡ Line l → ⊥) → AllRead s.most_bytes s.most_lines a ls ending c
+pub so_far_ends : (s t u : LinesSeen) (a b c : Option (List ℕ)) (ls : List ScriptLine) (ending : LineAnswer) → IsFresh s → s.taken ≡ 0 → s.answered ≡ 0 → t.taken ≤ t.most_bytes → t.answered ≤ t.most_lines → HasAnswered s a ls t b
+    → IsNext t b u c ending → (t.ended ≡ true → IsFresh t → ending ≡ End) → ((l : ScriptLine) → ending ≡ Line l → ⊥) → ReadsAll s.most_bytes s.most_lines a ls ending c
 so_far_ends s t u a b c ls ending fresh zero none within few (inl h) next stays unlike = open_read s t u a b c ls ending fresh zero none within h.0 h.1 next unlike
 so_far_ends s t u a b c ls ending fresh zero none within few (inr h) next stays unlike =
-    subst (λ (e : LineAnswer). AllRead s.most_bytes s.most_lines a ls e c) (sym (stays h.ended h.fresh)) (ended_read s t a c ls zero none within few h)
+    subst (λ (e : LineAnswer). ReadsAll s.most_bytes s.most_lines a ls e c) (sym (stays h.ended h.fresh)) (ended_read s t a c ls zero none within few h)

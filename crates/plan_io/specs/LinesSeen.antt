@@ -1,7 +1,9 @@
 -- What contracts see of a reader of lines.
-use Rattle.std.specs.Prelude.{◌≡◌, ℕ, ◌≤◌, List, [], Bool, false}
+use Rattle.std.specs.Prelude.{◌≡◌, ℕ, ◌≤◌, ◌⊎◌, List, [], Bool, true, false}
+use Rattle.plan_io.specs.Newline.{HasNewline}
 
--- the bytes that it holds, whether they stand within a piece that is too long already, how many bytes it took and lines it answered of how many, and whether its source failed or came to its end
+-- the bytes that it holds, whether they stand within a piece that is too long already, how many bytes it took and lines it
+-- answered of how many, and whether its source failed or came to its end
 pub record LinesSeen : Type 0 where
   pub held : List ℕ
   pub long : Bool
@@ -22,3 +24,10 @@ pub record IsWithin (reader : LinesSeen) : Type 0 where
   pub bytes : reader.taken ≤ reader.most_bytes
   pub lines : reader.answered ≤ reader.most_lines
   pub last : reader.answered ≡ reader.most_lines → IsFresh reader
+
+-- a whole line is at hand, within the limits: it ends at a newline that is held, or it is the last piece of a source that
+-- came to its end
+pub record HasLine (reader : LinesSeen) : Type 0 where
+  pub within : IsWithin reader
+  pub steady : reader.failed ≡ false
+  pub whole : HasNewline reader.held ⊎ ((reader.ended ≡ true) × ¬ IsFresh reader)

@@ -34,7 +34,8 @@ after_fault calls = record calls { made = next_count calls.made; faults = next_c
 -- a read gives as many bytes as it may, or fails exactly where it is to
 abbrev pub MemReads : MemSourceSeen → ℕ → ReadAnswer → MemSourceSeen → Type 0
 MemReads old size (read.Got n) new =
-    (IsToFail old.calls → ⊥) × (n ≡ min (min size old.most) (length old.left)) × (new ≡ record old { left = drop n old.left; calls = after_call old.calls })
+    (IsToFail old.calls → ⊥) × (n ≡ min (min size old.most) (length old.left))
+    × (new ≡ record old { left = drop n old.left; calls = after_call old.calls })
 MemReads old size read.Failed new = IsToFail old.calls × (new ≡ record old { calls = after_fault old.calls })
 
 -- a write takes as many bytes as it may, or fails exactly where it is to or no room is left

@@ -13,7 +13,11 @@ pub record EndsAt (bytes : List ℕ) (n : ℕ) : Type 0 where
   pub clear : NoNewline (take n bytes)
   pub newline : drop n bytes ≡ 10 ∷ drop (n + 1) bytes
 
+-- a newline stands somewhere
+abbrev pub HasNewline : List ℕ → Type 0
+HasNewline bytes = (n : ℕ) × EndsAt bytes n
+
 -- the place of the first newline, or none where there is none
-abbrev pub FirstNewline : List ℕ → Option ℕ → Type 0
-FirstNewline bytes None = NoNewline bytes
-FirstNewline bytes (Some n) = EndsAt bytes n
+abbrev pub IsFirstNewline : List ℕ → Option ℕ → Type 0
+IsFirstNewline bytes None = NoNewline bytes
+IsFirstNewline bytes (Some n) = EndsAt bytes n

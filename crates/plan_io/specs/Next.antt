@@ -19,7 +19,8 @@ line_at reader n = if reader.long then TooLong else line_of (take n reader.held)
 
 -- whatever comes after these bytes, the lines that were left are these and then those that are left now
 abbrev pub Cuts : LinesSeen → List ℕ → List ScriptLine → LinesSeen → Type 0
-Cuts old bytes lines new = (later : List ℕ) → lines_left old.long ((old.held ++ bytes) ++ later) ≡ lines ++ lines_left new.long (new.held ++ later)
+Cuts old bytes lines new =
+    (later : List ℕ) → lines_left old.long ((old.held ++ bytes) ++ later) ≡ lines ++ lines_left new.long (new.held ++ later)
 
 -- the reader took these bytes and answered these lines
 pub record Advances (old : LinesSeen) (bytes : List ℕ) (lines : List ScriptLine) (new : LinesSeen) : Type 0 where
@@ -38,12 +39,13 @@ pub record EndsIn (old : LinesSeen) (bytes : List ℕ) (line : ScriptLine) (new 
   pub most_bytes : new.most_bytes ≡ old.most_bytes
   pub most_lines : new.most_lines ≡ old.most_lines
 
--- the reader took these bytes up to the limit, which end no line, and lost those beyond it
+-- the reader took these bytes, which fill the limit and end no line, and lost the one byte after them; a reader beyond
+-- its limit has done so before, and took nothing
 pub record Overruns (old : LinesSeen) (bytes lost : List ℕ) (new : LinesSeen) : Type 0 where
   pub cuts : Cuts old bytes [] new
   pub clear : NoNewline new.held
-  pub over : new.most_bytes < new.taken
-  pub limit : old.taken ≤ old.most_bytes → old.taken + length bytes ≡ old.most_bytes
+  pub over : new.taken ≡ new.most_bytes + 1
+  pub one : old.taken ≤ old.most_bytes → length lost ≡ 1
   pub taken : new.taken ≡ old.taken + length (bytes ++ lost)
   pub answered : new.answered ≡ old.answered
   pub most_bytes : new.most_bytes ≡ old.most_bytes
@@ -63,52 +65,67 @@ ReadsOn old a lines new b = (bytes : List ℕ) × Consumes a b bytes × Advances
 abbrev pub ReadsLast : LinesSeen → Option (List ℕ) → ScriptLine → LinesSeen → Option (List ℕ) → Type 0
 ReadsLast old a line new b = (bytes : List ℕ) × Consumes a b bytes × EndsIn old bytes line new × (old.ended ≡ false → IsAtEnd b)
 
--- the source gave bytes beyond the limit
+-- the source gave the byte beyond the limit
 abbrev pub ReadsOver : LinesSeen → Option (List ℕ) → LinesSeen → Option (List ℕ) → Type 0
 ReadsOver old a new b = (bytes : List ℕ) × ((lost : List ℕ) × Consumes a b (bytes ++ lost) × Overruns old bytes lost new)
 
 -- Line: the first of the lines that are left, cut at its newline or at the end of the source, within the limits.
 -- End: the source is at its end, since this call or an earlier one, and no byte is left over.
 -- ReadFault: no whole line is left, within the limits.
--- InputOver: no whole line is left and more bytes were taken than allowed, or one line more than allowed has begun.
-abbrev pub NextIs : LinesSeen → Option (List ℕ) → LinesSeen → Option (List ℕ) → LineAnswer → Type 0
-NextIs old a new b (Line line) =
-    ((ReadsOn old a (line ∷ []) new b × (new.ended ≡ false)) ⊎ (ReadsLast old a line new b × (new.ended ≡ true))) × (new.taken ≤ new.most_bytes)
-    × (new.answered ≤ new.most_lines) × (new.failed ≡ false)
-NextIs old a new b End = ReadsOn old a [] new b × IsFresh new × IsWithin new × (new.failed ≡ false) × (new.ended ≡ true) × (old.ended ≡ false → IsAtEnd b)
-NextIs old a new b ReadFault = ReadsOn old a [] new b × NoNewline new.held × IsWithin new × (new.failed ≡ true) × (new.ended ≡ false)
-NextIs old a new b InputOver =
-    (ReadsOver old a new b ⊎ (ReadsOn old a [] new b × BeginsTooMany new)) × ¬ IsWithin new × (new.failed ≡ false) × (new.ended ≡ false)
+-- InputOver: no whole line is left and the byte beyond the limit was taken, or one line more than allowed has begun.
+abbrev pub IsNext : LinesSeen → Option (List ℕ) → LinesSeen → Option (List ℕ) → LineAnswer → Type 0
+IsNext old a new b (Line line) =
+    ((ReadsOn old a (line ∷ []) new b × (new.ended ≡ false)) ⊎ (ReadsLast old a line new b × (new.ended ≡ true)))
+    × (new.taken ≤ new.most_bytes) × (new.answered ≤ new.most_lines) × (new.failed ≡ false)
+IsNext old a new b End =
+    ReadsOn old a [] new b × IsFresh new × IsWithin new × (new.failed ≡ false) × (new.ended ≡ true)
+    × (old.ended ≡ false → IsAtEnd b)
+IsNext old a new b ReadFault =
+    ReadsOn old a [] new b × NoNewline new.held × IsWithin new × (new.failed ≡ true) × (new.ended ≡ false)
+IsNext old a new b InputOver =
+    (ReadsOver old a new b ⊎ (ReadsOn old a [] new b × BeginsTooMany new))
+    × ¬ IsWithin new × (new.failed ≡ false) × (new.ended ≡ false)
 
 -- the count of faults never falls; it rose in this call, or an earlier call of the reader answered ReadFault
-abbrev pub NextCause : LinesSeen → ℕ → ℕ → LineAnswer → Type 0
-NextCause old before now (Line line) = before ≤ now
-NextCause old before now End = before ≤ now
-NextCause old before now ReadFault = (before ≤ now) × (old.failed ≡ false → Rose before now)
-NextCause old before now InputOver = before ≤ now
+abbrev pub IsNextCause : LinesSeen → ℕ → ℕ → LineAnswer → Type 0
+IsNextCause old before now (Line line) = before ≤ now
+IsNextCause old before now End = before ≤ now
+IsNextCause old before now ReadFault = (before ≤ now) × (old.failed ≡ false → Rose before now)
+IsNextCause old before now InputOver = before ≤ now
+
+-- the answer is a line
+abbrev pub IsLine : LineAnswer → Type 0
+IsLine (Line line) = Unit {0}
+IsLine _ = ⊥
 
 -- the first line of the bytes that are held was cut off, or there is no newline in them
-abbrev pub CutIs : LinesSeen → LinesSeen → Option ScriptLine → Type 0
-CutIs old new None = Advances old [] [] new × NoNewline new.held × IsWithin new × (new.failed ≡ old.failed) × (new.ended ≡ old.ended)
-CutIs old new (Some line) = Advances old [] (line ∷ []) new × (new.answered ≤ new.most_lines) × (new.failed ≡ old.failed) × (new.ended ≡ old.ended)
+abbrev pub IsCut : LinesSeen → LinesSeen → Option ScriptLine → Type 0
+IsCut old new None =
+    Advances old [] [] new × NoNewline new.held × IsWithin new × (new.failed ≡ old.failed) × (new.ended ≡ old.ended)
+    × NoNewline old.held
+IsCut old new (Some line) =
+    Advances old [] (line ∷ []) new × (new.answered ≤ new.most_lines) × (new.failed ≡ old.failed) × (new.ended ≡ old.ended)
 
 -- one turn of reading: a block was added, or the end, or nothing, or more came than is allowed
-abbrev pub TurnIs : LinesSeen → Option (List ℕ) → LinesSeen → Option (List ℕ) → Turn → Type 0
-TurnIs old a new b turn.More = ReadsOn old a [] new b × (old.taken < new.taken) × IsWithin new × (new.failed ≡ false) × (new.ended ≡ false)
-TurnIs old a new b turn.End = Keeps a b × IsAtEnd b × (new ≡ record old { ended = true })
-TurnIs old a new b turn.Failed = Keeps a b × (new ≡ record old { failed = true })
-TurnIs old a new b turn.Over = (ReadsOver old a new b ⊎ (ReadsOn old a [] new b × BeginsTooMany new)) × (new.failed ≡ false) × (new.ended ≡ false)
+abbrev pub IsTurn : LinesSeen → Option (List ℕ) → LinesSeen → Option (List ℕ) → Turn → Type 0
+IsTurn old a new b turn.More =
+    ReadsOn old a [] new b × (old.taken < new.taken) × IsWithin new × (new.failed ≡ false) × (new.ended ≡ false)
+IsTurn old a new b turn.End = Keeps a b × IsAtEnd b × (new ≡ record old { ended = true })
+IsTurn old a new b turn.Failed = Keeps a b × (new ≡ record old { failed = true })
+IsTurn old a new b turn.Over =
+    (ReadsOver old a new b ⊎ (ReadsOn old a [] new b × BeginsTooMany new)) × (new.failed ≡ false) × (new.ended ≡ false)
 
 -- the count of faults never falls, and a turn failed only where it rose
-abbrev pub TurnCause : ℕ → ℕ → Turn → Type 0
-TurnCause before now turn.More = before ≤ now
-TurnCause before now turn.End = before ≤ now
-TurnCause before now turn.Failed = Rose before now
-TurnCause before now turn.Over = before ≤ now
+abbrev pub IsTurnCause : ℕ → ℕ → Turn → Type 0
+IsTurnCause before now turn.More = before ≤ now
+IsTurnCause before now turn.End = before ≤ now
+IsTurnCause before now turn.Failed = Rose before now
+IsTurnCause before now turn.Over = before ≤ now
 
 -- at the end of the source: the piece that is held is the last line, or none is held
-abbrev pub LastIs : LinesSeen → LinesSeen → LineAnswer → Type 0
-LastIs old new (Line line) = EndsIn old [] line new × (new.answered ≤ new.most_lines) × (new.failed ≡ old.failed) × (new.ended ≡ old.ended)
-LastIs old new End = (new ≡ old) × IsFresh old
-LastIs old new ReadFault = ⊥
-LastIs old new InputOver = ⊥
+abbrev pub IsLast : LinesSeen → LinesSeen → LineAnswer → Type 0
+IsLast old new (Line line) =
+    EndsIn old [] line new × (new.answered ≤ new.most_lines) × (new.failed ≡ old.failed) × (new.ended ≡ old.ended)
+IsLast old new End = (new ≡ old) × IsFresh old
+IsLast old new ReadFault = ⊥
+IsLast old new InputOver = ⊥

@@ -22,20 +22,21 @@ pub record HasEnded (start : LinesSeen) (a : Option (List ℕ)) (lines : List Sc
   pub most_lines : now.most_lines ≡ start.most_lines
 
 -- since the start these lines were answered, of a source that had a left then and has b left now
-abbrev pub SoFar : LinesSeen → Option (List ℕ) → List ScriptLine → LinesSeen → Option (List ℕ) → Type 0
-SoFar start a lines now b = (ReadsOn start a lines now b × (now.ended ≡ false)) ⊎ HasEnded start a lines now
+abbrev pub HasAnswered : LinesSeen → Option (List ℕ) → List ScriptLine → LinesSeen → Option (List ℕ) → Type 0
+HasAnswered start a lines now b = (ReadsOn start a lines now b × (now.ended ≡ false)) ⊎ HasEnded start a lines now
 
 -- all lines up to the first answer that is none, under limits of bytes and lines.
 -- End: they are the lines of all bytes, which are within the limits.
 -- ReadFault: they are those whose newline was taken, within the limits.
--- InputOver: more bytes were taken than allowed, and they are those whose newline is within the limit; or more lines began than allowed, and they are the first.
-abbrev pub AllRead : ℕ → ℕ → Option (List ℕ) → List ScriptLine → LineAnswer → Option (List ℕ) → Type 0
-AllRead most_bytes most_lines a lines (Line line) b = ⊥
-AllRead most_bytes most_lines a lines End b =
+-- InputOver: more bytes were taken than allowed, and they are those whose newline is within the limit; or more lines began than
+-- allowed, and they are the first.
+abbrev pub ReadsAll : ℕ → ℕ → Option (List ℕ) → List ScriptLine → LineAnswer → Option (List ℕ) → Type 0
+ReadsAll most_bytes most_lines a lines (Line line) b = ⊥
+ReadsAll most_bytes most_lines a lines End b =
     (given : List ℕ) × IfSome a (λ bytes. bytes ≡ given) × (lines_of given ≡ lines) × (length given ≤ most_bytes) × (length lines ≤ most_lines)
-AllRead most_bytes most_lines a lines ReadFault b =
+ReadsAll most_bytes most_lines a lines ReadFault b =
     (given : List ℕ) × Consumes a b given × (lines ≡ whole_lines_of given) × (length given ≤ most_bytes) × (length lines ≤ most_lines)
-AllRead most_bytes most_lines a lines InputOver b =
+ReadsAll most_bytes most_lines a lines InputOver b =
     (given : List ℕ) × Consumes a b given
-        × (((most_bytes < length given) × (lines ≡ whole_lines_of (take most_bytes given)))
-        ⊎ ((length given ≤ most_bytes) × (most_lines < length (lines_of given)) × (lines ≡ take most_lines (whole_lines_of given))))
+    × (((most_bytes < length given) × (lines ≡ whole_lines_of (take most_bytes given)))
+    ⊎ ((length given ≤ most_bytes) × (most_lines < length (lines_of given)) × (lines ≡ take most_lines (whole_lines_of given))))

@@ -21,9 +21,9 @@ Writes old new (write.Took n) piece = (n ≤ length piece) × Adds old new (take
 Writes old new write.Failed piece = Adds old new []
 
 -- of a piece that isn't empty at least one byte is taken, or the write failed and the count rose
-abbrev pub WriteCause : ℕ → ℕ → WriteAnswer → List ℕ → Type 0
-WriteCause before now (write.Took n) piece = (before ≤ now) × (0 < length piece → 0 < n)
-WriteCause before now write.Failed piece = Rose before now
+abbrev pub IsWriteCause : ℕ → ℕ → WriteAnswer → List ℕ → Type 0
+IsWriteCause before now (write.Took n) piece = (before ≤ now) × (0 < length piece → 0 < n)
+IsWriteCause before now write.Failed piece = Rose before now
 
 -- the whole piece was added, or less of it where a write failed
 abbrev pub Puts : Option (List ℕ) → Option (List ℕ) → PutAnswer → List ℕ → Type 0
@@ -31,9 +31,9 @@ Puts old new put.Done piece = Adds old new piece
 Puts old new put.WriteFault piece = (n : ℕ) × (n < length piece) × Adds old new (take n piece)
 
 -- the count never falls, and there is a fault only where it rose
-abbrev pub PutCause : ℕ → ℕ → PutAnswer → Type 0
-PutCause before now put.Done = before ≤ now
-PutCause before now put.WriteFault = Rose before now
+abbrev pub IsPutCause : ℕ → ℕ → PutAnswer → Type 0
+IsPutCause before now put.Done = before ≤ now
+IsPutCause before now put.WriteFault = Rose before now
 
 -- a writer's known contents grew by the bytes that were taken, or stayed where the write failed
 abbrev pub Passes : Option (List ℕ) → Option (List ℕ) → WriteAnswer → List ℕ → Type 0

@@ -15,6 +15,6 @@ Reads old new size (Got n) room = (n ≤ size) × Consumes old new (take n room)
 Reads old new size Failed room = Keeps old new
 
 -- the count never falls, and a read failed only where it rose
-abbrev pub ReadCause : ℕ → ℕ → ReadAnswer → Type 0
-ReadCause before now (Got n) = before ≤ now
-ReadCause before now Failed = Rose before now
+abbrev pub IsReadCause : ℕ → ℕ → ReadAnswer → Type 0
+IsReadCause before now (Got n) = before ≤ now
+IsReadCause before now Failed = Rose before now

@@ -1,8 +1,9 @@
 //! std's readers and writers as a source and a sink: the edge to the system.
 ghost use Rattle.std.specs.Prelude.{◌≡◌, length, None};
-ghost use Rattle.plan_io.specs.Source.{Reads, ReadCause};
-ghost use Rattle.plan_io.specs.Sink.{Writes, WriteCause, Passes};
-ghost use Rattle.plan_io.specs.Adapters.{reader_of, read_errors, writer_of, write_errors};
+ghost use Rattle.plan_io.specs.Source.{Reads, IsReadCause};
+ghost use Rattle.plan_io.specs.Sink.{Writes, IsWriteCause, Passes};
+ghost use Rattle.plan_io.specs.Adapters.{reader_of, read_errors, errors_after_read};
+ghost use Rattle.plan_io.specs.Adapters.{writer_of, write_errors, errors_after_write};
 
 use super::sink::{Sink, WriteAnswer};
 use super::source::{ReadAnswer, Source};
@@ -31,8 +32,13 @@ impl<I: Read> Source for StdSource<I> {
 
     ghost faults = { read_errors };
 
-    /// A call that a signal interrupted is made again, as std's own loops do.
-    fn read(&mut self, room: &mut [u8]) -> ReadAnswer {
+    /// A call that was interrupted, as by a signal, is made again, as std's own loops do, and counts as no fault. Where a
+    /// reader is interrupted without end, so is this call.
+    fn read(&mut self, room: &mut [u8]) -> ReadAnswer
+        ensures bytes { Reads (I.remaining (reader_of self.old)) (I.remaining (reader_of self.new)) (length room.old) result room.new }
+        ensures cause { IsReadCause (read_errors self.old) (read_errors self.new) result }
+        ensures errors { read_errors self.new ≡ errors_after_read (read_errors self.old) result }
+    {
         for _call in 0..u64::MAX {
             match self.reader.read(room) {
                 Ok(count) => return ReadAnswer::Got(count),
@@ -71,10 +77,12 @@ impl<O: Write> Sink for StdSink<O> {
 
     ghost faults = { write_errors };
 
-    /// A call that a signal interrupted is made again, as std's own loops do.
+    /// A call that was interrupted, as by a signal, is made again, as std's own loops do, and counts as no fault. Where a
+    /// writer is interrupted without end, so is this call.
     fn write(&mut self, piece: &[u8]) -> WriteAnswer
         ensures bytes { Writes None None result piece.now }
-        ensures cause { WriteCause (write_errors self.old) (write_errors self.new) result piece.now }
+        ensures cause { IsWriteCause (write_errors self.old) (write_errors self.new) result piece.now }
+        ensures errors { write_errors self.new ≡ errors_after_write (write_errors self.old) result }
         ensures passes { Passes (O.contents (writer_of self.old)) (O.contents (writer_of self.new)) result piece.now }
     {
         for _call in 0..u64::MAX {

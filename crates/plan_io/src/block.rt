@@ -5,7 +5,7 @@ use std::alloc::{AllocError, Global};
 use std::marker::Model;
 
 /// Bytes that are given from the front, which contracts see as those that are left.
-#[derive(Debug, Drop)]
+#[derive(Drop)]
 pub(crate) struct Unread {
     bytes: Vec<u8>,
     start: usize,
@@ -43,7 +43,7 @@ impl Unread {
 }
 
 /// Bytes that are kept at the back, in room that was made at the start.
-#[derive(Debug, Drop)]
+#[derive(Drop)]
 pub(crate) struct Kept {
     bytes: Vec<u8>,
     room: usize,

@@ -6,7 +6,7 @@ ghost use Rattle.plan_io.specs.Calls.{next_count};
 use std::marker::Model;
 
 /// The calls that were made, the faults among them, and the numbers of those that are to fail, from 0.
-#[derive(Debug, Drop)]
+#[derive(Drop)]
 pub(crate) struct Calls {
     failing: Vec<u32>,
     made: u64,

@@ -1,6 +1,6 @@
 //! Bytes that were read and are still to be cut into lines.
-ghost use Rattle.std.specs.Prelude.{◌≡◌, ◌≢◌, ℕ, ◌+◌, ◌≤◌, ◌<◌, ◌++◌, [], length, take, drop, slice_index, IfOk};
-ghost use Rattle.plan_io.specs.Newline.{FirstNewline};
+ghost use Rattle.std.specs.Prelude.{◌≡◌, ◌≢◌, ℕ, ◌+◌, ◌≤◌, ◌<◌, ◌++◌, [], length, take, drop, slice_index, IfOk, IsTrue, ◌↔◌};
+ghost use Rattle.plan_io.specs.Newline.{IsFirstNewline, HasNewline};
 
 use memchr::memchr;
 use std::alloc::{AllocError, Global};
@@ -24,7 +24,7 @@ fn find_newline(bytes: &[u8], from: usize) -> usize
 
 /// Bytes in memory, taken from the front and added at the back. What was searched for a newline isn't searched
 /// again, and a byte is moved to the front at most once for each line before it.
-#[derive(Debug, Drop)]
+#[derive(Drop)]
 pub(crate) struct Held {
     bytes: Vec<u8>,
     spare: Vec<u8>,
@@ -65,7 +65,7 @@ impl Held {
 
     /// How many bytes stand before the first newline.
     pub(crate) fn newline(&mut self) -> Option<usize>
-        ensures first { FirstNewline self.old.bytes result }
+        ensures first { IsFirstNewline self.old.bytes result }
         ensures same { self.new ≡ self.old }
     {
         let at = find_newline(self.bytes.as_slice(), self.scanned);
@@ -74,6 +74,13 @@ impl Held {
             return None;
         }
         Some(at - self.start)
+    }
+
+    /// Whether there is a newline.
+    pub(crate) fn has_newline(&self) -> bool
+        ensures { IsTrue result ↔ HasNewline self.now.bytes }
+    {
+        find_newline(self.bytes.as_slice(), self.scanned) < self.bytes.len()
     }
 
     /// The first bytes.

@@ -9,6 +9,7 @@ mod gate;
 mod held;
 mod lines;
 mod memory;
+mod room;
 mod sink;
 mod source;
 mod steady;

@@ -2,14 +2,13 @@
 ghost use Rattle.std.specs.Prelude.{◌≡◌, ◌<◌, ◌≤◌, ◌↔◌, ◌^◌, [], length, max, true, false, IfOk, IsOkAnd, OnErr, IsTrue};
 ghost use Rattle.std.specs.Io.KnownBytes.{IsAtEnd};
 ghost use Rattle.plan_io.specs.Newline.{NoNewline};
-ghost use Rattle.plan_io.specs.LinesSeen.{IsFresh, IsWithin};
-ghost use Rattle.plan_io.specs.Source.{Reads, ReadCause};
-ghost use Rattle.plan_io.specs.Next.{line_at, ReadsOn, CutIs, TurnIs, TurnCause, LastIs, NextIs, NextCause};
+ghost use Rattle.plan_io.specs.LinesSeen.{IsFresh, IsWithin, HasLine};
+ghost use Rattle.plan_io.specs.Next.{line_at, ReadsOn, IsCut, IsTurn, IsTurnCause, IsLast, IsNext, IsNextCause, IsLine};
 
 use super::byte_list::ByteList;
 use super::held::Held;
+use super::room::{ROOM, read_block, read_room};
 use super::source::{ReadAnswer, Source};
-use super::whole::{ROOM, read_room};
 use std::alloc::{AllocError, Global};
 use std::marker::Model;
 
@@ -82,7 +81,16 @@ impl Lines {
     pub fn new(alloc: Global, most_bytes: u64, most_lines: u64) -> Result<Self, AllocError>
         requires bytes { most_bytes < 2 ^ 32 }
         requires lines { most_lines < 2 ^ 32 }
-        ensures { IfOk result (λ reader. reader ≡ record { held = []; long = false; taken = 0; answered = 0; most_bytes = most_bytes; most_lines = most_lines; failed = false; ended = false }) }
+        ensures { IfOk result (λ reader. reader ≡ record {
+          held = [];
+          long = false;
+          taken = 0;
+          answered = 0;
+          most_bytes = most_bytes;
+          most_lines = most_lines;
+          failed = false;
+          ended = false;
+        }) }
     {
         Ok(Lines {
             alloc,
@@ -112,6 +120,19 @@ impl Lines {
         self.taken <= self.most_bytes && (self.answered < self.most_lines || self.is_fresh())
     }
 
+    /// Whether `next` would answer a line without reading: a whole line is at hand, within the limits.
+    pub fn has_line(&self) -> bool
+        ensures { IsTrue result ↔ HasLine self.now }
+    {
+        if self.failed || !self.is_within() {
+            return false;
+        }
+        if self.ended {
+            return !self.is_fresh();
+        }
+        self.held.has_newline()
+    }
+
     /// The line of the first bytes.
     fn line_at(&self, size: usize) -> Result<ScriptLine, AllocError>
         requires { size ≤ length self.now.held }
@@ -129,7 +150,7 @@ impl Lines {
         requires within { IsWithin self.old }
         requires steady { self.old.failed ≡ false }
         requires open { self.old.ended ≡ false }
-        ensures cut { IfOk result (λ line. CutIs self.old self.new line) }
+        ensures cut { IfOk result (λ line. IsCut self.old self.new line) }
         ensures err { OnErr result (self.new ≡ self.old) }
     {
         match self.held.newline() {
@@ -157,8 +178,8 @@ impl Lines {
         requires steady { self.old.failed ≡ false }
         requires open { self.old.ended ≡ false }
         requires clear { NoNewline self.old.held }
-        ensures turn { IfOk result (λ turn. TurnIs self.old (S.left source.old) self.new (S.left source.new) turn) }
-        ensures cause { IfOk result (λ turn. TurnCause (S.faults source.old) (S.faults source.new) turn) }
+        ensures turn { IfOk result (λ turn. IsTurn self.old (S.left source.old) self.new (S.left source.new) turn) }
+        ensures cause { IfOk result (λ turn. IsTurnCause (S.faults source.old) (S.faults source.new) turn) }
         ensures err { OnErr result ((self.new ≡ self.old) × (source.new ≡ source.old)) }
     {
         self.held.make_room(ROOM)?;
@@ -190,8 +211,9 @@ impl Lines {
     fn last(&mut self) -> Result<LineAnswer, AllocError>
         requires within { IsWithin self.old }
         requires clear { NoNewline self.old.held }
-        ensures last { IfOk result (λ answer. LastIs self.old self.new answer) }
+        ensures last { IfOk result (λ answer. IsLast self.old self.new answer) }
         ensures fresh { IsFresh self.old → IsOkAnd result (λ answer. (answer ≡ LineAnswer.End) × (self.new ≡ self.old)) }
+        ensures begun { ¬ IsFresh self.old → IfOk result IsLine }
         ensures err { OnErr result (self.new ≡ self.old) }
     {
         if self.is_fresh() {
@@ -204,17 +226,23 @@ impl Lines {
         Ok(LineAnswer::Line(line))
     }
 
-    /// The next line of `source`, which is the same in every call of this reader.
+    /// The next line of `source`, which is the same in every call of this reader. Where a whole line is at hand, or
+    /// an earlier call answered that there is none more, it isn't read.
     pub fn next<S: Source>(&mut self, source: &mut S) -> Result<LineAnswer, AllocError>
-        ensures next { IfOk result (λ answer. NextIs self.old (S.left source.old) self.new (S.left source.new) answer) }
-        ensures cause { IfOk result (λ answer. NextCause self.old (S.faults source.old) (S.faults source.new) answer) }
-        ensures stays_failed { self.old.failed ≡ true → IsOkAnd result (λ answer. (answer ≡ LineAnswer.ReadFault) × (self.new ≡ self.old)) }
-        ensures stays_ended { self.old.ended ≡ true → IsFresh self.old → IsOkAnd result (λ answer. (answer ≡ LineAnswer.End) × (self.new ≡ self.old)) }
-        ensures stays_over { ¬ IsWithin self.old → IsOkAnd result (λ answer. (answer ≡ LineAnswer.InputOver) × (self.new ≡ self.old)) }
+        ensures next { IfOk result (λ answer. IsNext self.old (S.left source.old) self.new (S.left source.new) answer) }
+        ensures cause { IfOk result (λ answer. IsNextCause self.old (S.faults source.old) (S.faults source.new) answer) }
+        ensures at_hand { HasLine self.old → (source.new ≡ source.old) × IfOk result IsLine }
+        ensures stays_failed { self.old.failed ≡ true → (source.new ≡ source.old)
+            × IsOkAnd result (λ answer. (answer ≡ LineAnswer.ReadFault) × (self.new ≡ self.old)) }
+        ensures stays_ended { self.old.ended ≡ true → IsFresh self.old → (source.new ≡ source.old)
+            × IsOkAnd result (λ answer. (answer ≡ LineAnswer.End) × (self.new ≡ self.old)) }
+        ensures stays_over { ¬ IsWithin self.old → (source.new ≡ source.old)
+            × IsOkAnd result (λ answer. (answer ≡ LineAnswer.InputOver) × (self.new ≡ self.old)) }
 
         // Where memory is wanting, bytes may have been taken, and all of them are kept.
         ensures err { OnErr result (ReadsOn self.old (S.left source.old) [] self.new (S.left source.new)) }
-        ensures err_state { OnErr result ((self.new.failed ≡ self.old.failed) × IsWithin self.new × (self.old.ended ≡ false → self.new.ended ≡ true → IsAtEnd (S.left source.new))) }
+        ensures err_state { OnErr result ((self.new.failed ≡ self.old.failed) × IsWithin self.new
+            × (self.old.ended ≡ false → self.new.ended ≡ true → IsAtEnd (S.left source.new))) }
         ensures err_faults { OnErr result (S.faults source.old ≤ S.faults source.new) }
     {
         if self.failed {
@@ -226,12 +254,32 @@ impl Lines {
         if self.ended {
             return self.last();
         }
+        match self.cut()? {
+            Some(line) => Ok(LineAnswer::Line(line)),
+            None => self.read_on(source),
+        }
+    }
+
+    /// Reads until a line is whole, or the source gives none more.
+    fn read_on<S: Source>(&mut self, source: &mut S) -> Result<LineAnswer, AllocError>
+        requires within { IsWithin self.old }
+        requires steady { self.old.failed ≡ false }
+        requires open { self.old.ended ≡ false }
+        requires clear { NoNewline self.old.held }
+        ensures next { IfOk result (λ answer. IsNext self.old (S.left source.old) self.new (S.left source.new) answer) }
+        ensures cause { IfOk result (λ answer. IsNextCause self.old (S.faults source.old) (S.faults source.new) answer) }
+        ensures err { OnErr result (ReadsOn self.old (S.left source.old) [] self.new (S.left source.new)) }
+        ensures err_state { OnErr result ((self.new.failed ≡ false) × IsWithin self.new
+            × (self.new.ended ≡ true → IsAtEnd (S.left source.new))) }
+        ensures err_faults { OnErr result (S.faults source.old ≤ S.faults source.new) }
+    {
         loop {
-            if let Some(line) = self.cut()? {
-                return Ok(LineAnswer::Line(line));
-            }
             match self.read_more(source)? {
-                Turn::More => {}
+                Turn::More => {
+                    if let Some(line) = self.cut()? {
+                        return Ok(LineAnswer::Line(line));
+                    }
+                }
                 Turn::End => return self.last(),
                 Turn::Failed => return Ok(LineAnswer::ReadFault),
                 Turn::Over => return Ok(LineAnswer::InputOver),
@@ -253,13 +301,4 @@ fn read_size(allowed: u64) -> usize
     } else {
         ROOM
     }
-}
-
-/// Reads into the front of the room.
-fn read_block<S: Source>(source: &mut S, room: &mut [u8], size: usize) -> ReadAnswer
-    requires { size ≤ length room.old }
-    ensures bytes { Reads (S.left source.old) (S.left source.new) size result room.new }
-    ensures cause { ReadCause (S.faults source.old) (S.faults source.new) result }
-{
-    source.read(&mut room[..size])
 }

@@ -1,7 +1,7 @@
 //! A source and a sink in memory that move few bytes a call and fail where they are told to.
 ghost use Rattle.std.specs.Prelude.{◌≡◌, ◌<◌, [], length, IfOk, Some};
-ghost use Rattle.plan_io.specs.Source.{Reads, ReadCause};
-ghost use Rattle.plan_io.specs.Sink.{Writes, WriteCause};
+ghost use Rattle.plan_io.specs.Source.{Reads, IsReadCause};
+ghost use Rattle.plan_io.specs.Sink.{Writes, IsWriteCause};
 ghost use Rattle.plan_io.specs.Memory.{MemReads, MemWrites};
 
 use super::block::{Kept, Unread};
@@ -13,7 +13,7 @@ use std::marker::Model;
 
 /// A source over bytes in memory that gives at most `most` bytes a call, and fails the calls whose numbers, from
 /// 0, are listed.
-#[derive(Debug, Drop)]
+#[derive(Drop)]
 pub struct MemSource {
     unread: Unread,
     most: usize,
@@ -35,7 +35,11 @@ impl MemSource {
     /// A source that gives these bytes.
     pub fn new(bytes: Vec<u8>, most: usize, failing: Vec<u32>) -> Self
         requires { 0 < most }
-        ensures { result ≡ record { left = bytes.items; most = most; calls = record { failing = failing.items; made = 0; faults = 0 } } }
+        ensures { result ≡ record {
+          left = bytes.items;
+          most = most;
+          calls = record { failing = failing.items; made = 0; faults = 0 };
+        } }
     {
         MemSource {
             unread: Unread::new(bytes),
@@ -52,7 +56,7 @@ impl Source for MemSource {
 
     fn read(&mut self, room: &mut [u8]) -> ReadAnswer
         ensures bytes { Reads (Some self.old.left) (Some self.new.left) (length room.old) result room.new }
-        ensures cause { ReadCause self.old.calls.faults self.new.calls.faults result }
+        ensures cause { IsReadCause self.old.calls.faults self.new.calls.faults result }
         ensures exact { MemReads self.old (length room.old) result self.new }
     {
         if self.calls.begin() {
@@ -66,7 +70,7 @@ impl Source for MemSource {
 
 /// A sink in memory that takes at most `most` bytes a call, and fails the calls whose numbers, from 0, are listed
 /// and those for which it has no room left.
-#[derive(Debug, Drop)]
+#[derive(Drop)]
 pub struct MemSink {
     kept: Kept,
     most: usize,
@@ -93,7 +97,12 @@ impl MemSink {
         failing: Vec<u32>,
     ) -> Result<Self, AllocError>
         requires { 0 < most }
-        ensures { IfOk result (λ sink. sink ≡ record { bytes = []; room = room; most = most; calls = record { failing = failing.items; made = 0; faults = 0 } }) }
+        ensures { IfOk result (λ sink. sink ≡ record {
+          bytes = [];
+          room = room;
+          most = most;
+          calls = record { failing = failing.items; made = 0; faults = 0 };
+        }) }
     {
         Ok(MemSink {
             kept: Kept::new(alloc, room)?,
@@ -117,7 +126,7 @@ impl Sink for MemSink {
 
     fn write(&mut self, piece: &[u8]) -> WriteAnswer
         ensures bytes { Writes (Some self.old.bytes) (Some self.new.bytes) result piece.now }
-        ensures cause { WriteCause self.old.calls.faults self.new.calls.faults result piece.now }
+        ensures cause { IsWriteCause self.old.calls.faults self.new.calls.faults result piece.now }
         ensures exact { MemWrites self.old piece.now result self.new }
     {
         let fails = self.calls.begin();

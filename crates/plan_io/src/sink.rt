@@ -1,7 +1,7 @@
 //! Where bytes go, and writing a piece whole.
 ghost use Rattle.std.specs.Prelude.{ℕ, List};
 ghost use Rattle.std.specs.declared.option.Option.{Option};
-ghost use Rattle.plan_io.specs.Sink.{Writes, WriteCause, Puts, PutCause};
+ghost use Rattle.plan_io.specs.Sink.{Writes, IsWriteCause, Puts, IsPutCause};
 
 /// What one write did.
 #[derive(Clone, Copy, Debug, PartialEq, Eq)]
@@ -23,7 +23,7 @@ pub trait Sink {
     /// Takes bytes from the front of `piece`: at least one, where it isn't empty.
     fn write(&mut self, piece: &[u8]) -> WriteAnswer
         ensures bytes { Writes (written self.old) (written self.new) result piece.now }
-        ensures cause { WriteCause (faults self.old) (faults self.new) result piece.now };
+        ensures cause { IsWriteCause (faults self.old) (faults self.new) result piece.now };
 }
 
 /// Whether a piece was written whole.
@@ -38,7 +38,7 @@ pub enum PutAnswer {
 /// Writes a piece whole, in as many writes as the sink needs, and stops at the first that fails.
 pub fn put<K: Sink>(sink: &mut K, piece: &[u8]) -> PutAnswer
     ensures bytes { Puts (K.written sink.old) (K.written sink.new) result piece.now }
-    ensures cause { PutCause (K.faults sink.old) (K.faults sink.new) result }
+    ensures cause { IsPutCause (K.faults sink.old) (K.faults sink.new) result }
 {
     let mut done = 0;
     while done < piece.len() {

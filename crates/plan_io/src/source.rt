@@ -1,7 +1,7 @@
 //! Where bytes come from.
 ghost use Rattle.std.specs.Prelude.{ℕ, List, length};
 ghost use Rattle.std.specs.declared.option.Option.{Option};
-ghost use Rattle.plan_io.specs.Source.{Reads, ReadCause};
+ghost use Rattle.plan_io.specs.Source.{Reads, IsReadCause};
 
 /// What one read gave.
 #[derive(Clone, Copy, Debug, PartialEq, Eq)]
@@ -23,5 +23,5 @@ pub trait Source {
     /// Puts the next bytes into the front of `room`: at least one, where there is a byte and room for it.
     fn read(&mut self, room: &mut [u8]) -> ReadAnswer
         ensures bytes { Reads (left self.old) (left self.new) (length room.old) result room.new }
-        ensures cause { ReadCause (faults self.old) (faults self.new) result };
+        ensures cause { IsReadCause (faults self.old) (faults self.new) result };
 }

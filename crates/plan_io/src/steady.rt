@@ -1,7 +1,7 @@
 //! A source and a sink in memory that never fail.
 ghost use Rattle.std.specs.Prelude.{◌≡◌, [], length, min, false, IfOk, Some};
-ghost use Rattle.plan_io.specs.Source.{Reads, ReadCause};
-ghost use Rattle.plan_io.specs.Sink.{Writes, WriteCause};
+ghost use Rattle.plan_io.specs.Source.{Reads, IsReadCause};
+ghost use Rattle.plan_io.specs.Sink.{Writes, IsWriteCause};
 ghost use Rattle.plan_io.specs.Steady.{Keeps, told};
 
 use super::block::{Kept, Unread};
@@ -11,7 +11,7 @@ use std::alloc::{AllocError, Global};
 use std::marker::Model;
 
 /// A source over bytes in memory that never fails. Contracts see it as the bytes that are left.
-#[derive(Debug, Drop)]
+#[derive(Drop)]
 pub struct SteadySource {
     unread: Unread,
 }
@@ -42,7 +42,7 @@ impl Source for SteadySource {
 
     fn read(&mut self, room: &mut [u8]) -> ReadAnswer
         ensures bytes { Reads (Some self.old) (Some self.new) (length room.old) result room.new }
-        ensures cause { ReadCause 0 0 result }
+        ensures cause { IsReadCause 0 0 result }
         ensures fills { result ≡ ReadAnswer.Got (min (length room.old) (length self.old)) }
     {
         ReadAnswer::Got(self.unread.give(room))
@@ -51,7 +51,7 @@ impl Source for SteadySource {
 
 /// A sink in memory that never fails. It keeps the first `room` bytes, and takes and drops those after them.
 /// It tells what was written as long as it has dropped none.
-#[derive(Debug, Drop)]
+#[derive(Drop)]
 pub struct SteadySink {
     kept: Kept,
     over: bool,
@@ -94,7 +94,7 @@ impl Sink for SteadySink {
 
     fn write(&mut self, piece: &[u8]) -> WriteAnswer
         ensures bytes { Writes (told self.old) (told self.new) result piece.now }
-        ensures cause { WriteCause 0 0 result piece.now }
+        ensures cause { IsWriteCause 0 0 result piece.now }
         ensures all { result ≡ WriteAnswer.Took (length piece.now) }
         ensures keeps { Keeps self.old piece.now self.new }
     {

@@ -1,8 +1,9 @@
 //! Reading a source to its end.
-ghost use Rattle.std.specs.Prelude.{◌≡◌, ◌+◌, ◌^◌, ◌<◌, ◌≤◌, length, vec_len, IfOk, OnErr};
-ghost use Rattle.plan_io.specs.Whole.{TurnIs, TurnCause, WholeIs, WholeCause, WholeStops};
+ghost use Rattle.std.specs.Prelude.{◌+◌, ◌^◌, ◌<◌, ◌≤◌, length, IfOk, OnErr};
+ghost use Rattle.plan_io.specs.Whole.{IsTurn, IsTurnCause, ReadsWhole, IsWholeCause, StopsReading};
 
 use super::byte_list::ByteList;
+use super::room::{ROOM, read_block, read_room};
 use super::source::{ReadAnswer, Source};
 use std::alloc::{AllocError, Global};
 
@@ -17,16 +18,6 @@ pub enum WholeAnswer {
     InputOver,
 }
 
-/// The most bytes of one read.
-pub(crate) const ROOM: usize = 65_536;
-
-/// Room for one read.
-pub(crate) fn read_room(alloc: Global) -> Result<Vec<u8>, AllocError>
-    ensures { IfOk result (λ room. vec_len room ≡ 65536) }
-{
-    vec![in alloc; 0u8; ROOM]
-}
-
 /// What one turn of reading gave.
 enum Turn {
     More,
@@ -34,18 +25,22 @@ enum Turn {
     Failed,
 }
 
-/// Reads once, and adds to `bytes` what came.
+/// Reads at most `size` bytes once, and adds to `bytes` what came.
 fn read_more<S: Source>(
     source: &mut S,
     room: &mut [u8],
+    size: usize,
     bytes: &mut Vec<u8>,
 ) -> Result<Turn, AllocError>
-    requires { 0 < length room.old }
-    ensures turn { IfOk result (λ turn. TurnIs (S.left source.old) (S.left source.new) bytes.old.items bytes.new.items turn) }
-    ensures cause { IfOk result (λ turn. TurnCause (S.faults source.old) (S.faults source.new) turn) }
-    ensures err { OnErr result (WholeStops (S.left source.old) (S.left source.new) (S.faults source.old) (S.faults source.new)) }
+    requires some { 0 < size }
+    requires room { size ≤ length room.old }
+    ensures turn { IfOk result (λ turn.
+        IsTurn (S.left source.old) (S.left source.new) size bytes.old.items bytes.new.items turn) }
+    ensures cause { IfOk result (λ turn. IsTurnCause (S.faults source.old) (S.faults source.new) turn) }
+    ensures err { OnErr result
+        (StopsReading (S.left source.old) (S.left source.new) size (S.faults source.old) (S.faults source.new)) }
 {
-    match source.read(room) {
+    match read_block(source, room, size) {
         ReadAnswer::Got(count) => {
             if count == 0 {
                 return Ok(Turn::End);
@@ -57,22 +52,37 @@ fn read_more<S: Source>(
     }
 }
 
-/// Reads a source to its end, where it gives at most `most_bytes` bytes. It reads by blocks, and stops with
-/// `InputOver` at the first block that passes the limit. Where memory is wanting, bytes were taken and lost.
+/// How many bytes a read asks for where so many are allowed: all of them, and one to see whether there are more.
+fn read_size(allowed: u64) -> usize
+    ensures some { 0 < result }
+    ensures room { result ≤ 65536 }
+    ensures within { result ≤ allowed + 1 }
+{
+    if allowed < ROOM as u64 {
+        allowed as usize + 1
+    } else {
+        ROOM
+    }
+}
+
+/// Reads a source to its end, where it gives at most `most_bytes` bytes. It reads by blocks, and takes at most one byte
+/// more than that, with the answer `InputOver`. Where memory is wanting, the bytes that were taken are lost.
 pub fn read_whole<S: Source>(
     alloc: Global,
     source: &mut S,
     most_bytes: u64,
 ) -> Result<WholeAnswer, AllocError>
     requires { most_bytes < 2 ^ 32 }
-    ensures whole { IfOk result (λ answer. WholeIs (S.left source.old) (S.left source.new) most_bytes answer) }
-    ensures cause { IfOk result (λ answer. WholeCause (S.faults source.old) (S.faults source.new) answer) }
-    ensures err { OnErr result (WholeStops (S.left source.old) (S.left source.new) (S.faults source.old) (S.faults source.new)) }
+    ensures whole { IfOk result (λ answer. ReadsWhole (S.left source.old) (S.left source.new) most_bytes answer) }
+    ensures cause { IfOk result (λ answer. IsWholeCause (S.faults source.old) (S.faults source.new) answer) }
+    ensures err { OnErr result
+        (StopsReading (S.left source.old) (S.left source.new) (most_bytes + 1) (S.faults source.old) (S.faults source.new)) }
 {
     let mut bytes = Vec::new(alloc);
     let mut room = read_room(alloc)?;
     for _turn in 0..most_bytes + 1 {
-        match read_more(source, room.as_mut_slice(), &mut bytes)? {
+        let size = read_size(most_bytes - bytes.len() as u64);
+        match read_more(source, room.as_mut_slice(), size, &mut bytes)? {
             Turn::More => {
                 if bytes.len() as u64 > most_bytes {
                     return Ok(WholeAnswer::InputOver);

@@ -6,7 +6,7 @@ use Rattle.std.proofs.Common.{append_assoc}
 use Rattle.plan_io.specs.declared.lines.ScriptLine.{ScriptLine}
 use Rattle.plan_io.specs.declared.sink.PutAnswer.{PutAnswer}
 use Rattle.plan_io.specs.declared.sink.PutAnswer.TheVariants as put
-use Rattle.plan_io.specs.Sink.{Adds, PutCause}
+use Rattle.plan_io.specs.Sink.{Adds, IsPutCause}
 use Rattle.session.specs.declared.command.Command.{Command}
 use Rattle.session.specs.declared.entry.EventEntry.{EventEntry}
 use Rattle.session.specs.declared.entry.Refusal.{Refusal}
@@ -17,7 +17,7 @@ use Rattle.session.specs.Step.{start, IsStepReply, after_line}
 use Rattle.session.specs.History.{IsWhole}
 use Rattle.session.specs.Laws.{is_change}
 use Rattle.session.specs.Texts.{text_of_entry, text_of_history}
-use Rattle.session.specs.Session.{IsSound, WritesFront, DoesLine, BeginsLine, LineIs}
+use Rattle.session.specs.Session.{IsSound, WritesFront, DoesLine, BeginsLine, IsLine}
 use Rattle.session.proofs.Versions.{step_counts}
 use Rattle.session.proofs.Written.{adds_none, adds_twice, front_after}
 use Rattle.session.proofs.Played.{Played, played_none, played_line, sound_played, sound_begun, whole_played}
@@ -78,7 +78,7 @@ does_version s t n read es (inl d) = subst (λ (u : StateSeen). u.version ≤ s.
 does_version s t n read es (inr d) = let after : t.version ≡ s.version + 1 = ap (λ (u : StateSeen). u.version) d.1.3 in omega arith
 
 pub doing_more : (lines rest : List ScriptLine) (line : ScriptLine) (a b c : Option (List ℕ)) (done : ℕ) (s t : StateSeen)
-    → Doing lines (line ∷ rest) a b done s → LineIs s t (done + 1) (command_of line) b c (Ok put.Done) → Doing lines rest a c (done + 1) t
+    → Doing lines (line ∷ rest) a b done s → IsLine s t (done + 1) (command_of line) b c (Ok put.Done) → Doing lines rest a c (done + 1) t
 doing_more lines rest line a b c done s t d l =
     let next : IsNext lines done line rest = next_line done lines line rest d.left in
     let below = next.below in
@@ -94,13 +94,13 @@ doing_more lines rest line a b c done s t d l =
 
 -- the next line is done, and all of it was written
 pub next_done : (lines left rest : List ScriptLine) (line : ScriptLine) (a b c : Option (List ℕ)) (done : ℕ) (s t : StateSeen) (answer : PutAnswer)
-    → left ≡ line ∷ rest → answer ≡ put.Done → Doing lines left a b done s → LineIs s t (done + 1) (command_of line) b c (Ok answer) → Doing lines rest a c (done + 1) t
+    → left ≡ line ∷ rest → answer ≡ put.Done → Doing lines left a b done s → IsLine s t (done + 1) (command_of line) b c (Ok answer) → Doing lines rest a c (done + 1) t
 next_done lines left rest line a b c done s t answer e f d l =
     doing_more lines rest line a b c done s t (subst (λ (ls : List ScriptLine). Doing lines ls a b done s) e d)
-    (subst (λ (x : PutAnswer). LineIs s t (done + 1) (command_of line) b c (Ok x)) f l)
+    (subst (λ (x : PutAnswer). IsLine s t (done + 1) (command_of line) b c (Ok x)) f l)
 
-pub done_later : (old new : ℕ) (answer : PutAnswer) → answer ≡ put.Done → PutCause old new answer → old ≤ new
-done_later old new answer e h = subst (λ (x : PutAnswer). PutCause old new x) e h
+pub done_later : (old new : ℕ) (answer : PutAnswer) → answer ≡ put.Done → IsPutCause old new answer → old ≤ new
+done_later old new answer e h = subst (λ (x : PutAnswer). IsPutCause old new x) e h
 
 -- a front of the text of a sound history was written
 abbrev pub IsFront : List ScriptLine → Option (List ℕ) → Option (List ℕ) → Type 0
@@ -116,13 +116,13 @@ begun lines rest line a b c done s es d h w =
     )
 
 pub cut_by_fault : (lines left rest : List ScriptLine) (line : ScriptLine) (a b c : Option (List ℕ)) (done : ℕ) (s t : StateSeen) (answer : PutAnswer)
-    → left ≡ line ∷ rest → answer ≡ put.WriteFault → Doing lines left a b done s → LineIs s t (done + 1) (command_of line) b c (Ok answer) → IsFront lines a c
+    → left ≡ line ∷ rest → answer ≡ put.WriteFault → Doing lines left a b done s → IsLine s t (done + 1) (command_of line) b c (Ok answer) → IsFront lines a c
 cut_by_fault lines left rest line a b c done s t answer e f d l =
-    let cut : LineIs s t (done + 1) (command_of line) b c (Ok put.WriteFault) = subst (λ (x : PutAnswer). LineIs s t (done + 1) (command_of line) b c (Ok x)) f l in
+    let cut : IsLine s t (done + 1) (command_of line) b c (Ok put.WriteFault) = subst (λ (x : PutAnswer). IsLine s t (done + 1) (command_of line) b c (Ok x)) f l in
     begun lines rest line a b c done s cut.0 (subst (λ (ls : List ScriptLine). Doing lines ls a b done s) e d) cut.1 cut.2
 
 pub cut_by_memory : (lines left rest : List ScriptLine) (line : ScriptLine) (a b c : Option (List ℕ)) (done : ℕ) (s t : StateSeen) (error : AllocError)
-    → left ≡ line ∷ rest → Doing lines left a b done s → LineIs s t (done + 1) (command_of line) b c (Err error) → IsFront lines a c
+    → left ≡ line ∷ rest → Doing lines left a b done s → IsLine s t (done + 1) (command_of line) b c (Err error) → IsFront lines a c
 cut_by_memory lines left rest line a b c done s t error e d l =
     begun lines rest line a b c done s l.0 (subst (λ (ls : List ScriptLine). Doing lines ls a b done s) e d) l.1 l.2
 

@@ -13,3 +13,4 @@ pub mod DeskClaims
 pub mod LineTexts
 pub mod Doing
 pub mod Inputs
+pub mod OneReply

@@ -14,7 +14,7 @@ use Rattle.session.specs.declared.entry.What.TheVariants.{Line, Take}
 use Rattle.session.specs.StateSeen.{StateSeen}
 use Rattle.session.specs.Step.{published, IsPlanning}
 use Rattle.session.specs.Texts.{text_of_entry, text_of_history}
-use Rattle.session.specs.Session.{WritesFront, IsStepDone, step_entry, take_entry, publish_entry, LineIs, PublishIs}
+use Rattle.session.specs.Session.{WritesFront, IsStepDone, step_entry, take_entry, publish_entry, IsLine, IsPublish}
 use Rattle.session.proofs.Written.{adds_twice, front_all, front_none, front_after, front_put}
 
 -- the text of one entry
@@ -38,7 +38,7 @@ entry_with n v r = record { caller = 0; line = n; what = Line; version = v; repl
 step_written : {S : Type 0} (written : S → Option (List ℕ)) (k k' : S) (s t : StateSeen) (n : ℕ) (r : Reply) (read : Result Command Refusal) (result : Result PutAnswer AllocError)
     → IsStepDone s read r t
     → IfOk result (λ answer. Puts (written k) (written k') answer (text_of_entry (step_entry s n r))) → OnErr result (k' ≡ k)
-    → LineIs s t n read (written k) (written k') result
+    → IsLine s t n read (written k) (written k') result
 step_written written k k' s t n r read (Ok put.Done) d h g = (step_entry s n r ∷ [], inl (r, d, refl), adds_one (written k) (written k') (step_entry s n r) h)
 step_written written k k' s t n r read (Ok put.WriteFault) d h g =
     (step_entry s n r ∷ [], inr (inr (t, inl (r, d, refl))), front_one (written k) (written k') (step_entry s n r) (front_put (written k) (written k') (text_of_entry (step_entry s n r)) h))
@@ -48,7 +48,7 @@ step_written written k k' s t n r read (Err error) d h g =
 pub step_done : {S : Type 0} (written : S → Option (List ℕ)) (k k' : S) (s t : StateSeen) (n v : ℕ) (r : Reply) (read : Result Command Refusal) (result : Result PutAnswer AllocError)
     → v ≡ s.version → IsStepDone s read r t
     → IfOk result (λ answer. Puts (written k) (written k') answer (text_of_entry (entry_with n v r))) → OnErr result (k' ≡ k)
-    → LineIs s t n read (written k) (written k') result
+    → IsLine s t n read (written k) (written k') result
 step_done written k k' s t n v r read result version d h g =
     let same : entry_with n v r ≡ step_entry s n r = ap (λ (w : ℕ). entry_with n w r) version in
     step_written written k k' s t n r read result d (subst (λ (e : EventEntry). IfOk result (λ answer. Puts (written k) (written k') answer (text_of_entry e))) same h) g
@@ -56,7 +56,7 @@ step_done written k k' s t n v r read result version d h g =
 -- ---- a plan
 
 pub plan_done : (a b c : Option (List ℕ)) (s t : StateSeen) (n : ℕ) (read : Result Command Refusal) (result : Result PutAnswer AllocError)
-    → IsPlanning s read → Adds a b (text_of_entry (take_entry s n)) → PublishIs s t n b c result → LineIs s t n read a c result
+    → IsPlanning s read → Adds a b (text_of_entry (take_entry s n)) → IsPublish s t n b c result → IsLine s t n read a c result
 plan_done a b c s t n read (Ok put.Done) asks h g =
     let d : EventEntry = take_entry s n in
     let e : EventEntry = publish_entry s n g.0 in (
@@ -79,7 +79,7 @@ plan_done a b c s t n read (Err error) asks h g =
     )
 
 -- the Take was cut off
-pub plan_cut : (a b : Option (List ℕ)) (s t : StateSeen) (n : ℕ) (read : Result Command Refusal) → IsPlanning s read → Puts a b put.WriteFault (text_of_entry (take_entry s n)) → LineIs s t n read a b (Ok put.WriteFault)
+pub plan_cut : (a b : Option (List ℕ)) (s t : StateSeen) (n : ℕ) (read : Result Command Refusal) → IsPlanning s read → Puts a b put.WriteFault (text_of_entry (take_entry s n)) → IsLine s t n read a b (Ok put.WriteFault)
 plan_cut a b s t n read asks h = (take_entry s n ∷ [], inr (inl (asks, refl)), front_one a b (take_entry s n) (front_put a b (text_of_entry (take_entry s n)) h))
 
 abbrev take_with : ℕ → ℕ → EventEntry

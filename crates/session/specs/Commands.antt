@@ -1,5 +1,5 @@
 -- What a line says: which bytes have one of the forms, and which command that is.
-use Rattle.std.specs.Prelude.{ℕ, ◌+◌, ◌≤◌, ◌<◌, bytes_eq, List, codes, if◌then◌else◌, Option, Some, None, Result, Err, option_map, option_and_then, ok_or}
+use Rattle.std.specs.Prelude.{ℕ, ◌+◌, ◌≤◌, ◌<◌, bytes_eq, List, codes, if◌then◌else◌, Option, Some, None, Result, Err, ok_or}
 use Rattle.std.specs.Str.{is_utf8}
 use Rattle.serde_json.specs.Data.{Data}
 use Rattle.serde_json.specs.Find.{get, as_str}
@@ -12,35 +12,50 @@ use Rattle.session.specs.declared.command.Opening.{Opening}
 use Rattle.session.specs.declared.command.Submission.{Submission}
 use Rattle.session.specs.declared.entry.Refusal.{Refusal}
 use Rattle.session.specs.declared.entry.Refusal.TheVariants.{NotBuilt}
-use Rattle.session.specs.Numbers.{whole_member}
+use Rattle.session.specs.Numbers.{◌>>=◌, whole_member}
 use Rattle.session.specs.Claims.{claim_of}
 
 -- the form `open`: `now` 0 to 253402300799, `slice` 60 to 3600, `horizon` 1 to 1440
 abbrev pub open_of : Data → Option Command
 open_of d =
-    option_and_then (λ now. option_and_then (λ slice. option_map (λ horizon. Open (record { now = record { 0 = now }; slice = slice; horizon = horizon }))
-    (whole_member d (codes "horizon") 1 1440)) (whole_member d (codes "slice") 60 3600)) (whole_member d (codes "now") 0 253402300799)
+    whole_member d (codes "now") 0 253402300799 >>= λ now.
+    whole_member d (codes "slice") 60 3600 >>= λ slice.
+    whole_member d (codes "horizon") 1 1440 >>= λ horizon.
+    Some (Open (record { now = record { 0 = now }; slice = slice; horizon = horizon }))
 
--- the form `submit`: `seconds` 1 to 86400, `value` 1 to 288000000, `from` 0 to 253402300799, `to` above `from` and at most 253402300799
+-- the form `submit`: `seconds` 1 to 86400, `value` 1 to 288000000, `from` 0 to 253402300799, `to` above `from` and at most
+-- 253402300799
 abbrev pub submit_of : Data → Option Command
 submit_of d =
-    option_and_then (λ seconds. option_and_then (λ value. option_and_then (λ from. option_map (λ to. Submit (record { seconds = seconds; value = value; window = record { from = record { 0 = from }; to = record { 0 = to } } }))
-    (whole_member d (codes "to") (from + 1) 253402300799)) (whole_member d (codes "from") 0 253402300799)) (whole_member d (codes "value") 1 288000000)) (whole_member d (codes "seconds") 1 86400)
+    whole_member d (codes "seconds") 1 86400 >>= λ seconds.
+    whole_member d (codes "value") 1 288000000 >>= λ value.
+    whole_member d (codes "from") 0 253402300799 >>= λ from.
+    whole_member d (codes "to") (from + 1) 253402300799 >>= λ to.
+    Some (Submit (record {
+      seconds = seconds;
+      value = value;
+      window = record { from = record { 0 = from }; to = record { 0 = to } };
+    }))
 
 -- the form `publish`: `version` 0 to 524288, `claim` a claim
 abbrev pub publish_of : Data → Option Command
 publish_of d =
-    option_and_then (λ version. option_map (λ claim. Publish (record { version = version; claim = claim }))
-    (option_and_then claim_of (get (codes "claim") d))) (whole_member d (codes "version") 0 524288)
+    whole_member d (codes "version") 0 524288 >>= λ version.
+    (get (codes "claim") d >>= claim_of) >>= λ claim.
+    Some (Publish (record { version = version; claim = claim }))
 
 -- the form of that name, where the members have it
 abbrev pub form_of : List ℕ → Data → Option Command
 form_of name d =
-    if bytes_eq name (codes "open") then open_of d else (if bytes_eq name (codes "submit") then submit_of d else (if bytes_eq name (codes "plan") then Some Plan else (if bytes_eq name (codes "publish") then publish_of d else None)))
+    if bytes_eq name (codes "open") then open_of d
+    else (if bytes_eq name (codes "submit") then submit_of d
+    else (if bytes_eq name (codes "plan") then Some Plan
+    else (if bytes_eq name (codes "publish") then publish_of d
+    else None)))
 
 -- the command of a value: an object whose member `do` names a form that the other members have
 abbrev pub command_of_data : Data → Option Command
-command_of_data d = option_and_then (λ name. form_of name d) (option_and_then as_str (get (codes "do") d))
+command_of_data d = (get (codes "do") d >>= as_str) >>= λ name. form_of name d
 
 -- the JSON value that bytes are, where they are UTF-8 and have a reading
 abbrev pub reading_of : List ℕ → Option Data
@@ -48,7 +63,7 @@ reading_of bytes = if is_utf8 bytes then read bytes else None
 
 -- what the bytes of a line say: a command, or that the line isn't built
 unfoldable pub read_bytes : List ℕ → Result Command Refusal
-read_bytes bytes = ok_or (option_and_then command_of_data (reading_of bytes)) NotBuilt
+read_bytes bytes = ok_or (reading_of bytes >>= command_of_data) NotBuilt
 
 -- what a line says
 abbrev pub command_of : ScriptLine → Result Command Refusal

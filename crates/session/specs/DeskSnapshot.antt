@@ -27,8 +27,15 @@ desk_telescope o = record { site = record { 0 = 0 }; usable = horizon_span o ∷
 -- the request with number n
 abbrev pub request_part : ℕ → Submission → RequestPart
 request_part n q =
-    record { request = record { 0 = n }; seconds = q.seconds; value = q.value; windows = q.window ∷ []; telescopes = record { 0 = 0 }
-    ∷ []; targets = []; fade = 0 }
+    record {
+      request = record { 0 = n };
+      seconds = q.seconds;
+      value = q.value;
+      windows = q.window ∷ [];
+      telescopes = record { 0 = 0 } ∷ [];
+      targets = [];
+      fade = 0;
+    }
 
 -- the group with number n: a SINGLE of the request with number n
 abbrev pub group_part : ℕ → Submission → GroupPart
@@ -41,8 +48,16 @@ groups_from n qs = map (λ p. group_part p.0 p.1) (enumerate_from n qs)
 -- the snapshot of a state that was opened so: its version is that of an entry made next
 abbrev pub snapshot_of : StateSeen → Opening → Parts
 snapshot_of s o =
-    record { version = s.version; len = o.slice; first = record { 0 = first_slice o }; slices = o.horizon; telescopes = desk_telescope o
-    ∷ []; skies = []; groups = groups_from 1 s.submissions; quotas = [] }
+    record {
+      version = s.version;
+      len = o.slice;
+      first = record { 0 = first_slice o };
+      slices = o.horizon;
+      telescopes = desk_telescope o ∷ [];
+      skies = [];
+      groups = groups_from 1 s.submissions;
+      quotas = [];
+    }
 
 -- these parts are the snapshot of the state, which is opened
 abbrev pub IsSnapshotOf : StateSeen → Parts → Type 0

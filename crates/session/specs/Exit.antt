@@ -3,14 +3,14 @@ use Rattle.std.specs.Prelude.{ℕ}
 use Rattle.session.specs.declared.status.Status.{Status}
 use Rattle.session.specs.declared.status.Status.TheVariants.{Done, Words, ReadFault, WriteFault, NoMemory, InputOver, NoDocument, No, NoCaller}
 
--- the exit status
-abbrev pub exit_status : Status → ℕ
-exit_status Done = 0
-exit_status Words = 1
-exit_status ReadFault = 2
-exit_status WriteFault = 3
-exit_status NoMemory = 4
-exit_status InputOver = 5
-exit_status NoDocument = 6
-exit_status No = 7
-exit_status NoCaller = 8
+-- the number of a status, which is the exit status
+abbrev pub status_number : Status → ℕ
+status_number Done = 0
+status_number Words = 1
+status_number ReadFault = 2
+status_number WriteFault = 3
+status_number NoMemory = 4
+status_number InputOver = 5
+status_number NoDocument = 6
+status_number No = 7
+status_number NoCaller = 8

@@ -1,5 +1,6 @@
 -- Histories: which are legal and which are whole for the callers' scripts, and the state that one leaves.
-use Rattle.std.specs.Prelude.{◌≡◌, ℕ, ◌+◌, ◌-◌, ◌≤◌, ◌<◌, ◌==◌, ◌⊎◌, List, [], ◌∷◌, ◌++◌, length, map, filter, fold, slice_get, slice_index_or, Option, Some, None, Result, Err}
+use Rattle.std.specs.Prelude.{◌≡◌, ℕ, ◌+◌, ◌-◌, ◌≤◌, ◌<◌, ◌==◌, ◌⊎◌, List, [], ◌∷◌, ◌++◌, length, map, filter, fold, slice_get}
+use Rattle.std.specs.Prelude.{slice_index_or, Option, Some, None, Result, Err}
 use Rattle.std.specs.List.{last_or}
 use Rattle.plan_base.specs.declared.parts.Parts.{Parts}
 use Rattle.plan_base.specs.declared.claim.Claim.{Claim}
@@ -58,7 +59,8 @@ entries_of caller history = filter (λ e. e.caller == caller) history
 abbrev pub turns_of : ℕ → List EventEntry → List (ℕ × What)
 turns_of caller history = map (λ e. (e.line, e.what)) (entries_of caller history)
 
--- the turns are those of the lines from n up to the one before m, in order and each once: one Line, or a Take and right after it a Publish
+-- the turns are those of the lines from n up to the one before m, in order and each once: one Line, or a Take and right after
+-- it a Publish
 abbrev pub Answers : ℕ → List (ℕ × What) → ℕ → Type 0
 Answers n [] m = n ≡ m
 Answers n ((k, Line) ∷ turns) m = (k ≡ n) × Answers (n + 1) turns m
@@ -85,17 +87,20 @@ IsWhole scripts history = (caller : ℕ) → Answers 1 (turns_of caller history)
 abbrev pub HasTaken : List EventEntry → ℕ → ℕ → Type 0
 HasTaken before caller v = (t : EventEntry) × (last_or None (entries_of caller before) ≡ Some t) × (t.what ≡ Take) × (t.version ≡ v)
 
--- what may be published over the state s where the Take has version v: Stale where a change was accepted since, else TooManyStarts where there are more than 1,048,576 possible starts, else a claim that is certified for the snapshot
+-- what may be published over the state s where the Take has version v: Stale where a change was accepted since, else
+-- TooManyStarts where there are more than 1,048,576 possible starts, else a claim that is certified for the snapshot
 abbrev pub IsPublication : StateSeen → ℕ → Reply → Type 0
 IsPublication s v (Refused (Stale asked newer)) = (v < s.version) × (asked ≡ v) × (newer ≡ s.version)
-IsPublication s v (Refused (TooManyStarts count)) = (v ≡ s.version) × ((parts : Parts) × IsSnapshotOf s parts × IsStartCount parts count × (1048576 < count))
+IsPublication s v (Refused (TooManyStarts count)) =
+    (v ≡ s.version) × ((parts : Parts) × IsSnapshotOf s parts × IsStartCount parts count × (1048576 < count))
 IsPublication s v (Published claim) =
     (v ≡ s.version) × ((parts : Parts) × IsSnapshotOf s parts × ((n : ℕ) → IsStartCount parts n → n ≤ 1048576) × IsCertified parts claim)
 IsPublication s v _ = ⊥
 
 -- what an entry may reply that is this much of its line: a step, a Take of a plan, or the Publish of the caller's Take
 abbrev pub IsReply : List (List ScriptLine) → List EventEntry → EventEntry → What → Type 0
-IsReply scripts before e Line = ¬ (IsPlanning (replay scripts before) (read_at scripts e)) × IsStepReply (replay scripts before) (read_at scripts e) e.reply
+IsReply scripts before e Line =
+    ¬ (IsPlanning (replay scripts before) (read_at scripts e)) × IsStepReply (replay scripts before) (read_at scripts e) e.reply
 IsReply scripts before e Take = IsPlanning (replay scripts before) (read_at scripts e) × (e.reply ≡ Taken)
 IsReply scripts before e Publish = (v : ℕ) × HasTaken before e.caller v × IsPublication (replay scripts before) v e.reply
 

@@ -1,7 +1,9 @@
 -- The numbers and names of refusals, and the names of the reasons why a claim is rejected.
 use Rattle.std.specs.Prelude.{ℕ, List, codes}
 use Rattle.plan_base.specs.declared.verdict.Reason.{Reason}
-use Rattle.plan_base.specs.declared.verdict.Reason.TheVariants.{UnknownRequest, PlacedTwice, NotPossible, Overlap, OneofTwice, AndPartial, QuotaOver, PriceCount, PriceRange, QuotaPriceCount, QuotaPriceRange, ValueDiffers, BoundDiffers}
+use Rattle.plan_base.specs.declared.verdict.Reason.TheVariants.{UnknownRequest, PlacedTwice, NotPossible, Overlap, OneofTwice, AndPartial}
+use Rattle.plan_base.specs.declared.verdict.Reason.TheVariants.{QuotaOver, PriceCount, PriceRange, QuotaPriceCount, QuotaPriceRange}
+use Rattle.plan_base.specs.declared.verdict.Reason.TheVariants.{ValueDiffers, BoundDiffers}
 use Rattle.session.specs.declared.entry.Refusal.{Refusal}
 use Rattle.session.specs.declared.entry.Refusal.TheVariants.{NotOpened, AlreadyOpened, Stale, Rejected, TooManyStarts, NotBuilt}
 

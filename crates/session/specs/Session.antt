@@ -15,7 +15,7 @@ use Rattle.plan_io.specs.declared.sink.PutAnswer.{PutAnswer}
 use Rattle.plan_io.specs.declared.sink.PutAnswer.TheVariants as put
 use Rattle.plan_io.specs.LinesOf.{lines_of}
 use Rattle.plan_io.specs.Source.{Rose}
-use Rattle.plan_io.specs.Sink.{Adds, PutCause}
+use Rattle.plan_io.specs.Sink.{Adds, IsPutCause}
 use Rattle.session.specs.declared.command.Command.{Command}
 use Rattle.session.specs.declared.entry.EventEntry.{EventEntry}
 use Rattle.session.specs.declared.entry.Refusal.{Refusal}
@@ -47,13 +47,15 @@ pub record IsPublishedClaim (what : What) (s : Parts) (claim : Claim) : Type 0 w
 
 -- a claim that is published over the state is bounded, for the snapshot of the state
 abbrev pub IsBoundedReply : StateSeen → Reply → Type 0
-IsBoundedReply s reply = (claim : Claim) → reply ≡ Published claim → (parts : Parts) × IsSnapshotOf s parts × IsBoundedClaim parts claim
+IsBoundedReply s reply =
+    (claim : Claim) → reply ≡ Published claim → (parts : Parts) × IsSnapshotOf s parts × IsBoundedClaim parts claim
 
 -- each claim that the history publishes, whether it was planned or sent, is bounded for the snapshot of its version
 abbrev pub IsBoundedHistory : List (List ScriptLine) → List EventEntry → Type 0
 IsBoundedHistory scripts history =
-    (before after : List EventEntry) (e : EventEntry) → history ≡ before ++ e ∷ after → (claim : Claim) → e.reply ≡ Published claim → (s : Parts)
-    × Publishes scripts before e s claim × IsPublishedClaim e.what s claim
+    (before after : List EventEntry) (e : EventEntry) → history ≡ before ++ e ∷ after
+    → (claim : Claim) → e.reply ≡ Published claim
+    → (s : Parts) × Publishes scripts before e s claim × IsPublishedClaim e.what s claim
 
 -- ---- a session
 
@@ -74,7 +76,7 @@ pub record IsInput (left left' : Option (List ℕ)) (input : List ℕ) : Type 0 
   pub few : length (lines_of input) ≤ 65536
 
 -- the text of a sound history of all lines that were read was written
-pub record IsSession (left left' held held' : Option (List ℕ)) : Type 0 where
+pub record IsFinished (left left' held held' : Option (List ℕ)) : Type 0 where
   pub input : List ℕ
   pub history : List EventEntry
   pub read : IsInput left left' input
@@ -94,43 +96,56 @@ pub record IsCutOff (left left' held held' : Option (List ℕ)) : Type 0 where
   pub sound : IsSound (lines_of input) history
   pub front : WritesFront held held' (text_of_history history)
 
--- more bytes were taken than a session takes, or the bytes have more lines
+-- at most as many bytes were taken as a session takes
+abbrev pub IsCutShort : Option (List ℕ) → Option (List ℕ) → Type 0
+IsCutShort left left' = (taken : List ℕ) × Consumes left left' taken × (length taken ≤ 67108864)
+
+-- the byte after those that a session takes was taken, or all of the source was read, within the limit, and it has more lines
+-- than a session takes
 abbrev pub IsOver : Option (List ℕ) → Option (List ℕ) → Type 0
-IsOver left left' = (taken : List ℕ) × Consumes left left' taken × ((67108864 < length taken) ⊎ (65536 < length (lines_of taken)))
+IsOver left left' =
+    (taken : List ℕ) × Consumes left left' taken
+    × ((length taken ≡ 67108865) ⊎ (IsAtEnd left' × (length taken ≤ 67108864) × (65536 < length (lines_of taken))))
 
 -- what was read and written at each status
-abbrev pub SessionIs : Option (List ℕ) → Option (List ℕ) → Option (List ℕ) → Option (List ℕ) → Status → Type 0
-SessionIs left left' held held' Done = IsSession left left' held held'
-SessionIs left left' held held' WriteFault = IsCutOff left left' held held'
-SessionIs left left' held held' NoMemory = Adds held held' [] ⊎ IsCutOff left left' held held'
-SessionIs left left' held held' InputOver = IsOver left left'
-SessionIs left left' held held' Words = Unit {0}
-SessionIs left left' held held' ReadFault = Unit {0}
-SessionIs left left' held held' NoDocument = ⊥
-SessionIs left left' held held' No = ⊥
-SessionIs left left' held held' NoCaller = ⊥
+abbrev pub IsSession : Option (List ℕ) → Option (List ℕ) → Option (List ℕ) → Option (List ℕ) → Status → Type 0
+IsSession left left' held held' Done = IsFinished left left' held held'
+IsSession left left' held held' WriteFault = IsCutOff left left' held held'
+IsSession left left' held held' NoMemory = Adds held held' [] ⊎ IsCutOff left left' held held'
+IsSession left left' held held' InputOver = IsOver left left'
+IsSession left left' held held' Words = Unit {0}
+IsSession left left' held held' ReadFault = IsCutShort left left'
+IsSession left left' held held' NoDocument = ⊥
+IsSession left left' held held' No = ⊥
+IsSession left left' held held' NoCaller = ⊥
 
 -- a count of faults rose, where the status says so
-abbrev pub SessionCause : ℕ → ℕ → ℕ → ℕ → Status → Type 0
-SessionCause reads reads' writes writes' ReadFault = Rose reads reads'
-SessionCause reads reads' writes writes' WriteFault = Rose writes writes'
-SessionCause reads reads' writes writes' _ = Unit {0}
+abbrev pub IsSessionCause : ℕ → ℕ → ℕ → ℕ → Status → Type 0
+IsSessionCause reads reads' writes writes' ReadFault = Rose reads reads'
+IsSessionCause reads reads' writes writes' WriteFault = Rose writes writes'
+IsSessionCause reads reads' writes writes' _ = Unit {0}
 
 -- ---- the lines of a session
 
 -- what is written of these lines at each status
-abbrev pub TextIs : List ScriptLine → Option (List ℕ) → Option (List ℕ) → Status → Type 0
-TextIs lines old new Done =
-    (length lines ≤ 65536) × ((history : List EventEntry) × IsSound lines history × IsWhole (lines ∷ []) history × Adds old new (text_of_history history))
-TextIs lines old new WriteFault = (length lines ≤ 65536) × ((history : List EventEntry) × IsSound lines history × WritesFront old new (text_of_history history))
-TextIs lines old new NoMemory = (length lines ≤ 65536) × ((history : List EventEntry) × IsSound lines history × WritesFront old new (text_of_history history))
-TextIs lines old new InputOver = 65536 < length lines
-TextIs lines old new _ = ⊥
+abbrev pub IsText : List ScriptLine → Option (List ℕ) → Option (List ℕ) → Status → Type 0
+IsText lines old new Done =
+    (length lines ≤ 65536)
+    × ((history : List EventEntry) × IsSound lines history × IsWhole (lines ∷ []) history
+    × Adds old new (text_of_history history))
+IsText lines old new WriteFault =
+    (length lines ≤ 65536)
+    × ((history : List EventEntry) × IsSound lines history × WritesFront old new (text_of_history history))
+IsText lines old new NoMemory =
+    (length lines ≤ 65536)
+    × ((history : List EventEntry) × IsSound lines history × WritesFront old new (text_of_history history))
+IsText lines old new InputOver = 65536 < length lines
+IsText lines old new _ = ⊥
 
 -- the count of faults rose, where the status says so
-abbrev pub TextCause : ℕ → ℕ → Status → Type 0
-TextCause writes writes' WriteFault = Rose writes writes'
-TextCause writes writes' _ = Unit {0}
+abbrev pub IsTextCause : ℕ → ℕ → Status → Type 0
+IsTextCause writes writes' WriteFault = Rose writes writes'
+IsTextCause writes writes' _ = Unit {0}
 
 -- ---- one line
 
@@ -164,25 +179,31 @@ publish_entry s n claim = record { caller = 0; line = n; what = Publish; version
 abbrev pub DoesLine : StateSeen → ℕ → Result Command Refusal → List EventEntry → StateSeen → Type 0
 DoesLine s n read es t =
     ((reply : Reply) × IsStepDone s read reply t × (es ≡ step_entry s n reply ∷ []))
-    ⊎ (IsPlanning s read × ((claim : Claim) × IsDeskClaim s claim × (es ≡ take_entry s n ∷ publish_entry s n claim ∷ []) × (t ≡ published s)))
+    ⊎ (IsPlanning s read
+    × ((claim : Claim) × IsDeskClaim s claim × (es ≡ take_entry s n ∷ publish_entry s n claim ∷ []) × (t ≡ published s)))
 
 -- the first of them, or all
 abbrev pub BeginsLine : StateSeen → ℕ → Result Command Refusal → List EventEntry → Type 0
-BeginsLine s n read es = (es ≡ []) ⊎ ((IsPlanning s read × (es ≡ take_entry s n ∷ [])) ⊎ ((t : StateSeen) × DoesLine s n read es t))
+BeginsLine s n read es =
+    (es ≡ []) ⊎ ((IsPlanning s read × (es ≡ take_entry s n ∷ [])) ⊎ ((t : StateSeen) × DoesLine s n read es t))
 
 -- what is written of a line: all of its entries, or a front of them
-abbrev pub LineIs : StateSeen → StateSeen → ℕ → Result Command Refusal → Option (List ℕ) → Option (List ℕ) → Result PutAnswer AllocError → Type 0
-LineIs s t n read old new (Ok put.Done) = (es : List EventEntry) × DoesLine s n read es t × Adds old new (text_of_history es)
-LineIs s t n read old new (Ok put.WriteFault) = (es : List EventEntry) × BeginsLine s n read es × WritesFront old new (text_of_history es)
-LineIs s t n read old new (Err error) = (es : List EventEntry) × BeginsLine s n read es × WritesFront old new (text_of_history es)
+abbrev pub IsLine : StateSeen → StateSeen → ℕ → Result Command Refusal → Option (List ℕ) → Option (List ℕ)
+    → Result PutAnswer AllocError → Type 0
+IsLine s t n read old new (Ok put.Done) = (es : List EventEntry) × DoesLine s n read es t × Adds old new (text_of_history es)
+IsLine s t n read old new (Ok put.WriteFault) = (es : List EventEntry) × BeginsLine s n read es × WritesFront old new (text_of_history es)
+IsLine s t n read old new (Err error) = (es : List EventEntry) × BeginsLine s n read es × WritesFront old new (text_of_history es)
 
 -- the count of faults never falls, and a write failed only where it rose
-abbrev pub LineCause : ℕ → ℕ → Result PutAnswer AllocError → Type 0
-LineCause before now (Ok answer) = PutCause before now answer
-LineCause before now (Err error) = before ≤ now
+abbrev pub IsLineCause : ℕ → ℕ → Result PutAnswer AllocError → Type 0
+IsLineCause before now (Ok answer) = IsPutCause before now answer
+IsLineCause before now (Err error) = before ≤ now
 
 -- what is written of a Publish over the state s, and the state that it leaves
-abbrev pub PublishIs : StateSeen → StateSeen → ℕ → Option (List ℕ) → Option (List ℕ) → Result PutAnswer AllocError → Type 0
-PublishIs s t n old new (Ok put.Done) = (claim : Claim) × IsDeskClaim s claim × (t ≡ published s) × Adds old new (text_of_entry (publish_entry s n claim))
-PublishIs s t n old new (Ok put.WriteFault) = (claim : Claim) × IsDeskClaim s claim × WritesFront old new (text_of_entry (publish_entry s n claim))
-PublishIs s t n old new (Err error) = Adds old new []
+abbrev pub IsPublish : StateSeen → StateSeen → ℕ → Option (List ℕ) → Option (List ℕ)
+    → Result PutAnswer AllocError → Type 0
+IsPublish s t n old new (Ok put.Done) =
+    (claim : Claim) × IsDeskClaim s claim × (t ≡ published s) × Adds old new (text_of_entry (publish_entry s n claim))
+IsPublish s t n old new (Ok put.WriteFault) =
+    (claim : Claim) × IsDeskClaim s claim × WritesFront old new (text_of_entry (publish_entry s n claim))
+IsPublish s t n old new (Err error) = Adds old new []

@@ -40,16 +40,25 @@ submitted n = Submitted (record { 0 = n }) 0 (record { 0 = n } ∷ [])
 
 -- a desk is opened once
 abbrev pub step_open : StateSeen → Opening → Option Opening → Stepped
-step_open s o None = record { reply = Opened; state = record { version = s.version + 1; opening = Some o; submissions = s.submissions } }
+step_open s o None = record {
+  reply = Opened;
+  state = record { version = s.version + 1; opening = Some o; submissions = s.submissions };
+}
 step_open s o (Some before) = refused s AlreadyOpened
 
 -- an opened desk takes up to 512 submissions
 abbrev pub step_submit : StateSeen → Submission → Option Opening → Stepped
 step_submit s q None = refused s NotOpened
 step_submit s q (Some before) =
-    if nat_lt (length s.submissions) 512 then record { reply = submitted (next_number s); state = record { version = s.version + 1; opening = s.opening; submissions = s.submissions ++ q ∷ [] } } else refused s NotBuilt
+    if nat_lt (length s.submissions) 512
+    then record {
+      reply = submitted (next_number s);
+      state = record { version = s.version + 1; opening = s.opening; submissions = s.submissions ++ q ∷ [] };
+    }
+    else refused s NotBuilt
 
--- what a command does, but for two on an opened desk: a plan is a Take and a Publish, and a claim is answered by the verdict on it
+-- what a command does, but for two on an opened desk: a plan is a Take and a Publish, and a claim is answered by the verdict
+-- on it
 abbrev pub step : StateSeen → Command → Stepped
 step s (Open o) = step_open s o s.opening
 step s (Submit q) = step_submit s q s.opening
@@ -80,7 +89,8 @@ verdict_reply claim (No reason) = Refused (Rejected reason)
 abbrev pub IsJudged : Parts → Claim → Reply → Type 0
 IsJudged parts claim reply = (verdict : Verdict) × IsVerdict parts claim verdict × (reply ≡ verdict_reply claim verdict)
 
--- the reply to a claim for a version of an opened desk: Stale exactly where that isn't the current version, else by the verdict for the desk's snapshot
+-- the reply to a claim for a version of an opened desk: Stale exactly where that isn't the current version, else by the verdict
+-- for the desk's snapshot
 abbrev pub IsOpenedReply : StateSeen → PublishOrder → Reply → Type 0
 IsOpenedReply s order reply =
     ((order.version ≢ s.version) × (reply ≡ Refused (Stale order.version s.version)))

@@ -8,7 +8,9 @@ use Rattle.serde_json.specs.Written.{compact_text}
 use Rattle.plan_base.specs.declared.claim.Placement.{Placement}
 use Rattle.plan_base.specs.declared.claim.Claim.{Claim}
 use Rattle.plan_base.specs.declared.verdict.Reason.{Reason}
-use Rattle.plan_base.specs.declared.verdict.Reason.TheVariants.{UnknownRequest, PlacedTwice, NotPossible, Overlap, OneofTwice, AndPartial, QuotaOver, PriceCount, PriceRange, QuotaPriceCount, QuotaPriceRange, ValueDiffers, BoundDiffers}
+use Rattle.plan_base.specs.declared.verdict.Reason.TheVariants.{UnknownRequest, PlacedTwice, NotPossible, Overlap, OneofTwice, AndPartial}
+use Rattle.plan_base.specs.declared.verdict.Reason.TheVariants.{QuotaOver, PriceCount, PriceRange, QuotaPriceCount, QuotaPriceRange}
+use Rattle.plan_base.specs.declared.verdict.Reason.TheVariants.{ValueDiffers, BoundDiffers}
 use Rattle.plan_base.specs.declared.number.GroupNo.{GroupNo}
 use Rattle.plan_base.specs.declared.number.RequestNo.{RequestNo}
 use Rattle.session.specs.declared.entry.EventEntry.{EventEntry}
@@ -53,12 +55,22 @@ quota_prices_data us = list_data (map whole us)
 -- a claim with no quota prices, of version 1
 abbrev pub plain_claim_data : Claim → Data
 plain_claim_data c =
-    object (member (codes "bound") (whole c.bound) (member (codes "placements") (placements_data c.placements) (member (codes "prices") (prices_data c.prices.0) (member (codes "value") (whole c.value) no_members))))
+    object (
+    member (codes "bound") (whole c.bound) (
+    member (codes "placements") (placements_data c.placements) (
+    member (codes "prices") (prices_data c.prices.0) (
+    member (codes "value") (whole c.value) no_members))))
 
 -- a claim with quota prices, of version 2
 abbrev pub quota_claim_data : Claim → Data
 quota_claim_data c =
-    object (member (codes "bound") (whole c.bound) (member (codes "format") (whole 2) (member (codes "placements") (placements_data c.placements) (member (codes "prices") (prices_data c.prices.0) (member (codes "quota_prices") (quota_prices_data c.quota_prices.0) (member (codes "value") (whole c.value) no_members))))))
+    object (
+    member (codes "bound") (whole c.bound) (
+    member (codes "format") (whole 2) (
+    member (codes "placements") (placements_data c.placements) (
+    member (codes "prices") (prices_data c.prices.0) (
+    member (codes "quota_prices") (quota_prices_data c.quota_prices.0) (
+    member (codes "value") (whole c.value) no_members))))))
 
 -- a claim: of version 1 where it has no quota prices, else of version 2
 abbrev pub claim_data : Claim → Data
@@ -76,32 +88,57 @@ refused_members e r =
 -- the members of an entry that rejects a claim, from `no` to `refused`, before those that follow
 abbrev pub rejected_members : Reason → Members → Members
 rejected_members r after =
-    member (codes "no") (whole (number_of (Rejected r))) (member (codes "reason") (string (name_of_reason r)) (member (codes "refused") (string (name_of (Rejected r))) after))
+    member (codes "no") (whole (number_of (Rejected r))) (
+    member (codes "reason") (string (name_of_reason r)) (
+    member (codes "refused") (string (name_of (Rejected r))) after))
 
 -- an entry that rejects a claim for a place in one of its lists
 abbrev pub index_data : EventEntry → Reason → ℕ → Data
 index_data e r i =
-    object (member (codes "caller") (whole e.caller) (member (codes "index") (whole i) (member (codes "line") (whole e.line) (rejected_members r (version_members e)))))
+    object (
+    member (codes "caller") (whole e.caller) (
+    member (codes "index") (whole i) (
+    member (codes "line") (whole e.line) (rejected_members r (version_members e)))))
 
 -- for a group
 abbrev pub group_data : EventEntry → Reason → GroupNo → Data
 group_data e r group =
-    object (member (codes "caller") (whole e.caller) (member (codes "group") (whole group.0) (member (codes "line") (whole e.line) (rejected_members r (version_members e)))))
+    object (
+    member (codes "caller") (whole e.caller) (
+    member (codes "group") (whole group.0) (
+    member (codes "line") (whole e.line) (rejected_members r (version_members e)))))
 
 -- for how many there are, where there should be another number
 abbrev pub count_data : EventEntry → Reason → ℕ → ℕ → Data
 count_data e r given wanted =
-    object (member (codes "caller") (whole e.caller) (member (codes "given") (whole given) (member (codes "line") (whole e.line) (rejected_members r (member (codes "version") (whole e.version) (member (codes "wanted") (whole wanted) no_members))))))
+    object (
+    member (codes "caller") (whole e.caller) (
+    member (codes "given") (whole given) (
+    member (codes "line") (whole e.line) (rejected_members r (
+    member (codes "version") (whole e.version) (
+    member (codes "wanted") (whole wanted) no_members))))))
 
 -- for what it claims, where something else was found
 abbrev pub difference_data : EventEntry → Reason → ℕ → ℕ → Data
 difference_data e r claimed found =
-    object (member (codes "caller") (whole e.caller) (member (codes "claimed") (whole claimed) (member (codes "found") (whole found) (member (codes "line") (whole e.line) (rejected_members r (version_members e))))))
+    object (
+    member (codes "caller") (whole e.caller) (
+    member (codes "claimed") (whole claimed) (
+    member (codes "found") (whole found) (
+    member (codes "line") (whole e.line) (rejected_members r (version_members e))))))
 
 -- for a quota that it passes
 abbrev pub quota_data : EventEntry → Reason → ℕ → ℕ → ℕ → Data
 quota_data e r quota seconds most =
-    object (member (codes "caller") (whole e.caller) (member (codes "line") (whole e.line) (member (codes "most") (whole most) (member (codes "no") (whole (number_of (Rejected r))) (member (codes "quota") (whole quota) (member (codes "reason") (string (name_of_reason r)) (member (codes "refused") (string (name_of (Rejected r))) (member (codes "seconds") (whole seconds) (version_members e)))))))))
+    object (
+    member (codes "caller") (whole e.caller) (
+    member (codes "line") (whole e.line) (
+    member (codes "most") (whole most) (
+    member (codes "no") (whole (number_of (Rejected r))) (
+    member (codes "quota") (whole quota) (
+    member (codes "reason") (string (name_of_reason r)) (
+    member (codes "refused") (string (name_of (Rejected r))) (
+    member (codes "seconds") (whole seconds) (version_members e)))))))))
 
 -- an entry that rejects a claim, with the fields of the reason
 abbrev pub rejected_data : EventEntry → Reason → Data
@@ -122,13 +159,23 @@ rejected_data e (BoundDiffers claimed found) = difference_data e (BoundDiffers c
 -- an entry that is refused, with the members of its refusal
 abbrev pub refusal_data : EventEntry → Refusal → Data
 refusal_data e NotOpened = object (member (codes "caller") (whole e.caller) (member (codes "line") (whole e.line) (refused_members e NotOpened)))
-refusal_data e AlreadyOpened = object (member (codes "caller") (whole e.caller) (member (codes "line") (whole e.line) (refused_members e AlreadyOpened)))
+refusal_data e AlreadyOpened =
+    object (
+    member (codes "caller") (whole e.caller) (
+    member (codes "line") (whole e.line) (refused_members e AlreadyOpened)))
 refusal_data e NotBuilt = object (member (codes "caller") (whole e.caller) (member (codes "line") (whole e.line) (refused_members e NotBuilt)))
 refusal_data e (Stale asked newer) =
-    object (member (codes "asked") (whole asked) (member (codes "caller") (whole e.caller) (member (codes "line") (whole e.line) (member (codes "newer") (whole newer) (refused_members e (Stale asked newer))))))
+    object (
+    member (codes "asked") (whole asked) (
+    member (codes "caller") (whole e.caller) (
+    member (codes "line") (whole e.line) (
+    member (codes "newer") (whole newer) (refused_members e (Stale asked newer))))))
 refusal_data e (Rejected reason) = rejected_data e reason
 refusal_data e (TooManyStarts count) =
-    object (member (codes "caller") (whole e.caller) (member (codes "count") (whole count) (member (codes "line") (whole e.line) (refused_members e (TooManyStarts count)))))
+    object (
+    member (codes "caller") (whole e.caller) (
+    member (codes "count") (whole count) (
+    member (codes "line") (whole e.line) (refused_members e (TooManyStarts count)))))
 
 -- an entry that accepts its line with this word and no further member
 abbrev pub plain_data : EventEntry → List ℕ → Data
@@ -138,12 +185,22 @@ plain_data e word =
 -- an entry that accepts a group
 abbrev pub submitted_data : EventEntry → GroupNo → ℕ → List RequestNo → Data
 submitted_data e group ipp_charged requests =
-    object (member (codes "caller") (whole e.caller) (member (codes "group") (whole group.0) (member (codes "ipp_charged") (whole ipp_charged) (member (codes "line") (whole e.line) (member (codes "ok") (string (codes "submitted")) (member (codes "requests") (requests_data requests) (version_members e)))))))
+    object (
+    member (codes "caller") (whole e.caller) (
+    member (codes "group") (whole group.0) (
+    member (codes "ipp_charged") (whole ipp_charged) (
+    member (codes "line") (whole e.line) (
+    member (codes "ok") (string (codes "submitted")) (
+    member (codes "requests") (requests_data requests) (version_members e)))))))
 
 -- an entry that publishes a claim
 abbrev pub published_data : EventEntry → Claim → Data
 published_data e claim =
-    object (member (codes "caller") (whole e.caller) (member (codes "claim") (claim_data claim) (member (codes "line") (whole e.line) (member (codes "ok") (string (codes "published")) (version_members e)))))
+    object (
+    member (codes "caller") (whole e.caller) (
+    member (codes "claim") (claim_data claim) (
+    member (codes "line") (whole e.line) (
+    member (codes "ok") (string (codes "published")) (version_members e)))))
 
 -- an entry with this reply
 abbrev pub reply_data : EventEntry → Reply → Data

@@ -2,7 +2,8 @@
 ghost use Rattle.std.specs.Prelude.{◌≡◌, map, codes, option_map, option_and_then, IfOk};
 ghost use Rattle.serde_json.specs.View.{view};
 ghost use Rattle.serde_json.specs.Find.{get, as_array};
-ghost use Rattle.session.specs.Claims.{elements, list_of, all_of, list_member, triple_of, placement_of, price_of, quota_price_of, unless_null, quota_prices_by, quota_prices_of, claim_of};
+ghost use Rattle.session.specs.Claims.{elements, list_of, all_of, list_member, triple_of, placement_of, price_of, quota_price_of};
+ghost use Rattle.session.specs.Claims.{unless_null, quota_prices_by, quota_prices_of, claim_of};
 
 use crate::number::{signed_value, whole, whole_value};
 use plan_base::{Claim, ListOf, Placement, Prices, QuotaPrices, RequestNo, SliceNo, TelescopeNo};

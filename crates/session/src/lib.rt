@@ -19,7 +19,7 @@ mod words;
 
 pub use command::{Command, Opening, PublishOrder, Submission, read_command};
 pub use entry::{EventEntry, Refusal, Reply, What};
-pub use laws::versions_count;
+pub use laws::{one_reply, versions_count};
 pub use run::run_session;
 pub use state::State;
 pub use status::Status;

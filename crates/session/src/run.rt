@@ -1,12 +1,12 @@
 //! A session from its words to its status.
 ghost use Rattle.std.specs.Prelude.{◌≡◌, ◌<◌, ◌≤◌, ◌+◌, ◌↔◌, length, Ok, IfOk, OnErr, OnOk, IsTrue, IsSome, Result};
 ghost use Rattle.plan_io.specs.LinesOf.{line_of, lines_of};
-ghost use Rattle.plan_io.specs.Sink.{Puts, PutCause};
+ghost use Rattle.plan_io.specs.Sink.{Puts, IsPutCause};
 ghost use Rattle.session.specs.Words.{IsSessionWords};
 ghost use Rattle.session.specs.Commands.{command_of, IsCommand};
 ghost use Rattle.session.specs.Step.{IsPlanning};
 ghost use Rattle.session.specs.Texts.{text_of_entry};
-ghost use Rattle.session.specs.Session.{SessionIs, SessionCause, TextIs, TextCause, IsStepDone, LineIs, LineCause, PublishIs};
+ghost use Rattle.session.specs.Session.{IsSession, IsSessionCause, IsText, IsTextCause, IsStepDone, IsLine, IsLineCause, IsPublish};
 
 use crate::command::{Command, read_command};
 use crate::cut::{count_lines, cut_line};
@@ -36,7 +36,7 @@ fn put_entry<K: Sink>(
     entry: &EventEntry,
 ) -> Result<PutAnswer, AllocError>
     ensures text { IfOk result (λ answer. Puts (K.written sink.old) (K.written sink.new) answer (text_of_entry entry.now)) }
-    ensures cause { IfOk result (λ answer. PutCause (K.faults sink.old) (K.faults sink.new) answer) }
+    ensures cause { IfOk result (λ answer. IsPutCause (K.faults sink.old) (K.faults sink.new) answer) }
     ensures err { OnErr result (sink.new ≡ sink.old) }
 {
     let text = write_entry(alloc, entry)?;
@@ -78,8 +78,8 @@ fn do_step<K: Sink>(
     requires version { state.old.version < 524288 }
     requires ranges { IfOk read IsCommand }
     requires step { ¬ (IsPlanning state.old read) }
-    ensures done { LineIs state.old state.new line read (K.written sink.old) (K.written sink.new) result }
-    ensures cause { LineCause (K.faults sink.old) (K.faults sink.new) result }
+    ensures done { IsLine state.old state.new line read (K.written sink.old) (K.written sink.new) result }
+    ensures cause { IsLineCause (K.faults sink.old) (K.faults sink.new) result }
 {
     let version = state.version();
     let reply = apply_read(alloc, state, read)?;
@@ -102,8 +102,8 @@ fn publish<K: Sink>(
 ) -> Result<PutAnswer, AllocError>
     requires version { state.old.version < 524288 }
     requires opened { IsSome state.old.opening }
-    ensures done { PublishIs state.old state.new line (K.written sink.old) (K.written sink.new) result }
-    ensures cause { LineCause (K.faults sink.old) (K.faults sink.new) result }
+    ensures done { IsPublish state.old state.new line (K.written sink.old) (K.written sink.new) result }
+    ensures cause { IsLineCause (K.faults sink.old) (K.faults sink.new) result }
 {
     let version = state.version();
     let claim = desk_claim(alloc, state)?;
@@ -128,8 +128,8 @@ fn do_plan<K: Sink>(
 ) -> Result<PutAnswer, AllocError>
     requires version { state.old.version < 524288 }
     requires planning { IsPlanning state.old read }
-    ensures done { LineIs state.old state.new line read (K.written sink.old) (K.written sink.new) result }
-    ensures cause { LineCause (K.faults sink.old) (K.faults sink.new) result }
+    ensures done { IsLine state.old state.new line read (K.written sink.old) (K.written sink.new) result }
+    ensures cause { IsLineCause (K.faults sink.old) (K.faults sink.new) result }
 {
     let taken = EventEntry {
         caller: CALLER,
@@ -153,8 +153,8 @@ fn do_line<K: Sink>(
     line: &[u8],
 ) -> Result<PutAnswer, AllocError>
     requires version { state.old.version < 524288 }
-    ensures done { LineIs state.old state.new number (command_of (line_of line.now)) (K.written sink.old) (K.written sink.new) result }
-    ensures cause { LineCause (K.faults sink.old) (K.faults sink.new) result }
+    ensures done { IsLine state.old state.new number (command_of (line_of line.now)) (K.written sink.old) (K.written sink.new) result }
+    ensures cause { IsLineCause (K.faults sink.old) (K.faults sink.new) result }
 {
     let read = read_command(alloc, line)?;
     if is_plan(&read) && state.is_opened() {
@@ -166,8 +166,8 @@ fn do_line<K: Sink>(
 /// Does each line of the input, and writes its entries as soon as it is done.
 fn do_lines<K: Sink>(alloc: Global, sink: &mut K, input: &[u8]) -> Status
     requires { length (lines_of input.now) ≤ 65536 }
-    ensures text { TextIs (lines_of input.now) (K.written sink.old) (K.written sink.new) result }
-    ensures cause { TextCause (K.faults sink.old) (K.faults sink.new) result }
+    ensures text { IsText (lines_of input.now) (K.written sink.old) (K.written sink.new) result }
+    ensures cause { IsTextCause (K.faults sink.old) (K.faults sink.new) result }
 {
     let mut state = State::empty(alloc);
     let mut done: u32 = 0;
@@ -188,8 +188,8 @@ fn do_lines<K: Sink>(alloc: Global, sink: &mut K, input: &[u8]) -> Status
 
 /// Does the lines of the input, where there are few enough.
 fn play<K: Sink>(alloc: Global, sink: &mut K, input: &[u8]) -> Status
-    ensures text { TextIs (lines_of input.now) (K.written sink.old) (K.written sink.new) result }
-    ensures cause { TextCause (K.faults sink.old) (K.faults sink.new) result }
+    ensures text { IsText (lines_of input.now) (K.written sink.old) (K.written sink.new) result }
+    ensures cause { IsTextCause (K.faults sink.old) (K.faults sink.new) result }
     ensures unwritten { result ≡ Status.InputOver → sink.new ≡ sink.old }
 {
     if count_lines(input) > MOST_LINES {
@@ -213,8 +213,8 @@ pub fn run_session<R: Threads + Sync, S: Source, K: Sink>(
     ensures untouched { result ≡ Status.Words → (source.new ≡ source.old) × (sink.new ≡ sink.old) }
     ensures unread { result ≡ Status.ReadFault → sink.new ≡ sink.old }
     ensures over { result ≡ Status.InputOver → sink.new ≡ sink.old }
-    ensures session { SessionIs (S.left source.old) (S.left source.new) (K.written sink.old) (K.written sink.new) result }
-    ensures cause { SessionCause (S.faults source.old) (S.faults source.new) (K.faults sink.old) (K.faults sink.new) result }
+    ensures session { IsSession (S.left source.old) (S.left source.new) (K.written sink.old) (K.written sink.new) result }
+    ensures cause { IsSessionCause (S.faults source.old) (S.faults source.new) (K.faults sink.old) (K.faults sink.new) result }
 {
     if !is_session(words) {
         return Status::Words;

@@ -101,7 +101,8 @@ fn snapshot_parts(
 ) -> Result<Parts, AllocError>
     requires opening { IsOpening opening }
     requires few { length submissions.now ≤ 512 }
-    ensures { IfOk result (λ parts. parts ≡ snapshot_of (record { version = version; opening = Some opening; submissions = submissions.now }) opening) }
+    ensures { IfOk result (λ parts. parts ≡ snapshot_of
+        (record { version = version; opening = Some opening; submissions = submissions.now }) opening) }
 {
     let telescope = telescope_part(alloc, opening)?;
     Ok(Parts {
@@ -126,7 +127,8 @@ pub(crate) fn desk_snapshot(
     requires version { version ≤ 524288 }
     requires opening { IsOpening opening }
     requires state { IsState (record { version = version; opening = Some opening; submissions = submissions.now }) }
-    ensures { IfOk result (λ snapshot. snapshot ≡ snapshot_of (record { version = version; opening = Some opening; submissions = submissions.now }) opening) }
+    ensures { IfOk result (λ snapshot. snapshot ≡ snapshot_of
+        (record { version = version; opening = Some opening; submissions = submissions.now }) opening) }
 {
     let parts = snapshot_parts(alloc, version, opening, submissions)?;
     match Snapshot::build(alloc, parts) {

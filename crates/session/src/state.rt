@@ -178,7 +178,7 @@ impl State {
     }
 
     /// Counts a publication, which is a change.
-    pub fn count_publication(&mut self)
+    pub(crate) fn count_publication(&mut self)
         requires version { self.old.version < 524288 }
         ensures { self.new ≡ published self.old }
     {

@@ -1,6 +1,6 @@
 //! How a program's run ends.
 ghost use Rattle.std.specs.Prelude.{◌≡◌};
-ghost use Rattle.session.specs.Exit.{exit_status};
+ghost use Rattle.session.specs.Exit.{status_number};
 
 /// How a run ended. The number of a status is the program's exit status.
 #[derive(Clone, Copy, Debug, PartialEq, Eq)]
@@ -28,7 +28,7 @@ pub enum Status {
 impl Status {
     /// The exit status, 0 to 8.
     pub fn number(self) -> u8
-        ensures { result ≡ exit_status self }
+        ensures { result ≡ status_number self }
     {
         self as u8
     }

@@ -1,7 +1,9 @@
 //! The texts of entries: compact JSON objects, their members in byte order.
 ghost use Rattle.std.specs.Prelude.{◌≡◌, map, IfOk};
 ghost use Rattle.serde_json.specs.View.{view};
-ghost use Rattle.session.specs.Texts.{requests_data, placement_data, placements_data, prices_data, quota_prices_data, plain_claim_data, quota_claim_data, claim_data, refusal_data, plain_data, submitted_data, published_data, data_of_entry, text_of_entry};
+ghost use Rattle.session.specs.Texts.{requests_data, placement_data, placements_data, prices_data, quota_prices_data, plain_claim_data};
+ghost use Rattle.session.specs.Texts.{quota_claim_data, claim_data, refusal_data, plain_data, submitted_data, published_data};
+ghost use Rattle.session.specs.Texts.{data_of_entry, text_of_entry};
 
 use crate::entry::{EventEntry, Refusal, Reply};
 use crate::reason::rejected_value;

@@ -1,10 +1,10 @@
 use Rattle.std.proofs.Common.{◌-◌, ◌≤◌}
-use Rattle.plan_io.specs.Reading.{SoFar}
+use Rattle.plan_io.specs.Reading.{HasAnswered}
 use Rattle.plan_io.proofs.tests.read_lines.Given as goal
 
 abbrev pub invariant-loop-reader : goal.invariant-loop-reader
 invariant-loop-reader g l = record {
-  so_far : SoFar l.initial.reader (g.S.Source.left l.initial.source) l.lines.items l.reader (g.S.Source.left l.source);
+  so_far : HasAnswered l.initial.reader (g.S.Source.left l.initial.source) l.lines.items l.reader (g.S.Source.left l.source);
   bytes : l.reader.taken ≤ l.reader.most_bytes;
   lines : l.reader.answered ≤ l.reader.most_lines;
 }

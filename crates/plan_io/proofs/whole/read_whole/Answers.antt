@@ -1,4 +1,4 @@
-use Rattle.std.proofs.Common.{◌++◌, arith}
+use Rattle.std.proofs.Common.{◌≤◌, ◌+◌, ◌++◌, length, length-append, arith}
 use Rattle.std.proofs.KnownBytes.{Consumes-trans}
 use Rattle.std.proofs.lemmas.Result.{err_from_is_err_and}
 use Rattle.plan_io.proofs.whole.read_whole.Goals as goal
@@ -7,5 +7,15 @@ pub returns-in_err-read_more-clause-err : goal.returns-in_err-read_more-clause-e
 returns-in_err-read_more-clause-err g c =
     let p = err_from_is_err_and c.from_residual-in_err-read_more.result c.from_residual-in_err-read_more.ensures.1 in
     rw (p.1) (
+    let was = c.loop-turn.invariant in
     let stopped = c.in_err-read_more.ensures.err in
-    ((c.loop-turn.bytes.items ++ stopped.0.0, Consumes-trans _ (g.S.Source.left c.loop-turn.source) _ c.loop-turn.bytes.items stopped.0.0 c.loop-turn.invariant.taken stopped.0.1), omega (arith, stopped.1, c.loop-turn.invariant.later)))
+    let taken = c.loop-turn.bytes.items ++ stopped.0.0 in
+    let size : length taken ≤ c.args.most_bytes + 1 =
+    omega (arith, length-append c.loop-turn.bytes.items stopped.0.0, stopped.0.2, was.within, c.read_size-size.ensures.within) in (
+      (
+        taken,
+        Consumes-trans _ (g.S.Source.left c.loop-turn.source) _ c.loop-turn.bytes.items stopped.0.0 was.taken stopped.0.1,
+        size,
+      ),
+      omega (arith, stopped.1, was.later),
+    ))

@@ -2,7 +2,7 @@ use Rattle.std.proofs.Common.{rules, ◌≡◌, ◌+◌, ◌<◌, length, drop, 
 use Rattle.plan_io.specs.Newline.{NoNewline, EndsAt}
 use Rattle.plan_io.specs.LinesSeen.{LinesSeen}
 use Rattle.plan_io.specs.HeldSeen.{HeldSeen}
-use Rattle.plan_io.specs.Next.{line_at, CutIs}
+use Rattle.plan_io.specs.Next.{line_at, IsCut}
 use Rattle.plan_io.proofs.Turns.{cut_some, cut_long}
 use Rattle.plan_io.proofs.lines.Lines.cut.Goals as goal
 use Rattle.plan_io.proofs.lines.Lines.cut.Goals.{else-not-self-via-then-not-self+else-len-le-LONGEST, else-not-self-via-else-not-self}
@@ -16,7 +16,7 @@ returns-in_ok-line-in-Some-clause-cut c =
     c.pass.ensures ∙ ap (λ (h : HeldSeen). drop (at + 1) h.bytes) c.in-Some.ensures.same ∙ ap (λ (v : LinesSeen). drop (at + 1) v.held) c.self.view_is in
     let line : c.in_ok-line-in-Some.line ≡ line_at s at = search rules in
     let is = ap (λ (v : LinesSeen). record v { held = c.pass.new.self.bytes; long = false; answered = v.answered + 1 }) c.self.view_is in
-    subst (λ (t : LinesSeen). CutIs s t (Some c.in_ok-line-in-Some.line)) (sym is)
+    subst (λ (t : LinesSeen). IsCut s t (Some c.in_ok-line-in-Some.line)) (sym is)
     (cut_some s c.pass.new.self.bytes at c.in_ok-line-in-Some.line c.requires.within ends held line)
 
 pub returns-else-not-self-clause-cut : goal.returns-else-not-self-clause-cut
@@ -29,4 +29,4 @@ returns-else-not-self-clause-cut c =
       | else-not-self-via-else-not-self w ↦ search rules
     ] in
     let is = ap (λ (v : LinesSeen). record v { held = c.clear.new.self.bytes; long = true }) c.self.view_is in
-    subst (λ (t : LinesSeen). CutIs s t None) (sym is) (cut_long s c.clear.new.self.bytes c.requires.within clear size c.clear.ensures)
+    subst (λ (t : LinesSeen). IsCut s t None) (sym is) (cut_long s c.clear.new.self.bytes c.requires.within clear size c.clear.ensures)

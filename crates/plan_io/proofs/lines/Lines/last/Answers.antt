@@ -1,7 +1,7 @@
 use Rattle.std.proofs.Common.{rules, ◌≡◌, ◌+◌, length, ap, sym, subst, false}
 use Rattle.plan_io.specs.declared.lines.LineAnswer.TheVariants.{Line}
 use Rattle.plan_io.specs.LinesSeen.{LinesSeen, IsFresh}
-use Rattle.plan_io.specs.Next.{line_at, LastIs}
+use Rattle.plan_io.specs.Next.{line_at, IsLast}
 use Rattle.plan_io.proofs.Turns.{last_line_is}
 use Rattle.plan_io.proofs.lines.Lines.last.Goals as goal
 
@@ -12,5 +12,5 @@ returns-clause-last c =
     let line : c.in_ok-line.line ≡ line_at s c.len.result = search rules in
     let begun : IsFresh s → ⊥ = search rules in
     let is = ap (λ (v : LinesSeen). record v { held = c.clear.new.self.bytes; long = false; answered = v.answered + 1 }) c.self.view_is in
-    subst (λ (t : LinesSeen). LastIs s t (Line c.in_ok-line.line)) (sym is)
+    subst (λ (t : LinesSeen). IsLast s t (Line c.in_ok-line.line)) (sym is)
     (last_line_is s c.clear.new.self.bytes c.len.result c.in_ok-line.line c.requires.within c.requires.clear begun size c.clear.ensures line)

@@ -1,7 +1,7 @@
 use Rattle.std.proofs.Common.{rules, ◌≡◌, ◌-◌, ◌+◌, ◌≤◌, ◌<◌, max, length, ap, sym, subst}
 use Rattle.plan_io.specs.declared.lines.Turn.TheVariants as turn
 use Rattle.plan_io.specs.LinesSeen.{LinesSeen}
-use Rattle.plan_io.specs.Next.{TurnIs}
+use Rattle.plan_io.specs.Next.{IsTurn}
 use Rattle.plan_io.proofs.Turns.{read_over}
 use Rattle.plan_io.proofs.lines.Lines.read_more.Goals as goal
 
@@ -14,5 +14,5 @@ returns-then-count-allowed-clause-turn g c =
     let over : s.most_bytes - s.taken < n = search rules in
     let given : n ≤ length c.read_block.new.room = search rules in
     let is = ap (λ (v : LinesSeen). record v { held = c.make_room.new.self.bytes; taken = v.taken + n }) c.self.view_is in
-    subst (λ (t : LinesSeen). TurnIs s (g.S.Source.left c.args.source.now) t (g.S.Source.left c.read_block.new.source) turn.Over) (sym is)
+    subst (λ (t : LinesSeen). IsTurn s (g.S.Source.left c.args.source.now) t (g.S.Source.left c.read_block.new.source) turn.Over) (sym is)
     (read_over s c.make_room.new.self.bytes c.read_block.new.room n c.read_size.result _ _ c.requires.within c.requires.clear c.requires.steady c.requires.open held c.in-Got.ensures.bytes.0 size over given c.in-Got.ensures.bytes.1)
