@@ -2,6 +2,10 @@
 //! output.
 #![tactic(auto)]
 
+ghost use Rattle.std.specs.Prelude.{◌≡◌};
+ghost use Rattle.std.specs.Process.{exit_status};
+ghost use Rattle.session.specs.Exit.{status_number};
+
 use plan_io::{StdSink, StdSource};
 use session::{Status, run_session};
 use std::env;
@@ -38,6 +42,13 @@ fn program_words<R: Env + AllocGlobal>(rt: &R) -> Result<Vec<String>, Status> {
     }
 }
 
+/// How the program ends: with the number of its status.
+fn exit_code(status: Status) -> ExitCode
+    ensures { exit_status result ≡ status_number status }
+{
+    ExitCode::from(status.number())
+}
+
 fn main(rt: HostRuntime) -> ExitCode {
     let status = match program_words(&rt) {
         Ok(words) => {
@@ -50,5 +61,5 @@ fn main(rt: HostRuntime) -> ExitCode {
     if let Some(text) = message(status) {
         let _ = eprintln!(rt; "{text}");
     }
-    ExitCode::from(status.number())
+    exit_code(status)
 }
