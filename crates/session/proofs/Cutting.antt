@@ -1,9 +1,9 @@
 -- An input is its first line and the lines after it.
-use Rattle.std.proofs.Common.{◌≡◌, ◌≢◌, ℕ, zero, suc, ◌+◌, ◌-◌, ◌<◌, ◌≤◌, List, [], ◌∷◌, ◌++◌, length, take, drop, get_or, refl, sym, ◌∙◌, ap, subst, arith}
+use Rattle.std.proofs.Common.{◌≡◌, ℕ, zero, suc, ◌+◌, ◌-◌, ◌<◌, ◌≤◌, List, [], ◌∷◌, ◌++◌, length, take, drop, refl, sym, ◌∙◌, ap, arith}
 use Rattle.std.proofs.lemmas.List.{take_rest, take-append-drop}
 use Rattle.plan_io.specs.Newline.{NoNewline, EndsAt}
 use Rattle.plan_io.specs.LinesOf.{line_of, last_of, lines_of}
-use Rattle.plan_io.proofs.Cuts.{cuts_line, last_line, no_newline, ends_at}
+use Rattle.plan_io.proofs.Cuts.{cuts_line, last_line}
 
 pub cut_at : (bytes : List ℕ) (n : ℕ) → EndsAt bytes n → lines_of bytes ≡ line_of (take n bytes) ∷ lines_of (take (length bytes - (n + 1)) (drop (n + 1) bytes))
 cut_at bytes n ends =

@@ -1,5 +1,5 @@
 -- What the stopgap claim of a desk's snapshot says of the desk.
-use Rattle.std.proofs.Common.{◌≡◌, ℕ, ◌≤◌, ℤ, pos, ◌≤ℤ◌, List, [], refl, subst, sym, arith, Some, None, Result, Ok, Err, IfSome, IfOk, MatchOption}
+use Rattle.std.proofs.Common.{◌≡◌, ℕ, ◌≤◌, pos, ◌≤ℤ◌, List, [], refl, subst, sym, arith, Some, None, Result, Ok, Err, IfSome, IfOk, MatchOption}
 use Rattle.std.specs.declared.option.Option.{Option}
 use Rattle.std.specs.declared.alloc.AllocError.{AllocError}
 use Rattle.std.proofs.lemmas.Int.{ints}

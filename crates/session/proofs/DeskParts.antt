@@ -1,19 +1,17 @@
 -- The snapshot of a desk is in its ranges, and no fault applies to it.
-use Rattle.std.proofs.Common.{◌≡◌, ℕ, suc, ◌+◌, ◌-◌, ◌*◌, ◌/◌, ◌^◌, ◌<◌, ◌≤◌, List, [], ◌∷◌, ◌++◌, length, map, drop, Bool, true, false, cond, not, ◌&&◌, ◌||◌, zero, nat_lt, nat_le, refl, sym, ◌∙◌, ap, subst, arith, Option, Some, None, inl, inr}
-use Rattle.std.specs.List.{All, AllByRecursion, flat_map, find, enumerate_from, zip, list_any, list_all}
+use Rattle.std.proofs.Common.{◌≡◌, ℕ, suc, ◌+◌, ◌-◌, ◌*◌, ◌^◌, ◌<◌, ◌≤◌, List, [], ◌∷◌, length, map, drop, Bool, true, false, cond, not, ◌||◌, zero, nat_lt, nat_le, refl, ◌∙◌, ap, arith, Option, Some, None}
+use Rattle.std.specs.List.{All, AllByRecursion, flat_map, find, zip, list_any}
 use Rattle.std.specs.Option.{option_map, option_or}
 use Rattle.std.proofs.lemmas.Bool.{lt-leb, le-ltb}
-use Rattle.std.proofs.lemmas.List.Elements.{All-nil, All-cons, All-head, All-tail, All-append}
+use Rattle.std.proofs.lemmas.List.Elements.{All-nil, All-cons, All-head, All-tail}
 use Rattle.std.proofs.Math.Nat.{div-mul-le_self, mul-le-mul, mul-le-mul_left}
 use Rattle.plan_base.specs.declared.parts.Parts.{Parts}
 use Rattle.plan_base.specs.declared.parts.GroupPart.{GroupPart}
 use Rattle.plan_base.specs.declared.span.Span.{Span}
 use Rattle.plan_base.specs.declared.fault.Counted.{Counted}
-use Rattle.plan_base.specs.declared.fault.Counted.TheVariants.{Telescopes, Usable, Skies, Spans, Groups, Requests, Windows, Targets, Fits, Quotas}
 use Rattle.plan_base.specs.declared.fault.SnapshotFault.{SnapshotFault}
-use Rattle.plan_base.specs.declared.fault.SnapshotFault.TheVariants.{OverLimit, EmptySpan, NotApart, GroupOrder, RequestOrder, BadShape, NoSuchTelescope, FadeRange, NoSuchQuota, QuotaRange}
-use Rattle.plan_base.specs.Requests.{Listed, listed, listed_from}
-use Rattle.plan_base.specs.Starts.{slices_for}
+use Rattle.plan_base.specs.declared.fault.SnapshotFault.TheVariants.{OverLimit, EmptySpan}
+use Rattle.plan_base.specs.Requests.{Listed, listed_from}
 use Rattle.plan_base.specs.Snapshot.{IsMoment, IsInRanges, all_spans, first_some, limit_of, counts_of, all_counted, limit_fault, span_fault, apart_fault, group_fault, request_fault, shape_fault, telescope_fault, fade_fault, quota_fault, quota_range_fault, fault_of, with_last, fits_after, has_shape, names_quota}
 use Rattle.session.specs.declared.command.Opening.{Opening}
 use Rattle.session.specs.declared.command.Submission.{Submission}

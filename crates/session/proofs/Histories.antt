@@ -1,9 +1,8 @@
 -- Histories and one entry more.
-use Rattle.std.proofs.Common.{◌≡◌, ℕ, List, [], ◌∷◌, ◌++◌, refl, sym, ◌∙◌, ap, subst, append_assoc, ◌⊎◌, inl, inr}
+use Rattle.std.proofs.Common.{◌≡◌, List, [], ◌∷◌, ◌++◌, refl, sym, ◌∙◌, ap, subst, append_assoc, ◌⊎◌, inl, inr}
 use Rattle.std.proofs.lemmas.List.Sums.{fold-append}
 use Rattle.plan_io.specs.declared.lines.ScriptLine.{ScriptLine}
 use Rattle.session.specs.declared.entry.EventEntry.{EventEntry}
-use Rattle.session.specs.StateSeen.{StateSeen}
 use Rattle.session.specs.Step.{start}
 use Rattle.session.specs.History.{after_entry, replay, EachAfter}
 

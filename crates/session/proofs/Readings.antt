@@ -1,5 +1,5 @@
 -- What a line says, where its bytes have a reading and where they have none.
-use Rattle.std.proofs.Common.{◌≡◌, ℕ, List, Bool, true, false, cond, refl, sym, ◌∙◌, ap, Option, Some, None, Result, Ok, Err}
+use Rattle.std.proofs.Common.{◌≡◌, ℕ, List, Bool, true, false, cond, refl, ◌∙◌, ap, Option, Some, None, Result, Err}
 use Rattle.std.specs.Option.{ok_or, option_and_then}
 use Rattle.std.specs.Str.{IsUtf8, is_utf8}
 use Rattle.std.proofs.lemmas.Str.{IsUtf8-from_is_utf8, is_utf8-from_IsUtf8}
@@ -8,7 +8,7 @@ use Rattle.serde_json.specs.Read.{read}
 use Rattle.session.specs.declared.command.Command.{Command}
 use Rattle.session.specs.declared.entry.Refusal.{Refusal}
 use Rattle.session.specs.declared.entry.Refusal.TheVariants.{NotBuilt}
-use Rattle.session.specs.Commands.{command_of_data, reading_of, read_bytes}
+use Rattle.session.specs.Commands.{command_of_data, read_bytes}
 
 -- the answer to a reading
 abbrev answer_of : Option Data → Result Command Refusal

@@ -1,5 +1,5 @@
 -- A simple desk of at most 512 requests has few possible starts.
-use Rattle.std.proofs.Common.{◌≡◌, ◌≢◌, ℕ, zero, suc, ◌+◌, ◌-◌, ◌*◌, ◌<◌, ◌≤◌, List, [], ◌∷◌, length, map, slice_get, slice_index_or, Bool, true, false, ◌||◌, nat_eq, refl, sym, ◌∙◌, ap, subst, arith, Some, All, AllPairs}
+use Rattle.std.proofs.Common.{◌≡◌, ◌≢◌, ℕ, suc, ◌+◌, ◌-◌, ◌*◌, ◌<◌, ◌≤◌, List, [], ◌∷◌, length, map, slice_get, Bool, true, false, ◌||◌, nat_eq, refl, sym, ◌∙◌, ap, subst, arith, Some, All, AllPairs}
 use Rattle.std.specs.List.{AllByRecursion, IsDistinct, list_any}
 use Rattle.std.proofs.lemmas.Bool.{ne_eqb, eqb-true}
 use Rattle.std.proofs.lemmas.List.{length-map}
@@ -10,7 +10,7 @@ use Rattle.plan_base.specs.declared.parts.RequestPart.{RequestPart}
 use Rattle.plan_base.specs.declared.claim.Placement.{Placement}
 use Rattle.plan_base.specs.Requests.{Listed, listed, place_of}
 use Rattle.plan_base.specs.Snapshot.{IsOrderly}
-use Rattle.plan_base.specs.Starts.{size_of, IsPossibleStart, IsAllStarts, IsStartCount}
+use Rattle.plan_base.specs.Starts.{size_of, IsPossibleStart, IsStartCount}
 use Rattle.stopgap.specs.Stopgap.{IsSimple, StandsAt, only_at}
 use Rattle.stopgap.proofs.Simple.{known_stands}
 use Rattle.stopgap.proofs.Possible.{possible_gives}

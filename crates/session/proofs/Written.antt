@@ -1,9 +1,8 @@
 -- What was written, and more after it.
-use Rattle.std.proofs.Common.{◌≡◌, ℕ, zero, suc, ◌+◌, ◌≤◌, ◌<◌, List, [], ◌∷◌, ◌++◌, length, take, refl, sym, ◌∙◌, ap, subst, arith, append_assoc, append-nil, length-append}
+use Rattle.std.proofs.Common.{◌≡◌, ℕ, ◌+◌, ◌≤◌, ◌<◌, List, [], ◌∷◌, ◌++◌, length, take, refl, sym, ◌∙◌, ap, subst, arith, append_assoc, append-nil, length-append}
 use Rattle.std.specs.declared.option.Option.{Option}
 use Rattle.std.specs.declared.option.Option.TheVariants.{Some, None}
 use Rattle.std.proofs.Math.Seq.{take-append-add}
-use Rattle.plan_io.specs.declared.sink.PutAnswer.{PutAnswer}
 use Rattle.plan_io.specs.declared.sink.PutAnswer.TheVariants as put
 use Rattle.plan_io.specs.Sink.{Adds, Puts}
 use Rattle.session.specs.Session.{WritesFront}

@@ -1,4 +1,4 @@
-use Rattle.std.proofs.Common.{◌≡◌, ◌≤◌, ◌+◌, length, sym, subst, arith, ap}
+use Rattle.std.proofs.Common.{length, sym, subst, arith}
 use Rattle.plan_io.specs.LinesOf.{line_of, lines_of}
 use Rattle.std.proofs.lemmas.Bool.{eqb-true}
 use Rattle.session.specs.StateSeen.{StateSeen}

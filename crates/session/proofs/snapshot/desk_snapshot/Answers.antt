@@ -1,7 +1,6 @@
 use Rattle.std.proofs.Common.{◌≡◌, ◌∙◌, sym, ap, subst, Some, None}
 use Rattle.plan_base.specs.declared.parts.Parts.{Parts}
 use Rattle.plan_base.specs.Snapshot.{IsInRanges, fault_of}
-use Rattle.session.specs.StateSeen.{StateSeen}
 use Rattle.session.proofs.DeskParts.{desk_in_ranges, desk_faultless}
 use Rattle.session.proofs.snapshot.desk_snapshot.Goals as goal
 

@@ -1,4 +1,4 @@
-use Rattle.std.proofs.Common.{◌≡◌, ℕ, ◌<◌, ◌≤◌, length, Bool, true, false, List, [], ◌∷◌, slice_index_or, map, codes, IsTrue, refl, sym, ◌∙◌, ap, subst, arith, String, string_bytes, Global}
+use Rattle.std.proofs.Common.{◌≡◌, ℕ, ◌<◌, ◌≤◌, length, Bool, List, [], ◌∷◌, slice_index_or, map, codes, IsTrue, sym, ◌∙◌, ap, arith, String, string_bytes, Global}
 use Rattle.std.specs.Str.{bytes_eq}
 use Rattle.std.proofs.lemmas.Slice.Eq.{bytes_eq-Decides}
 use Rattle.session.proofs.words.is_session.Goals as goal
