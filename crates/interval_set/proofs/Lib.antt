@@ -3,3 +3,4 @@ pub mod OneList
 pub mod Additions
 pub mod Merges
 pub mod Searches
+pub mod Counts

@@ -7,5 +7,5 @@ mod spans;
 #[cfg(test)]
 mod tests;
 
-pub use laws::{meet_commutes, one_list, part_is_restored, union_commutes};
+pub use laws::{answers_are_short, meet_commutes, one_list, part_is_restored, union_commutes};
 pub use spans::Spans;
