@@ -1,5 +1,5 @@
 -- Sets of seconds, as lists of spans.
-use Rattle.std.specs.Prelude.{◌≡◌, ℕ, ◌≤◌, ◌<◌, nat_le, nat_lt, Bool, false, not, ◌&&◌, ◌||◌, IsTrue, List, All, AllPairs}
+use Rattle.std.specs.Prelude.{◌≡◌, ℕ, ◌≤◌, nat_le, nat_lt, Bool, false, not, ◌&&◌, ◌||◌, IsTrue, List}
 use Rattle.std.specs.List.{list_any}
 use Rattle.plan_base.specs.declared.span.Span.{Span}
 pub use Rattle.plan_base.specs.Snapshot.{IsSortedApart}

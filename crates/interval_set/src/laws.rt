@@ -1,6 +1,7 @@
 // What holds of all sets of seconds; these functions do nothing.
 
-ghost use Rattle.interval_set.specs.Laws.{OneList, UnionCommutes, MeetCommutes, PartIsRestored, SetIsNoLonger, UnionIsNoLonger, MeetIsShorter, DifferenceIsNoLonger};
+ghost use Rattle.interval_set.specs.Laws.{OneList, UnionCommutes, MeetCommutes, PartIsRestored};
+ghost use Rattle.interval_set.specs.Laws.{SetIsNoLonger, UnionIsNoLonger, MeetIsShorter, DifferenceIsNoLonger};
 
 /// A set of seconds has one list.
 pub fn one_list()

@@ -1,5 +1,5 @@
 -- What is seen of the telescopes, from what is kept of them.
-use Rattle.std.proofs.Common.{◌≡◌, ℕ, ◌+◌, ◌<◌, ◌≤◌, List, [], ◌∷◌, ◌++◌, Some, All, refl, sym, ap, subst, ◌∙◌, length, map, position, slice_get, zero, suc, arith}
+use Rattle.std.proofs.Common.{◌≡◌, ℕ, ◌<◌, ◌≤◌, List, [], ◌∷◌, ◌++◌, Some, All, refl, sym, ap, subst, ◌∙◌, length, map, position, slice_get, zero, suc, arith}
 use Rattle.std.specs.List.{list_any}
 use Rattle.std.specs.Option.{is_some, option_map, option_and_then}
 use Rattle.std.proofs.lemmas.Option.{none-some}
@@ -10,11 +10,13 @@ use Rattle.std.proofs.lemmas.List.Elements.{All-head, All-tail, All-weaker, All-
 use Rattle.site_model.specs.declared.code.Code.{Code}
 use Rattle.site_model.specs.declared.code.InstrumentTimes.{InstrumentTimes}
 use Rattle.site_model.specs.declared.telescope.Telescope.{Telescope}
-use Rattle.site_model.specs.declared.registry.Registry.TheInside.{Inside}
+use Rattle.site_model.specs.declared.network.Network.TheInside.{Inside}
 use Rattle.site_model.specs.Names.{is_code, number_of, numbered}
 use Rattle.site_model.specs.Kept.{name_at, ArePlaces}
-use Rattle.site_model.specs.Registry.{code_number, is_coded, with_telescope, site_number, most_instruments, most_sites, most_telescopes, most_targets}
-use Rattle.site_model.specs.RegistryInside.{seen_telescope, seen_registry, IsTied, IsRegistry}
+use Rattle.site_model.specs.Limits.{most_instruments, most_sites, most_telescopes, most_targets}
+use Rattle.site_model.specs.Registry.{code_number, is_coded, with_telescope, site_number}
+use Rattle.site_model.specs.Calendar.{CalendarSeen}
+use Rattle.site_model.specs.NetworkInside.{seen_telescope, seen_registry, IsTied, IsRegistry}
 use Rattle.site_model.proofs.Numbered.{number_kept, number_within}
 
 -- the codes are the keys
@@ -43,6 +45,16 @@ pub telescopes_kept : (ins more sites : List (List ℕ)) (es : List (Code × Tel
 telescopes_kept ins more sites es tied =
     map_same (seen_telescope (ins ++ more)) (seen_telescope ins) es
     (All-weaker (IsTied ins sites) (λ e. seen_telescope (ins ++ more) e ≡ seen_telescope ins e) (λ e t. ap (λ names. record { code = e.0; class = e.1.class; instruments = names }) (names_kept ins more e.1.instruments t.carried)) es tied)
+
+-- another calendar leaves the registry in order
+pub registry_stays : (a : Inside) (k : CalendarSeen) → IsRegistry a → IsRegistry record a { calendar = k }
+registry_stays a k inv = record {
+  few_instruments = inv.few_instruments;
+  few_sites = inv.few_sites;
+  few_telescopes = inv.few_telescopes;
+  few_targets = inv.few_targets;
+  tied = inv.tied;
+}
 
 -- one more instrument
 pub seen-instrument : (a b : Inside) (name : List ℕ) (times : InstrumentTimes) → IsRegistry a → b.instruments.entries ≡ a.instruments.entries ++ (name, times) ∷ [] → b.sites.keys ≡ a.sites.keys

@@ -4,7 +4,7 @@ use Rattle.std.specs.Prelude.{All, Contains, slice_index_or, slice_set}
 use Rattle.std.proofs.Math.ListN.{length-set}
 use Rattle.std.proofs.lemmas.Bool.{cases_eq}
 use Rattle.std.proofs.lemmas.List.{get_or-set_same, get_or-set_other, get_or_default, map-append, take_more}
-use Rattle.std.proofs.lemmas.List.Elements.{All-nil, All-cons, All-head, All-tail, All-push, All-contains, Contains-get_or}
+use Rattle.std.proofs.lemmas.List.Elements.{All-nil, All-cons, All-head, All-tail, All-push, All-set, All-contains, Contains-get_or}
 use Rattle.plan_base.specs.declared.number.TelescopeNo.{TelescopeNo}
 use Rattle.plan_base.specs.declared.span.Span.{Span}
 use Rattle.plan_base.proofs.Lists.{contains_map}
@@ -12,9 +12,9 @@ use Rattle.plan_base.proofs.Members.{contains_from_map}
 use Rattle.site_model.specs.declared.changes.Change.{Change}
 use Rattle.site_model.specs.declared.changes.Closed.{Closed}
 use Rattle.site_model.specs.declared.fault.SiteFault.{SiteFault}
-use Rattle.site_model.specs.declared.fault.SiteFault.TheVariants.{Full}
 use Rattle.site_model.specs.declared.fault.FullOf.TheVariants.{Closures}
-use Rattle.site_model.specs.Calendar.{set_at, most_closures, with_changes, AreChanges, IsChanged, PassesClosures, IsClosureLine, IsFullClosure, IsListed}
+use Rattle.site_model.specs.Limits.{most_closures, full}
+use Rattle.site_model.specs.Calendar.{set_at, with_changes, AreChanges, IsChanged, PassesClosures, IsClosureLine, IsFullClosure, IsListed}
 
 pub length_with : (changes : List Closed) (old : List (List Span)) → length (with_changes old changes) ≡ length old
 length_with [] old = refl
@@ -104,6 +104,17 @@ line_closed change telescopes spans old changes within are =
       places = length_with changes old;
     }
 
+-- closures stay within their limit where each change does
+few_with : (changes : List Closed) (old : List (List Span)) → All (λ (c : Closed). length c.spans ≤ most_closures) changes
+    → All (λ (s : List Span). length s ≤ most_closures) old → All (λ (s : List Span). length s ≤ most_closures) (with_changes old changes)
+few_with [] old few all = all
+few_with (c ∷ changes) old few all = few_with changes (slice_set old c.telescope.0 c.spans) (All-tail (λ (c : Closed). length c.spans ≤ most_closures) c changes few)
+    (All-set (λ (s : List Span). length s ≤ most_closures) old c.telescope.0 c.spans (All-head (λ (c : Closed). length c.spans ≤ most_closures) c changes few) all)
+
+pub closures_few : (change : Change) (telescopes : List TelescopeNo) (spans : List Span) (old : List (List Span)) (changes : List Closed) → AreChanges change telescopes spans old changes
+    → All (λ (s : List Span). length s ≤ most_closures) old → All (λ (s : List Span). length s ≤ most_closures) (with_changes old changes)
+closures_few change telescopes spans old changes are all = few_with changes old are.few all
+
 -- the closures of the telescope at place i of the list, as the code reads them
 pub closures_read : (telescopes : List TelescopeNo) (closures : List (List Span)) (i : ℕ) (d : TelescopeNo) (closed : List Span) → All (λ (t : TelescopeNo). t.0 < length closures) telescopes → i < length telescopes
     → closed ≡ get_or closures (get_or telescopes i d).0 closed → closed ≡ set_at closures (get_or telescopes i d).0
@@ -112,7 +123,7 @@ closures_read telescopes closures i d closed within lt read = read ∙ get_or_de
 -- the line would fill the closures of one of the telescopes
 pub full_next : (change : Change) (telescopes : List TelescopeNo) (spans : List Span) (closures : List (List Span)) (i : ℕ) (d : TelescopeNo) (closed : List Span) (fault : SiteFault)
     → All (λ (t : TelescopeNo). t.0 < length closures) telescopes → i < length telescopes → closed ≡ get_or closures (get_or telescopes i d).0 closed
-    → PassesClosures change closed spans → fault ≡ Full most_closures Closures → IsFullClosure change (IsListed telescopes) spans closures fault
+    → PassesClosures change closed spans → fault ≡ full Closures → IsFullClosure change (IsListed telescopes) spans closures fault
 full_next change telescopes spans closures i d closed fault within lt read passes full = record {
   telescope = (get_or telescopes i d).0;
   inside = Contains-get_or telescopes i d lt;

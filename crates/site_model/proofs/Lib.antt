@@ -10,3 +10,4 @@ pub mod Closings
 pub mod Visibility
 pub mod Lines
 pub mod LatestLine
+pub mod Calls

@@ -1,6 +1,6 @@
 -- What a line makes of the closures of the telescopes in its scope.
-use Rattle.std.proofs.Common.{◌≡◌, ℕ, ◌<◌, List, [], Some, None, length, ap, ◌∙◌, inr}
-use Rattle.std.specs.Prelude.{slice_get}
+use Rattle.std.proofs.Common.{◌≡◌, ◌≢◌, ℕ, ◌<◌, List, [], Some, None, length, ap, ◌∙◌, inr}
+use Rattle.std.specs.Prelude.{slice_get, Result, Ok, Err, IsErrAnd}
 use Rattle.std.proofs.lemmas.List.Elements.{All-contains}
 use Rattle.std.proofs.lemmas.List.Quantifiers.{position-Some}
 use Rattle.std.proofs.lemmas.Option.{option_and_then_some}
@@ -10,10 +10,11 @@ use Rattle.site_model.specs.declared.changes.Change.{Change}
 use Rattle.site_model.specs.declared.code.Code.{Code}
 use Rattle.site_model.specs.declared.code.Scope.{Scope}
 use Rattle.site_model.specs.declared.fault.SiteFault.{SiteFault}
+use Rattle.site_model.specs.declared.fault.SiteFault.TheVariants.{NoMemory}
 use Rattle.site_model.specs.Names.{is_name, number_of}
 use Rattle.site_model.specs.Registry.{RegistrySeen, codes_of, site_number, InScope, IsScopeList, scope_refusal}
 use Rattle.site_model.specs.Calendar.{CalendarSeen, IsClosureLine, IsFullClosure, IsListed, sky_of}
-use Rattle.site_model.specs.Network.{NetworkSeen, HaveNoSky, ChangesClosures, IsClosureRefusal}
+use Rattle.site_model.specs.Network.{NetworkSeen, HaveNoSky, ChangesClosures, ClosesOrRefuses, IsClosureRefusal}
 use Rattle.site_model.proofs.Visibility.{network_of}
 
 -- the telescopes of the list are those in the scope
@@ -58,6 +59,13 @@ line_refused n change scope spans numbers fault list allowed full = inr (record 
   allowed = allowed;
   full = full_in_scope n.registry scope numbers change spans n.calendar.closures fault list full;
 })
+
+-- a refusal of another call is passed on
+pub passes_refusal : (change : Change) (scope : Scope) (spans : List Span) (old new : NetworkSeen) (fault : SiteFault) (result : Result Unit SiteFault) → IsErrAnd result (λ f. f ≡ fault)
+    → (fault ≢ NoMemory → IsClosureRefusal change scope spans old fault) → new ≡ old → ClosesOrRefuses change scope spans old new result
+passes_refusal change scope spans old new fault (Ok v) is refused unchanged = absurd is
+passes_refusal change scope spans old new fault (Err f) is refused unchanged =
+    record { ok = tt; refused = λ memory. rw is (refused (λ none. memory (is ∙ none))); unchanged = unchanged }
 
 -- the number of a telescope's site is that of a site
 pub site_number_within : (r : RegistrySeen) (t s : ℕ) → site_number r t ≡ Some s → s < length r.sites

@@ -15,11 +15,12 @@ use Rattle.site_model.specs.declared.code.Code.{Code}
 use Rattle.site_model.specs.declared.code.Scope.TheVariants as scope
 use Rattle.site_model.specs.declared.fault.SiteFault.TheVariants.{NoSuchTelescope, NoSuchSite}
 use Rattle.site_model.specs.declared.telescope.Telescope.{Telescope}
-use Rattle.site_model.specs.declared.registry.Registry.TheInside.{Inside}
+use Rattle.site_model.specs.declared.network.Network.TheInside.{Inside}
 use Rattle.site_model.specs.Names.{is_name, is_code, number_of}
 use Rattle.site_model.specs.Kept.{IsOfSite, IsAtSite}
-use Rattle.site_model.specs.Registry.{RegistrySeen, codes_of, code_number, InScope, scope_refusal, IsScopeList, most_telescopes}
-use Rattle.site_model.specs.RegistryInside.{seen_telescope, seen_registry, IsTied, IsRegistry}
+use Rattle.site_model.specs.Limits.{most_telescopes}
+use Rattle.site_model.specs.Registry.{RegistrySeen, codes_of, code_number, InScope, scope_refusal, IsScopeList}
+use Rattle.site_model.specs.NetworkInside.{seen_telescope, seen_registry, IsTied, IsRegistry}
 use Rattle.site_model.proofs.Numbered.{list_any-none, list_any-some, name_same, same_number, position_some}
 use Rattle.site_model.proofs.Carried.{codes-seen, code_number-seen}
 

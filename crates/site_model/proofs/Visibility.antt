@@ -10,9 +10,9 @@ use Rattle.site_model.specs.declared.calendar.SkyKey.{SkyKey}
 use Rattle.site_model.specs.declared.fault.SiteFault.{SiteFault}
 use Rattle.site_model.specs.declared.fault.SiteFault.TheVariants.{NoSuchSite}
 use Rattle.site_model.specs.Names.{is_name, number_of, numbered}
-use Rattle.site_model.specs.Registry.{RegistrySeen, with_target, forgets_targets, target_refusal}
+use Rattle.site_model.specs.Registry.{RegistrySeen, with_target, without_targets, target_refusal}
 use Rattle.site_model.specs.Calendar.{CalendarSeen, with_night, with_sky, sky_of, sky_refusal}
-use Rattle.site_model.specs.Network.{NetworkSeen, site_refusal, sets_night, sky_key, sets_visibility, visibility_refusal, HaveNoSky}
+use Rattle.site_model.specs.Network.{NetworkSeen, adds_target, forgets_targets, site_refusal, sets_night, sky_key, sets_visibility, visibility_refusal, HaveNoSky}
 use Rattle.site_model.proofs.Numbered.{list_any-none, list_any-some}
 use Rattle.site_model.proofs.Skies.{other_target}
 
@@ -47,6 +47,12 @@ pub record IsNumbered (n : NetworkSeen) (target site : List ℕ) (r : RegistrySe
   pub targets : r ≡ with_target n.registry target
   pub target_at : number_of r.targets target ≡ Some t.0
   pub allowed : target_refusal n.registry target ≡ None
+
+-- from the network that has the number
+pub numbered_in : (n m : NetworkSeen) (target site : List ℕ) (t : TargetNo) (s : SiteNo) → number_of n.registry.sites site ≡ Some s.0 → m ≡ adds_target n target
+    → number_of m.registry.targets target ≡ Some t.0 → target_refusal n.registry target ≡ None → IsNumbered n target site m.registry t s
+numbered_in n m target site t s site_at added target_at allowed =
+    record { site_at = site_at; targets = ap (λ (m : NetworkSeen). m.registry) added; target_at = target_at; allowed = allowed }
 
 -- its key
 pub numbered_key : (n : NetworkSeen) (target site : List ℕ) (r : RegistrySeen) (t : TargetNo) (s : SiteNo) → IsNumbered n target site r t s → sky_key (with_target n.registry target) target site ≡ Some record { target = t; site = s }
@@ -93,8 +99,15 @@ abbrev with_targets : RegistrySeen → List (List ℕ) → RegistrySeen
 with_targets r names = record r { targets = names }
 
 -- the registry once a new target is forgotten
-pub forgotten : (r : RegistrySeen) (target : List ℕ) → forgets_targets (length r.targets) (with_target r target) ≡ r
+pub forgotten : (r : RegistrySeen) (target : List ℕ) → without_targets (length r.targets) (with_target r target) ≡ r
 forgotten r target = ap (λ (ts : List (List ℕ)). with_targets r ts) (take_numbered r.targets target)
+
+-- a network whose new target is forgotten is as before
+pub as_before : (n m : NetworkSeen) (target : List ℕ) (known : ℕ) (c : CalendarSeen) → m ≡ adds_target n target → known ≡ length n.registry.targets → c ≡ m.calendar
+    → forgets_targets known (network_of m.registry c) ≡ n
+as_before n m target known c added count same =
+    (λ j. network_of (without_targets (count j) (added j).registry) ((same ∙ ap (λ (m : NetworkSeen). m.calendar) added) j))
+    ∙ ap (λ (r : RegistrySeen). network_of r n.calendar) (forgotten n.registry target)
 
 -- targets without a number have no sky
 pub still_unseen : (n : NetworkSeen) (target site : List ℕ) (spans : List Span) (r : RegistrySeen) (t : TargetNo) (s : SiteNo) (c : CalendarSeen) → IsNumbered n target site r t s → c ≡ with_sky n.calendar record { target = t; site = s } spans

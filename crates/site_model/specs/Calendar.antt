@@ -1,5 +1,6 @@
 -- What contracts see of a calendar: nights, closures and skies as sets of seconds.
-use Rattle.std.specs.Prelude.{◌≡◌, ℕ, ◌<◌, ◌≤◌, nat_lt, nat_eq, Bool, ◌&&◌, List, [], Option, Some, None, if◌then◌else◌, length, replicate, slice_index_or, slice_set, sum_by, fold, map, All, Contains}
+use Rattle.std.specs.Prelude.{◌≡◌, ℕ, ◌≤◌, ◌<◌, nat_lt, nat_eq, Bool, false, ◌&&◌, List, [], Option, Some, None, if◌then◌else◌, All, AllPairs, Contains}
+use Rattle.std.specs.Prelude.{length, replicate, slice_index_or, slice_set, sum_by, fold, map}
 use Rattle.std.specs.Option.{unwrap_or}
 use Rattle.std.specs.Map.{lookup}
 use Rattle.indexmap.specs.IndexMap.{insert_entry}
@@ -11,9 +12,8 @@ use Rattle.site_model.specs.declared.changes.Change.{Change}
 use Rattle.site_model.specs.declared.changes.Change.TheVariants.{Close, Reopen}
 use Rattle.site_model.specs.declared.changes.Closed.{Closed}
 use Rattle.site_model.specs.declared.fault.SiteFault.{SiteFault}
-use Rattle.site_model.specs.declared.fault.SiteFault.TheVariants.{Full}
 use Rattle.site_model.specs.declared.fault.FullOf.TheVariants.{Visibility, Closures}
-use Rattle.site_model.specs.Registry.{most_telescopes, most_sites}
+use Rattle.site_model.specs.Limits.{most_telescopes, most_sites, most_visibility, most_closures, most_spans, full}
 
 -- the night of each site and the closures of each telescope, one list for each number that there may be, and the skies
 -- that were given, each of a target at a site
@@ -21,14 +21,6 @@ pub record CalendarSeen : Type 0 where
   pub nights : List (List Span)
   pub closures : List (List Span)
   pub skies : List (SkyKey × List Span)
-
--- the most pieces of all skies
-abbrev pub most_visibility : ℕ
-most_visibility = 262144
-
--- the most pieces of one telescope's closures
-abbrev pub most_closures : ℕ
-most_closures = 512
 
 -- no night, no closure and no sky
 abbrev pub no_calendar : CalendarSeen
@@ -50,6 +42,13 @@ sky_of skies key = unwrap_or (lookup (is_sky key) skies) []
 abbrev pub pieces_of : List (SkyKey × List Span) → ℕ
 pieces_of skies = sum_by (λ sky. length sky.1) skies
 
+-- no night, no telescope's closures and no sky have more pieces than they may have, nor have all skies
+pub record IsWithinLimits (c : CalendarSeen) : Type 0 where
+  pub nights : All (λ night. length night ≤ most_spans) c.nights
+  pub closures : All (λ closed. length closed ≤ most_closures) c.closures
+  pub skies : All (λ sky. length sky.1 ≤ most_spans) c.skies
+  pub visibility : pieces_of c.skies ≤ most_visibility
+
 -- with another night of a site
 abbrev pub with_night : CalendarSeen → ℕ → List Span → CalendarSeen
 with_night c site spans = record c { nights = slice_set c.nights site spans }
@@ -60,7 +59,7 @@ with_sky c key spans = record c { skies = insert_entry is_sky c.skies key spans 
 
 -- why a sky isn't taken, if it isn't
 abbrev pub sky_refusal : CalendarSeen → SkyKey → List Span → Option SiteFault
-sky_refusal c key spans = if nat_lt most_visibility (pieces_of (with_sky c key spans).skies) then Some (Full most_visibility Visibility) else None
+sky_refusal c key spans = if nat_lt most_visibility (pieces_of (with_sky c key spans).skies) then Some (full Visibility) else None
 
 -- what a line makes of the closed seconds of a telescope in its scope
 abbrev pub IsChanged : Change → List Span → List Span → List Span → Type 0
@@ -85,7 +84,7 @@ pub record IsFullClosure (change : Change) (InScope : ℕ → Type 0) (spans : L
   pub telescope : ℕ
   pub inside : InScope telescope
   pub passes : PassesClosures change (set_at old telescope) spans
-  pub full : fault ≡ Full most_closures Closures
+  pub full : fault ≡ full Closures
 
 -- the telescope is one of the list
 abbrev pub IsListed : List TelescopeNo → ℕ → Type 0
@@ -100,3 +99,9 @@ pub record AreChanges (change : Change) (telescopes : List TelescopeNo) (spans :
 -- the closures once each change was put in its place
 abbrev pub with_changes : List (List Span) → List Closed → List (List Span)
 with_changes closures changes = fold (λ done c. slice_set done c.telescope.0 c.spans) closures changes
+
+-- what is visible at different targets and sites has no more pieces together than all skies
+abbrev pub SkiesAreCounted : Type 0
+SkiesAreCounted =
+    (skies : List (SkyKey × List Span)) (keys : List SkyKey) → AllPairs (λ a b. is_sky a b ≡ false) keys
+    → sum_by (λ key. length (sky_of skies key)) keys ≤ pieces_of skies

@@ -37,7 +37,8 @@ is_closed lines t x = option_map_or (λ line. is_close line.change) (latest line
 -- the lines, one after another, lead from old closures to new ones
 abbrev pub LeadsTo : List ClosureLine → List (List Span) → List (List Span) → Type 0
 LeadsTo [] old new = new ≡ old
-LeadsTo (line ∷ lines) old new = (next : List (List Span)) × IsClosureLine line.change (IsListed line.telescopes) line.spans old next × LeadsTo lines next new
+LeadsTo (line ∷ lines) old new =
+    (next : List (List Span)) × IsClosureLine line.change (IsListed line.telescopes) line.spans old next × LeadsTo lines next new
 
 -- a second is closed where the latest line that is about it is a closure
 abbrev pub LatestDecides : Type 0
@@ -47,11 +48,13 @@ LatestDecides =
 
 -- a second of the night is usable where the lines have not closed it
 abbrev pub UsableByLatest : Type 0
-UsableByLatest = (lines : List ClosureLine) (closures : List (List Span)) → LeadsTo lines no_calendar.closures closures
-    → (t : ℕ) (night usable : List Span) → IsDifference night (set_at closures t) usable → (x : ℕ) → has usable x ≡ (has night x && not (is_closed lines t x))
+UsableByLatest =
+    (lines : List ClosureLine) (closures : List (List Span)) → LeadsTo lines no_calendar.closures closures
+    → (t : ℕ) (night usable : List Span) → IsDifference night (set_at closures t) usable
+    → (x : ℕ) → has usable x ≡ (has night x && not (is_closed lines t x))
 
 -- a line of a network is one with the list of the telescopes in its scope
 abbrev pub ScopeIsList : Type 0
 ScopeIsList = (r : RegistrySeen) (scope : Scope) (numbers : List TelescopeNo) → IsScopeList r scope numbers
     → (change : Change) (spans : List Span) (old new : List (List Span)) → IsClosureLine change (InScope r scope) spans old new
-        → IsClosureLine change (IsListed numbers) spans old new
+    → IsClosureLine change (IsListed numbers) spans old new

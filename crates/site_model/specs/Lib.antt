@@ -1,7 +1,8 @@
+pub mod Limits
+pub mod Calls
 pub mod Names
 pub mod Registry
 pub mod Kept
-pub mod RegistryInside
 pub mod Calendar
 pub mod CalendarInside
 pub mod Network

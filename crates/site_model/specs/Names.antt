@@ -1,8 +1,14 @@
 -- Names that are numbered as they are first given: a name's number is its place in the list.
 use Rattle.std.specs.Prelude.{ℕ, Bool, ◌&&◌, not, nat_eq, List, ◌++◌, ◌∷◌, [], Option, if◌then◌else◌, position}
 use Rattle.std.specs.List.{list_any}
+use Rattle.std.specs.Option.{option_and_then}
 use Rattle.std.specs.Cmp.Lexicographic.{pointwise}
 use Rattle.site_model.specs.declared.code.Code.{Code}
+
+infixr 1 ◌>>=◌
+-- what is there, and what follows from it
+abbrev pub ◌>>=◌ : {A B : Type 0} → Option A → (A → Option B) → Option B
+o >>= f = option_and_then f o
 
 -- whether two texts are the same
 abbrev pub is_name : List ℕ → List ℕ → Bool

@@ -1,18 +1,19 @@
 -- What contracts see of a registry, and when it refuses.
-use Rattle.std.specs.Prelude.{◌≡◌, ℕ, ◌^◌, ◌-◌, ◌<◌, nat_le, min, Bool, true, false, ◌&&◌, List, ◌++◌, ◌∷◌, [], Option, Some, None, if◌then◌else◌, map, length, take, position, slice_get, All, Contains}
+use Rattle.std.specs.Prelude.{◌≡◌, ℕ, ◌^◌, ◌-◌, ◌<◌, min, Bool, true, false, ◌&&◌, List, ◌++◌, ◌∷◌, [], All, Contains}
+use Rattle.std.specs.Prelude.{Option, Some, None, if◌then◌else◌, map, length, take, position, slice_get}
 use Rattle.std.specs.List.{list_any}
 use Rattle.std.specs.Map.{keys_of, lookup}
-use Rattle.std.specs.Option.{option_map, option_map_or, option_or, option_and_then}
+use Rattle.std.specs.Option.{option_map, option_map_or, option_or}
 use Rattle.plan_base.specs.declared.number.TelescopeNo.{TelescopeNo}
 use Rattle.site_model.specs.declared.code.Code.{Code}
 use Rattle.site_model.specs.declared.code.Scope.{Scope}
 use Rattle.site_model.specs.declared.code.Scope.TheVariants.{Telescope, Site}
 use Rattle.site_model.specs.declared.code.InstrumentTimes.{InstrumentTimes}
 use Rattle.site_model.specs.declared.fault.SiteFault.{SiteFault}
-use Rattle.site_model.specs.declared.fault.SiteFault.TheVariants.{NoSuchTelescope, NoSuchSite, Repeated, Full, NoSuchInstrument}
-use Rattle.site_model.specs.declared.fault.FullOf.{FullOf}
+use Rattle.site_model.specs.declared.fault.SiteFault.TheVariants.{NoSuchTelescope, NoSuchSite, Repeated, NoSuchInstrument}
 use Rattle.site_model.specs.declared.fault.FullOf.TheVariants.{Instruments, Telescopes, Sites, Targets}
-use Rattle.site_model.specs.Names.{is_name, is_code, is_named, number_of, numbered, first_unnamed}
+use Rattle.site_model.specs.Limits.{most_telescopes, full_of}
+use Rattle.site_model.specs.Names.{◌>>=◌, is_name, is_code, is_named, number_of, numbered, first_unnamed}
 
 -- a telescope as it was registered: its code, its class and the instruments that it carries
 pub record TelescopeSeen : Type 0 where
@@ -26,19 +27,6 @@ pub record RegistrySeen : Type 0 where
   pub sites : List (List ℕ)
   pub telescopes : List TelescopeSeen
   pub targets : List (List ℕ)
-
--- the most that are registered
-abbrev pub most_instruments : ℕ
-most_instruments = 64
-
-abbrev pub most_telescopes : ℕ
-most_telescopes = 32
-
-abbrev pub most_sites : ℕ
-most_sites = 16
-
-abbrev pub most_targets : ℕ
-most_targets = 2048
 
 -- the greatest number that names a place in a list
 abbrev pub most_index : ℕ
@@ -66,7 +54,7 @@ code_number r code = position (is_code code) (codes_of r)
 
 -- the number of the site of a telescope
 abbrev pub site_number : RegistrySeen → ℕ → Option ℕ
-site_number r t = option_and_then (λ c. number_of r.sites c.site) (slice_get (codes_of r) t)
+site_number r t = slice_get (codes_of r) t >>= λ c. number_of r.sites c.site
 
 -- whether a telescope has this code
 abbrev pub is_coded : RegistrySeen → Code → Bool
@@ -85,16 +73,12 @@ abbrev pub with_target : RegistrySeen → List ℕ → RegistrySeen
 with_target r name = record r { targets = numbered r.targets name }
 
 -- without the targets from a number on
-abbrev pub forgets_targets : ℕ → RegistrySeen → RegistrySeen
-forgets_targets from r = record r { targets = take from r.targets }
-
--- the refusal of one more, where there are as many as there may be
-abbrev pub full_of : FullOf → ℕ → ℕ → Option SiteFault
-full_of what most count = if nat_le most count then Some (Full most what) else None
+abbrev pub without_targets : ℕ → RegistrySeen → RegistrySeen
+without_targets from r = record r { targets = take from r.targets }
 
 -- why an instrument isn't registered, if it isn't
 abbrev pub instrument_refusal : RegistrySeen → List ℕ → Option SiteFault
-instrument_refusal r name = if is_named (instrument_names r) name then Some Repeated else full_of Instruments most_instruments (length r.instruments)
+instrument_refusal r name = if is_named (instrument_names r) name then Some Repeated else full_of Instruments (length r.instruments)
 
 -- the refusal of the first name that isn't one of the instruments
 abbrev pub unknown_of : List (List ℕ) → List (List ℕ) → Option SiteFault
@@ -102,17 +86,17 @@ unknown_of instruments given = option_map (λ i. NoSuchInstrument (min i most_in
 
 -- the refusal of one site too many
 abbrev pub full_sites : RegistrySeen → List ℕ → Option SiteFault
-full_sites r site = if is_named r.sites site then None else full_of Sites most_sites (length r.sites)
+full_sites r site = if is_named r.sites site then None else full_of Sites (length r.sites)
 
 -- why a telescope isn't registered, if it isn't
 abbrev pub telescope_refusal : RegistrySeen → Code → List (List ℕ) → Option SiteFault
 telescope_refusal r code given =
     option_or (unknown_of (instrument_names r) given)
-    (if is_coded r code then Some Repeated else option_or (full_of Telescopes most_telescopes (length r.telescopes)) (full_sites r code.site))
+    (if is_coded r code then Some Repeated else option_or (full_of Telescopes (length r.telescopes)) (full_sites r code.site))
 
 -- why a target gets no number, if it gets none
 abbrev pub target_refusal : RegistrySeen → List ℕ → Option SiteFault
-target_refusal r name = if is_named r.targets name then None else full_of Targets most_targets (length r.targets)
+target_refusal r name = if is_named r.targets name then None else full_of Targets (length r.targets)
 
 -- whether a telescope has the class, the site, the enclosure and the code where these are given, and the instrument
 abbrev pub fits : TelescopeSeen → List ℕ → Option (List ℕ) → Option (List ℕ) → Option (List ℕ) → List ℕ → Bool

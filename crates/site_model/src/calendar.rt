@@ -1,22 +1,20 @@
 // When telescopes may observe: nights, closures and skies, by number.
 
-ghost use Rattle.std.specs.Prelude.{◌≡◌, ◌≢◌, ◌<◌, [], Some, None, All, IfOk, IfErr, OnOk, OnErr, replicate};
+ghost use Rattle.std.specs.Prelude.{◌≡◌, ◌≢◌, ◌<◌, ◌≤◌, [], All, IfOk, IfErr, OnOk, OnErr, length, replicate};
 ghost use Rattle.interval_set.specs.Spans.{IsDifference};
 ghost use Rattle.site_model.specs.declared.fault.SiteFault.TheVariants.{NoMemory};
-ghost use Rattle.site_model.specs.Registry.{most_telescopes, most_sites};
-ghost use Rattle.site_model.specs.Calendar.{no_calendar, set_at, sky_of, with_night, with_sky, sky_refusal, IsListed, IsClosureLine, IsFullClosure};
+ghost use Rattle.site_model.specs.Limits.{most_telescopes, most_sites, most_spans, most_usable};
+ghost use Rattle.site_model.specs.Calls.{ChangesOrRefuses};
+ghost use Rattle.site_model.specs.Calendar.{no_calendar, set_at, sky_of, with_night, with_sky, sky_refusal};
+ghost use Rattle.site_model.specs.Calendar.{IsListed, IsClosureLine, IsFullClosure, IsWithinLimits};
 
 use crate::changes::{Change, changes_of, put};
 use crate::fault::{FullOf, SiteFault};
-use crate::registry::{MOST_SITES, MOST_TELESCOPES};
 use indexmap::IndexMap;
 use interval_set::Spans;
 use plan_base::{SiteNo, TargetNo, TelescopeNo};
 use std::alloc::{AllocError, Global};
 use std::marker::Model;
-
-/// The most pieces that the skies of all targets at all sites have.
-pub const MOST_VISIBILITY: usize = 262_144;
 
 /// A target at a site.
 #[derive(Clone, Copy, Debug, PartialEq, Eq, Hash)]
@@ -55,8 +53,8 @@ impl Calendar {
         ensures { IfOk result (λ calendar. calendar ≡ no_calendar) }
     {
         Ok(Calendar {
-            nights: no_sets(alloc, MOST_SITES)?,
-            closures: no_sets(alloc, MOST_TELESCOPES)?,
+            nights: no_sets(alloc, FullOf::Sites.most())?,
+            closures: no_sets(alloc, FullOf::Telescopes.most())?,
             skies: IndexMap::new(alloc),
             pieces: 0,
             nothing: Spans::empty(alloc),
@@ -66,7 +64,8 @@ impl Calendar {
 
     /// Replaces the night of a site. Fails only for want of memory, and then changes nothing.
     pub fn set_night(&mut self, site: SiteNo, spans: &Spans) -> Result<(), AllocError>
-        requires { site.0 < most_sites }
+        requires site { site.0 < most_sites }
+        requires few { length spans.now ≤ most_spans }
         ensures ok { OnOk result (self.new ≡ with_night self.old site.0 spans.now) }
         ensures err { OnErr result (self.new ≡ self.old) }
     {
@@ -77,17 +76,12 @@ impl Calendar {
 
     /// Replaces the sky of a target at a site. `Full` comes where all skies would have too many pieces.
     pub fn set_sky(&mut self, key: SkyKey, spans: &Spans) -> Result<(), SiteFault>
-        ensures ok { OnOk result (self.new ≡ with_sky self.old key spans.now) }
-        ensures allowed { OnOk result (sky_refusal self.old key spans.now ≡ None) }
-        ensures refused { IfErr result (λ fault. fault ≢ NoMemory → sky_refusal self.old key spans.now ≡ Some fault) }
-        ensures unchanged { OnErr result (self.new ≡ self.old) }
+        requires { length spans.now ≤ most_spans }
+        ensures { ChangesOrRefuses (sky_refusal self.old key spans.now) self.old (with_sky self.old key spans.now) self.new result }
     {
         let others = self.pieces - self.sky(key).len();
-        if spans.len() > MOST_VISIBILITY - others {
-            return Err(SiteFault::Full {
-                limit: MOST_VISIBILITY as u64,
-                what: FullOf::Visibility,
-            });
+        if spans.len() > FullOf::Visibility.most() - others {
+            return Err(SiteFault::full(FullOf::Visibility));
         }
         let pieces = others + spans.len();
         let spans = spans.copy(self.alloc)?;
@@ -125,7 +119,9 @@ impl Calendar {
     pub fn usable(&self, site: SiteNo, telescope: TelescopeNo) -> Result<Spans, AllocError>
         requires site { site.0 < most_sites }
         requires telescope { telescope.0 < most_telescopes }
-        ensures { IfOk result (IsDifference (set_at self.now.nights site.0) (set_at self.now.closures telescope.0)) }
+        ensures usable { IfOk result (IsDifference (set_at self.now.nights site.0) (set_at self.now.closures telescope.0)) }
+        ensures few { IfOk result (λ usable. length usable ≤ most_usable) }
+        ensures limits { IsWithinLimits self.now }
     {
         let night = &self.nights[site.0 as usize];
         night.minus(self.alloc, &self.closures[telescope.0 as usize])
@@ -133,7 +129,9 @@ impl Calendar {
 
     /// The sky of a target at a site.
     pub fn sky(&self, key: SkyKey) -> &Spans
-        ensures { result.now ≡ sky_of self.now.skies key }
+        ensures sky { result.now ≡ sky_of self.now.skies key }
+        ensures few { length result.now ≤ most_spans }
+        ensures limits { IsWithinLimits self.now }
     {
         match self.skies.get(&key) {
             Some(sky) => sky,

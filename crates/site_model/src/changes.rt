@@ -1,17 +1,15 @@
 // What closures and reopenings make of the closed seconds of telescopes.
 
 ghost use Rattle.std.specs.Prelude.{◌≡◌, ◌≢◌, ◌<◌, ◌≤◌, length, All, IfOk, IfErr};
-ghost use Rattle.site_model.specs.declared.fault.SiteFault.TheVariants.{NoMemory, Full};
+ghost use Rattle.site_model.specs.declared.fault.SiteFault.TheVariants.{NoMemory};
 ghost use Rattle.site_model.specs.declared.fault.FullOf.TheVariants.{Closures};
-ghost use Rattle.site_model.specs.Calendar.{set_at, most_closures, IsChanged, PassesClosures, IsListed, IsFullClosure, AreChanges, with_changes};
+ghost use Rattle.site_model.specs.Limits.{most_closures, full};
+ghost use Rattle.site_model.specs.Calendar.{set_at, IsChanged, PassesClosures, IsListed, IsFullClosure, AreChanges, with_changes};
 
 use crate::fault::{FullOf, SiteFault};
 use interval_set::Spans;
 use plan_base::TelescopeNo;
 use std::alloc::Global;
-
-/// The most pieces that the closures of one telescope have.
-pub const MOST_CLOSURES: usize = 512;
 
 /// What a line does with the closures of telescopes.
 #[derive(Clone, Copy, Debug, PartialEq, Eq)]
@@ -29,28 +27,24 @@ pub struct Closed {
     pub spans: Spans,
 }
 
-/// What the line makes of closed seconds. `Full` comes where that has more than `MOST_CLOSURES` pieces.
+/// What the line makes of closed seconds. `Full` comes where that has too many pieces.
 fn changed(alloc: Global, change: Change, closed: &Spans, spans: &Spans) -> Result<Spans, SiteFault>
     ensures changed { IfOk result (IsChanged change closed.now spans.now) }
     ensures few { IfOk result (λ changed. length changed ≤ most_closures) }
     ensures passes { IfErr result (λ fault. fault ≢ NoMemory → PassesClosures change closed.now spans.now) }
-    ensures full { IfErr result (λ fault. fault ≢ NoMemory → fault ≡ Full most_closures Closures) }
+    ensures full { IfErr result (λ fault. fault ≢ NoMemory → fault ≡ full Closures) }
 {
     let changed = match change {
         Change::Close => closed.union(alloc, spans)?,
         Change::Reopen => closed.minus(alloc, spans)?,
     };
-    if changed.len() > MOST_CLOSURES {
-        return Err(SiteFault::Full {
-            limit: MOST_CLOSURES as u64,
-            what: FullOf::Closures,
-        });
+    if changed.len() > FullOf::Closures.most() {
+        return Err(SiteFault::full(FullOf::Closures));
     }
     Ok(changed)
 }
 
-/// What the line makes of the closures of each of the telescopes. `Full` comes where one of them has more than
-/// `MOST_CLOSURES` pieces.
+/// What the line makes of the closures of each of the telescopes. `Full` comes where one of them has too many pieces.
 pub fn changes_of(
     alloc: Global,
     change: Change,

@@ -1,5 +1,7 @@
 // What names a telescope, and what an instrument takes.
 
+ghost use Rattle.std.specs.Prelude.{◌≤◌};
+
 use plan_base::Name;
 
 /// The three names of a telescope.
@@ -22,15 +24,19 @@ pub enum Scope {
     Site(Name),
 }
 
-/// What an instrument type needs beside the exposures, in milliseconds, each from 0 to 86,400,000 (a day) in a session.
+/// What an instrument type needs beside the exposures, in milliseconds, each at most a day.
 #[derive(Clone, Copy, Debug, PartialEq, Eq)]
 pub struct InstrumentTimes {
-    /// Before the first configuration of a request.
+    /// Before all else, once a request.
     pub front_ms: u32,
     /// Before each configuration.
     pub config_ms: u32,
     /// After each exposure.
     pub readout_ms: u32,
-    /// Before each instrument configuration.
+    /// Once for each instrument configuration, however many exposures it has.
     pub change_ms: u32,
+    ghost front: { front_ms ≤ 86400000 },
+    ghost config: { config_ms ≤ 86400000 },
+    ghost readout: { readout_ms ≤ 86400000 },
+    ghost change: { change_ms ≤ 86400000 },
 }

@@ -1,7 +1,8 @@
 // Why the network refuses.
 
-ghost use Rattle.std.specs.Prelude.{◌≡◌};
+ghost use Rattle.std.specs.Prelude.{◌≡◌, None, Some, IfErr, OnOk};
 ghost use Rattle.site_model.specs.declared.fault.SiteFault.TheVariants.{NoMemory};
+ghost use Rattle.site_model.specs.Limits.{most_of, full, full_of};
 
 use std::alloc::{AllocError, AllocFailed};
 use thiserror::Error;
@@ -21,6 +22,33 @@ pub enum FullOf {
     Visibility,
     /// The pieces of one telescope's closures.
     Closures,
+}
+
+impl FullOf {
+    /// How many there may be.
+    pub(crate) fn most(self) -> usize
+        ensures { result ≡ most_of self }
+    {
+        match self {
+            FullOf::Instruments => 64,
+            FullOf::Telescopes => 32,
+            FullOf::Sites => 16,
+            FullOf::Targets => 2_048,
+            FullOf::Visibility => 262_144,
+            FullOf::Closures => 512,
+        }
+    }
+
+    /// `Full` where there are as many as there may be.
+    pub(crate) fn has_room(self, count: usize) -> Result<(), SiteFault>
+        ensures room { OnOk result (full_of self count ≡ None) }
+        ensures full { IfErr result (λ fault. full_of self count ≡ Some fault) }
+    {
+        if count >= self.most() {
+            return Err(SiteFault::full(self));
+        }
+        Ok(())
+    }
 }
 
 /// Why the network refuses a call. It is then as before.
@@ -44,6 +72,18 @@ pub enum SiteFault {
     /// Memory ran out.
     #[error("out of memory")]
     NoMemory,
+}
+
+impl SiteFault {
+    /// There are as many as there may be.
+    pub(crate) fn full(what: FullOf) -> SiteFault
+        ensures { result ≡ full what }
+    {
+        SiteFault::Full {
+            limit: what.most() as u64,
+            what,
+        }
+    }
 }
 
 impl From<AllocError> for SiteFault {

@@ -1,5 +1,6 @@
-// What holds of all lines about closures; the function does nothing.
+// What holds of all lines about closures, and of skies; these functions do nothing.
 
+ghost use Rattle.site_model.specs.Calendar.{SkiesAreCounted};
 ghost use Rattle.site_model.specs.Latest.{LatestDecides, UsableByLatest, ScopeIsList};
 
 /// A second of a telescope is closed where the latest accepted line that is about it is a closure, and not a reopening; it
@@ -9,4 +10,9 @@ pub fn latest_line_decides()
     ensures closed { LatestDecides }
     ensures usable { UsableByLatest }
     ensures scope { ScopeIsList }
+{}
+
+/// The skies of different targets and sites have at most the pieces of all skies together.
+pub fn skies_are_counted()
+    ensures { SkiesAreCounted }
 {}

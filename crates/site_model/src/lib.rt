@@ -8,12 +8,11 @@ mod fault;
 mod laws;
 mod names;
 mod network;
-mod registry;
 mod telescope;
 #[cfg(test)]
 mod tests;
 
 pub use code::{Code, InstrumentTimes, Scope};
 pub use fault::{FullOf, SiteFault};
-pub use laws::latest_line_decides;
+pub use laws::{latest_line_decides, skies_are_counted};
 pub use network::Network;

@@ -1,9 +1,11 @@
 // Names by number: a name's number is its place among those that were named before it.
 
-ghost use Rattle.std.specs.Prelude.{◌≡◌, ◌≢◌, ◌≤◌, Some, None, All, IfOk, IfErr, OnOk, OnErr, length, map, if◌then◌else◌};
+ghost use Rattle.std.specs.Prelude.{◌≡◌, ◌≢◌, ◌≤◌, Some, None, IfOk, IfErr, OnOk, length, map, if◌then◌else◌};
 ghost use Rattle.site_model.specs.declared.fault.SiteFault.TheVariants.{NoMemory};
+ghost use Rattle.site_model.specs.Limits.{most_of, full_of};
+ghost use Rattle.site_model.specs.Calls.{ChangesOrRefuses};
 ghost use Rattle.site_model.specs.Names.{is_named, number_of, numbered};
-ghost use Rattle.site_model.specs.Registry.{full_of, unknown_of};
+ghost use Rattle.site_model.specs.Registry.{unknown_of};
 ghost use Rattle.site_model.specs.Kept.{name_at, ArePlaces};
 ghost use Rattle.indexmap.specs.IndexMap.{keys};
 
@@ -13,20 +15,6 @@ use indexmap::{IndexMap, IndexSet};
 use plan_base::{ListOf, Name};
 use std::alloc::Global;
 
-/// `Full` where there are as many as there may be.
-pub fn has_room(what: FullOf, most: usize, count: usize) -> Result<(), SiteFault>
-    ensures room { OnOk result (full_of what most count ≡ None) }
-    ensures full { IfErr result (λ fault. full_of what most count ≡ Some fault) }
-{
-    if count >= most {
-        return Err(SiteFault::Full {
-            limit: most as u64,
-            what,
-        });
-    }
-    Ok(())
-}
-
 /// The number of a name, which gets the next one where it is new; `Full` where there are as many as there may be. An error
 /// changes nothing.
 pub fn number(
@@ -34,19 +22,16 @@ pub fn number(
     alloc: Global,
     name: &Name,
     what: FullOf,
-    most: usize,
 ) -> Result<usize, SiteFault>
-    ensures names { OnOk result (names.new.keys ≡ numbered names.old.keys name.now) }
+    ensures numbered { let refusal = (if is_named names.old.keys name.now then None else full_of what (length names.old.keys)) in
+        ChangesOrRefuses refusal names.old.keys (numbered names.old.keys name.now) names.new.keys result }
     ensures number { IfOk result (λ number. number_of names.new.keys name.now ≡ Some number) }
-    ensures allowed { OnOk result ((if is_named names.old.keys name.now then None else full_of what most (length names.old.keys)) ≡ None) }
-    ensures refused { IfErr result (λ fault. fault ≢ NoMemory → (if is_named names.old.keys name.now then None else full_of what most (length names.old.keys)) ≡ Some fault) }
-    ensures few { length names.old.keys ≤ most → length names.new.keys ≤ most }
-    ensures unchanged { OnErr result (names.new.keys ≡ names.old.keys) }
+    ensures few { length names.old.keys ≤ most_of what → length names.new.keys ≤ most_of what }
 {
     if let Some(place) = names.get_index_of(name) {
         return Ok(place);
     }
-    has_room(what, most, names.len())?;
+    what.has_room(names.len())?;
     let (place, _) = names.insert_full(name.copy(alloc)?)?;
     Ok(place)
 }

@@ -1,13 +1,16 @@
 // What is kept of a telescope, and which telescopes fit.
 
 ghost use Rattle.std.specs.Prelude.{◌≡◌, ◌≤◌, true, IfOk, IfErr, length, option_copied};
+ghost use Rattle.std.specs.List.{IsDistinct};
 ghost use Rattle.std.specs.Option.{option_map_or};
+ghost use Rattle.indexmap.specs.IndexMap.{keys};
 ghost use Rattle.site_model.specs.declared.fault.SiteFault.TheVariants.{NoMemory};
+ghost use Rattle.site_model.specs.Limits.{most_telescopes};
 ghost use Rattle.site_model.specs.Names.{is_name};
-ghost use Rattle.site_model.specs.Kept.{fits_kept, IsAtSite};
-ghost use Rattle.site_model.specs.Registry.{most_telescopes};
+ghost use Rattle.site_model.specs.Kept as kept;
+ghost use Rattle.site_model.specs.Kept.{IsAtSite};
 
-use crate::code::Code;
+use crate::code::{Code, InstrumentTimes};
 use crate::fault::SiteFault;
 use indexmap::IndexMap;
 use plan_base::{ListOf, Name, SiteNo, TelescopeNo};
@@ -21,24 +24,37 @@ pub struct Telescope {
     pub instruments: ListOf<usize>,
 }
 
-/// Whether a telescope has the class, the site, the enclosure and the code where these are given, and carries the
-/// instrument at a place.
-pub fn fits(
+/// Whether a telescope has the class, and the site, the enclosure and the code where these are given.
+pub fn has_names(
     names: &Code,
     telescope: &Telescope,
     class: &Name,
     site: Option<&Name>,
     enclosure: Option<&Name>,
     code: Option<&Name>,
-    instrument: usize,
 ) -> bool
-    ensures { result ≡ fits_kept names.now telescope.now class.now (option_copied site.entry) (option_copied enclosure.entry) (option_copied code.entry) instrument }
+    ensures { result ≡ kept.has_names names.now telescope.now class.now
+        (option_copied site.entry) (option_copied enclosure.entry) (option_copied code.entry) }
 {
     telescope.class == *class
         && is_or_any(&names.site, site)
         && is_or_any(&names.enclosure, enclosure)
         && is_or_any(&names.telescope, code)
-        && telescope.instruments.as_slice().contains(&instrument)
+}
+
+/// Whether a telescope carries an instrument.
+pub fn carries(
+    instruments: &IndexMap<Name, InstrumentTimes>,
+    telescope: &Telescope,
+    name: &Name,
+) -> bool
+    ensures carries { result ≡ kept.carries (keys instruments.now) telescope.now name.now }
+    ensures once { IsDistinct is_name (keys instruments.now) }
+{
+    match instruments.get_index_of(name) {
+        Some(place) => telescope.instruments.as_slice().contains(&place),
+        None => false,
+    }
 }
 
 // Whether a name is the one that is asked for, if one is.

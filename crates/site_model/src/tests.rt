@@ -1,7 +1,5 @@
-// Calls on a network one after another, with answers that were worked out by hand.
+// What no clause says: that each call finds memory, and rows that were worked out by hand.
 
-mod calendar;
-mod fitting;
-mod named;
-mod registry;
-mod steps;
+mod made;
+mod nights;
+mod registered;
