@@ -32,7 +32,7 @@ pub fn number(
         return Ok(place);
     }
     what.has_room(names.len())?;
-    let (place, _) = names.insert_full(name.copy(alloc)?)?;
+    let (place, _) = names.insert_full(name.clone()?)?;
     Ok(place)
 }
 
