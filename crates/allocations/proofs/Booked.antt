@@ -1,11 +1,10 @@
 -- What booking leaves of the groups.
-use Rattle.std.proofs.Common.{◌≡◌, ℕ, zero, suc, ◌+◌, ◌<◌, ◌≤◌, List, [], ◌∷◌, ◌++◌, length, get_or, set, take, drop, refl, sym, ap, ◌∙◌, subst, arith, map, Some, None, Option}
-use Rattle.std.specs.Prelude.{All, find, slice_get, option_and_then, ◌==◌}
+use Rattle.std.proofs.Common.{◌≡◌, ℕ, zero, suc, ◌+◌, ◌<◌, ◌≤◌, List, [], ◌∷◌, length, set, refl, sym, ap, ◌∙◌, arith, Some, None, Option}
+use Rattle.std.specs.Prelude.{slice_get, option_and_then}
 use Rattle.std.specs.List.{insert}
 use Rattle.std.specs.Ordering.{nat_cmp}
 use Rattle.std.specs.BTreeSet.{replace_key}
 use Rattle.std.specs.Cmp.{IsTotalOrder}
-use Rattle.std.specs.declared.cmp.Ordering.TheVariants.{Less, Equal, Greater}
 use Rattle.std.proofs.lemmas.Cmp.{nat_cmp_total, on_total, tied_itself}
 use Rattle.std.proofs.lemmas.List.{length-map}
 use Rattle.std.proofs.lemmas.List.Edits.{get_or-insert_at}
@@ -77,10 +76,10 @@ puts_gap gs n i gap e g same =
     (λ k d l. rw (number, ← get_or-map (λ (x : GroupState). x.group.0) gs k d) (gap.below k d.group.0 l))
     (λ k d l m. rw (number, ← get_or-map (λ (x : GroupState). x.group.0) gs k d) (gap.above k d.group.0 l (rw length-map m))))
 
--- holds laid on a group that held nothing, and a charge that stands for it
-pub laid : (gs opened : List GroupState) (n : GroupNo) (i : ℕ) (holds : List Amount) (ipp : Option Amount) → i < length opened → group_at opened i ≡ record { group = n; holds = []; ipp = standing_of n gs } → ((g : GroupState) → g.group ≡ n → set opened i g ≡ replace_key state_cmp gs g)
+-- holds booked for a group that held nothing, and a charge that stands for it
+pub group_booked : (gs opened : List GroupState) (n : GroupNo) (i : ℕ) (holds : List Amount) (ipp : Option Amount) → i < length opened → group_at opened i ≡ record { group = n; holds = []; ipp = standing_of n gs } → ((g : GroupState) → g.group ≡ n → set opened i g ≡ replace_key state_cmp gs g)
     → set opened i (record (group_at opened i) { holds = holds }) ≡ booked_groups n holds None gs
-laid gs opened n i holds ipp l state puts =
+group_booked gs opened n i holds ipp l state puts =
     ap (λ (g : GroupState). set opened i (record g { holds = holds })) state ∙ puts record { group = n; holds = holds; ipp = standing_of n gs } refl
 
 pub laid_charged : (gs opened : List GroupState) (n : GroupNo) (i : ℕ) (holds : List Amount) (m : Amount) → i < length opened → group_at opened i ≡ record { group = n; holds = []; ipp = standing_of n gs } → ((g : GroupState) → g.group ≡ n → set opened i g ≡ replace_key state_cmp gs g)
@@ -93,7 +92,7 @@ laid_charged gs opened n i holds m l state puts =
     ∙ ap (λ (g : GroupState). set opened i (record g { holds = holds; ipp = Some m })) state
     ∙ puts record { group = n; holds = holds; ipp = Some m } refl
 
--- what is held once holds are laid
+-- what is held once holds are booked
 pub held_laid : (opened : List GroupState) (j : ℕ) (holds : List Amount) (i : ℕ) → j < length opened → (group_at opened j).holds ≡ [] → held_at i (set opened j (record (group_at opened j) { holds = holds })) ≡ held_at i opened + amount_at i holds
 held_laid opened j holds i l empty =
     let s = sum_by-set (λ (x : GroupState). amount_at i x.holds) opened j (record (group_at opened j) { holds = holds }) no_group l in

@@ -1,6 +1,6 @@
 -- Changes of what is kept are changes of the books.
-use Rattle.std.proofs.Common.{◌≡◌, ◌≢◌, ℕ, zero, suc, ◌+◌, ◌<◌, ◌≤◌, List, [], ◌∷◌, ◌++◌, length, get_or, set, refl, sym, ap, ◌∙◌, subst, arith, map, Some, None, Option}
-use Rattle.std.specs.Prelude.{All, Contains, MatchOption, find, slice_get, option_and_then, ◌==◌}
+use Rattle.std.proofs.Common.{◌≡◌, ℕ, List, [], ◌∷◌, ◌++◌, get_or, set, refl, sym, ap, ◌∙◌, map, Some, None, Option}
+use Rattle.std.specs.Prelude.{Contains, MatchOption, slice_get, option_and_then}
 use Rattle.std.specs.Option.{option_map, option_to_list}
 use Rattle.std.specs.Ordering.{nat_cmp}
 use Rattle.std.proofs.lemmas.List.{map-append, map-set, length-map, append-nil, get_or-set_same}
@@ -14,12 +14,12 @@ use Rattle.allocations.specs.declared.sums.Amount.{Amount}
 use Rattle.allocations.specs.declared.posting.Posting.{Posting}
 use Rattle.allocations.specs.declared.posting.GroupState.{GroupState}
 use Rattle.allocations.specs.Rising.{Rises}
-use Rattle.allocations.specs.Books.{Books, GroupHolds}
-use Rattle.allocations.specs.Raw.{key_at, entry_of, hold_of, group_of, books_of}
+use Rattle.allocations.specs.Books.{GroupHolds}
+use Rattle.allocations.specs.Raw.{entry_of, hold_of, group_of, books_of}
 use Rattle.allocations.specs.Changes.{change_group, with_holds, without_ipp, ipp_of, refund_entry, released, refunded, freed}
-use Rattle.allocations.specs.Store.{StoreSeen, no_group, group_at, numbers_of, refund_posting, refunds_of, empty_group, store_books, freed_books, IsSound}
+use Rattle.allocations.specs.Store.{StoreSeen, no_group, group_at, numbers_of, refund_posting, empty_group, store_books, freed_books, IsSound}
 use Rattle.allocations.specs.Ledger.{IsFree}
-use Rattle.allocations.specs.Booking.{HoldsNothing, standing_of}
+use Rattle.allocations.specs.Booking.{HoldsNothing}
 use Rattle.allocations.proofs.Groups.{emptied}
 use Rattle.allocations.proofs.Booked.{number_at}
 use Rattle.allocations.proofs.Numbered.{map_at, map_absent, find_at, find_absent}
@@ -90,10 +90,10 @@ freed_seen s None n g absent =
     ∙ ap (λ (l : List Entry). record { entries = l; holds = map (group_of s.keys) s.groups }) (append-nil (map (entry_of s.keys) s.postings)))
 freed_seen s (Some j) n g at =
     let there = number_at s.groups n j at in
-    let lifted : GroupState = record (group_at s.groups j) { holds = [] } in
-    let gs : List GroupState = set s.groups j lifted in
-    let numbers : numbers_of gs ≡ numbers_of s.groups = map-set_same (λ (x : GroupState). x.group.0) s.groups j lifted no_group refl in
-    let here : group_at gs j ≡ lifted = get_or-set_same s.groups j lifted no_group there.0 in
+    let unbooked : GroupState = record (group_at s.groups j) { holds = [] } in
+    let gs : List GroupState = set s.groups j unbooked in
+    let numbers : numbers_of gs ≡ numbers_of s.groups = map-set_same (λ (x : GroupState). x.group.0) s.groups j unbooked no_group refl in
+    let here : group_at gs j ≡ unbooked = get_or-set_same s.groups j unbooked no_group there.0 in
     sym (ap (refunded n) (released_seen s.keys s.postings s.groups n j [] [] g.grouped.rising at refl)
     ∙ refunded_seen s.keys s.postings gs n j (rw numbers g.grouped.rising) (rw numbers at)
     ∙ ap (λ (x : GroupState). books_of s.keys (s.postings ++ map (refund_posting n) (option_to_list x.ipp)) (set gs j (record (group_at gs j) { ipp = None }))) here

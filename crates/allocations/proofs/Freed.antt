@@ -1,12 +1,11 @@
 -- What is left of an account once a group is freed.
-use Rattle.std.proofs.Common.{◌≡◌, ◌≢◌, ℕ, ◌+◌, ◌-◌, ◌<◌, ◌≤◌, List, [], ◌∷◌, ◌++◌, length, get_or, set, refl, sym, ap, ◌∙◌, subst, inl, inr, ⊎_elim, arith, map, Bool, true, false, Some, None, Option}
-use Rattle.std.specs.Prelude.{All, Any, AllPairs, Contains, IfSome, sum_by, slice_get, if◌then◌else◌, ◌==◌, ◌&&◌, ◌||◌, nat_le}
-use Rattle.std.specs.List.{list_any}
+use Rattle.std.proofs.Common.{◌≡◌, ◌≢◌, ℕ, ◌+◌, ◌<◌, ◌≤◌, List, [], ◌∷◌, length, refl, ap, ◌∙◌, subst, arith, map, Bool, true, false, Some, None, Option}
+use Rattle.std.specs.Prelude.{All, Any, AllPairs, Contains, IfSome, sum_by, slice_get, if◌then◌else◌, ◌==◌, ◌&&◌, nat_le}
 use Rattle.std.specs.Option.{option_to_list}
-use Rattle.std.proofs.lemmas.List.{map-append, length-set, get_or_default}
+use Rattle.std.proofs.lemmas.List.{map-append, get_or_default}
 use Rattle.std.proofs.lemmas.Option.{slice_get_within, get_or_from_slice_get}
 use Rattle.std.proofs.lemmas.List.Folds.{list_any-append, list_any_none, Any-from_list_any, list_any-from_Any}
-use Rattle.std.proofs.lemmas.List.Elements.{All-head, All-tail, All-weaker, All-append, All-cons, All-nil, All-set, All-get_or, All-map}
+use Rattle.std.proofs.lemmas.List.Elements.{All-weaker, All-append, All-cons, All-nil, All-set, All-map}
 use Rattle.std.proofs.lemmas.List.Sums.{sum_by-cons}
 use Rattle.allocations.specs.declared.key.Key.{Key}
 use Rattle.allocations.specs.declared.entry.Entry.{Entry}
@@ -16,17 +15,16 @@ use Rattle.allocations.specs.declared.sums.Amount.{Amount}
 use Rattle.allocations.specs.declared.posting.Posting.{Posting}
 use Rattle.allocations.specs.declared.posting.GroupState.{GroupState}
 use Rattle.allocations.specs.Key.{is_key, is_text}
-use Rattle.allocations.specs.Books.{Books, is_kind, has_grant, available_of, total_seconds}
+use Rattle.allocations.specs.Books.{is_kind, has_grant, available_of}
 use Rattle.allocations.specs.Refusals.{refusal_at, knows_proposal}
-use Rattle.allocations.specs.declared.fault.LedgerFault.{LedgerFault}
 use Rattle.allocations.specs.declared.fault.LedgerFault.TheVariants.{NoSuchAllocation, NotEnoughTime}
-use Rattle.allocations.specs.Raw.{no_key, key_at, entry_of, group_of, books_of, posted, held_at, IsPlaced}
+use Rattle.allocations.specs.Raw.{no_key, key_at, entry_of, books_of, IsOfAccounts}
 use Rattle.allocations.specs.Store.{StoreSeen, no_group, group_at, given_at, left_at, refund_posting, refunds_of, empty_group, freed_postings, freed_groups, freed_books, store_books, IsSound, IsGranted}
 use Rattle.allocations.proofs.Keys.{is_key-true, is_text-refl, is_text-true}
 use Rattle.allocations.proofs.Seen.{is_key-false, seconds_of-posted, held_of-held}
 
-refunds_located : (n : ℕ) (g : GroupState) → IsPlaced n g → All (λ p. p.account < n) (refunds_of g)
-refunds_located n g placed = All-map (λ p. p.account < n) (refund_posting g.group) (option_to_list g.ipp) (of_option g.ipp placed.1)
+refunds_located : (n : ℕ) (g : GroupState) → IsOfAccounts n g → All (λ p. p.account < n) (refunds_of g)
+refunds_located n g of_accounts = All-map (λ p. p.account < n) (refund_posting g.group) (option_to_list g.ipp) (of_option g.ipp of_accounts.1)
   where
     of_option : (o : Option Amount) → IfSome o (λ m. m.account < n) → All (λ m. m.account < n) (option_to_list o)
     of_option None h = All-nil (λ (m : Amount). m.account < n)
@@ -34,11 +32,11 @@ refunds_located n g placed = All-map (λ p. p.account < n) (refund_posting g.gro
 
 pub freed_located : (s : StoreSeen) (old : Option ℕ) → IsSound s → IfSome old (λ j. j < length s.groups) → All (λ p. p.account < length s.keys) (freed_postings old s.postings s.groups)
 freed_located s None g l = g.located
-freed_located s (Some j) g l = All-append (λ p. p.account < length s.keys) s.postings (refunds_of (group_at s.groups j)) g.located (refunds_located (length s.keys) (group_at s.groups j) (g.placed j no_group l))
+freed_located s (Some j) g l = All-append (λ p. p.account < length s.keys) s.postings (refunds_of (group_at s.groups j)) g.located (refunds_located (length s.keys) (group_at s.groups j) (g.of_accounts j no_group l))
 
-pub freed_placed : (s : StoreSeen) (old : Option ℕ) → IsSound s → All (IsPlaced (length s.keys)) (freed_groups old s.groups)
-freed_placed s None g = g.placed
-freed_placed s (Some j) g = All-set (IsPlaced (length s.keys)) s.groups j (empty_group (group_at s.groups j).group) (All-nil (λ (m : Amount). m.account < length s.keys), tt) g.placed
+pub freed_of_accounts : (s : StoreSeen) (old : Option ℕ) → IsSound s → All (IsOfAccounts (length s.keys)) (freed_groups old s.groups)
+freed_of_accounts s None g = g.of_accounts
+freed_of_accounts s (Some j) g = All-set (IsOfAccounts (length s.keys)) s.groups j (empty_group (group_at s.groups j).group) (All-nil (λ (m : Amount). m.account < length s.keys), tt) g.of_accounts
 
 -- a grant stays when entries are added
 pub freed_granted : (s : StoreSeen) (old : Option ℕ) (k : Key) → has_grant (store_books s).entries k ≡ true → has_grant (freed_books s old).entries k ≡ true
@@ -58,12 +56,12 @@ unknown_granted keys ps k located absent =
     and_false true = refl
     and_false false = refl
 
-pub available_left : (keys : List Key) (ps : List Posting) (gs : List GroupState) (i : ℕ) (k : Key) → AllPairs (λ a b. a ≢ b) keys → All (λ p. p.account < length keys) ps → All (IsPlaced (length keys)) gs → slice_get keys i ≡ Some k → available_of (books_of keys ps gs) k ≡ left_at i ps gs
-available_left keys ps gs i k apart located placed at =
+pub available_left : (keys : List Key) (ps : List Posting) (gs : List GroupState) (i : ℕ) (k : Key) → AllPairs (λ a b. a ≢ b) keys → All (λ p. p.account < length keys) ps → All (IsOfAccounts (length keys)) gs → slice_get keys i ≡ Some k → available_of (books_of keys ps gs) k ≡ left_at i ps gs
+available_left keys ps gs i k apart located of_accounts at =
     let li : i < length keys = slice_get_within keys i k at in
     let key : key_at keys i ≡ k = get_or_from_slice_get keys i k no_key at in
     subst (λ (x : Key). available_of (books_of keys ps gs) x ≡ left_at i ps gs) key
-    (rw (seconds_of-posted keys apart i li Grant ps located, seconds_of-posted keys apart i li Charge ps located, seconds_of-posted keys apart i li Refund ps located, held_of-held keys apart i li gs placed) refl)
+    (rw (seconds_of-posted keys apart i li Grant ps located, seconds_of-posted keys apart i li Charge ps located, seconds_of-posted keys apart i li Refund ps located, held_of-held keys apart i li gs of_accounts) refl)
 
 -- an account is given no more than all entries have
 pub given-bounded : (keys : List Key) (ps : List Posting) (i : ℕ) → given_at i ps ≤ sum_by (λ e. e.seconds) (map (entry_of keys) ps)
@@ -94,7 +92,7 @@ refusal_known s old k n i g l granted at =
     let li : i < length s.keys = slice_get_within s.keys i k at in
     let grant : has_grant (store_books s).entries k ≡ true = subst (λ (x : Key). has_grant (store_books s).entries x ≡ true) (get_or_from_slice_get s.keys i k k at) (granted i k li) in
     let some : has_grant (freed_books s old).entries k ≡ true = freed_granted s old k grant in
-    let left : available_of (freed_books s old) k ≡ left_at i (freed_postings old s.postings s.groups) (freed_groups old s.groups) = available_left s.keys (freed_postings old s.postings s.groups) (freed_groups old s.groups) i k g.apart (freed_located s old g l) (freed_placed s old g) at in
+    let left : available_of (freed_books s old) k ≡ left_at i (freed_postings old s.postings s.groups) (freed_groups old s.groups) = available_left s.keys (freed_postings old s.postings s.groups) (freed_groups old s.groups) i k g.apart (freed_located s old g l) (freed_of_accounts s old g) at in
     ap (λ (b : Bool). if b then (if nat_le n (available_of (freed_books s old) k) then None else Some (NotEnoughTime n (available_of (freed_books s old) k))) else Some (NoSuchAllocation k.account)) some
     ∙ ap (λ (x : ℕ). if nat_le n x then None else Some (NotEnoughTime n x)) left
 

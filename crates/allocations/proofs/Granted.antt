@@ -1,8 +1,7 @@
 -- What one more account and one more entry leave of the books.
-use Rattle.std.proofs.Common.{◌≡◌, ◌≢◌, ℕ, ◌+◌, ◌-◌, ◌<◌, ◌≤◌, List, [], ◌∷◌, ◌++◌, length, get_or, refl, sym, ap, ◌∙◌, subst, inl, inr, ⊎_elim, arith, map, Bool, true, false, Some, None, Option}
-use Rattle.std.specs.Prelude.{All, Contains, IfSome, filter, fold, if◌then◌else◌, ◌==◌, ◌&&◌, ◌||◌, ◌⊎◌}
-use Rattle.std.specs.List.{list_any}
-use Rattle.std.specs.Option.{option_map, option_to_list}
+use Rattle.std.proofs.Common.{◌≡◌, ℕ, ◌-◌, ◌<◌, List, [], ◌∷◌, ◌++◌, length, get_or, refl, sym, ap, ◌∙◌, subst, inl, inr, ⊎_elim, arith, map, Bool, true, false, Some, None, Option}
+use Rattle.std.specs.Prelude.{All, Contains, IfSome, filter, fold, ◌&&◌, ◌||◌, ◌⊎◌}
+use Rattle.std.specs.Option.{option_map}
 use Rattle.std.specs.BTreeSet.{insert_key}
 use Rattle.std.proofs.lemmas.List.{map-append}
 use Rattle.std.proofs.lemmas.List.Elements.{All-weaker, All-contains, filter-append}
@@ -21,9 +20,9 @@ use Rattle.std.specs.Prelude.{slice_get}
 use Rattle.std.specs.Prelude.{◌↔◌}
 use Rattle.std.proofs.lemmas.Option.{slice_get_within, get_or_from_slice_get, slice_get_cases}
 use Rattle.std.proofs.lemmas.List.{length-map, get_or_default, get_or-map as get_or_map}
-use Rattle.allocations.specs.Books.{Books, GroupHolds, is_kind, seconds_of, balance_of, held_of, has_grant, accounts_of}
+use Rattle.allocations.specs.Books.{GroupHolds, is_kind, seconds_of, balance_of, held_of, has_grant, accounts_of}
 use Rattle.allocations.specs.Changes.{grant_entry, with_entry}
-use Rattle.allocations.specs.Raw.{no_key, posted, held_at, key_at, entry_of, hold_of, group_of, books_of, IsPlaced}
+use Rattle.allocations.specs.Raw.{no_key, posted, held_at, key_at, entry_of, hold_of, group_of, books_of, IsOfAccounts}
 use Rattle.allocations.specs.Store.{StoreSeen, given_at, with_posting, store_books, IsSound, IsGranted}
 use Rattle.allocations.proofs.Keys.{is_key-refl, is_key-true}
 use Rattle.allocations.proofs.Seen.{seconds_of-posted, held_of-held}
@@ -33,7 +32,7 @@ module _ (keys : List Key) (k : Key) where
   amount_kept : (m : Amount) → m.account < length keys → hold_of (keys ++ k ∷ []) m ≡ hold_of keys m
   amount_kept m l = ap (λ (x : Key). record { key = x; seconds = m.seconds }) (key_at-kept keys k m.account l)
 
-  group_kept : (g : GroupState) → IsPlaced (length keys) g → group_of (keys ++ k ∷ []) g ≡ group_of keys g
+  group_kept : (g : GroupState) → IsOfAccounts (length keys) g → group_of (keys ++ k ∷ []) g ≡ group_of keys g
   group_kept g p =
       let holds = map_agree (hold_of (keys ++ k ∷ [])) (hold_of keys) g.holds (All-weaker (λ m. m.account < length keys) (λ m. hold_of (keys ++ k ∷ []) m ≡ hold_of keys m) amount_kept g.holds p.0) in
       ap (λ (x : List Hold). record { group = g.group; holds = x; ipp = option_map (hold_of (keys ++ k ∷ [])) g.ipp }) holds
@@ -44,10 +43,10 @@ module _ (keys : List Key) (k : Key) where
       of_option (Some m) h = ap (λ (x : Key). Some record { key = x; seconds = m.seconds }) (key_at-kept keys k m.account h)
 
   -- one more account changes nothing of the books
-  pub books_kept : (ps : List Posting) (gs : List GroupState) → All (λ p. p.account < length keys) ps → All (IsPlaced (length keys)) gs → books_of (keys ++ k ∷ []) ps gs ≡ books_of keys ps gs
-  books_kept ps gs located placed =
+  pub books_kept : (ps : List Posting) (gs : List GroupState) → All (λ p. p.account < length keys) ps → All (IsOfAccounts (length keys)) gs → books_of (keys ++ k ∷ []) ps gs ≡ books_of keys ps gs
+  books_kept ps gs located of_accounts =
       let entries = map_agree (entry_of (keys ++ k ∷ [])) (entry_of keys) ps (All-weaker (λ (p : Posting). p.account < length keys) (λ (p : Posting). entry_of (keys ++ k ∷ []) p ≡ entry_of keys p) (λ p l. ap (λ (x : Key). record { key = x; kind = p.kind; seconds = p.seconds; group = p.group; request = p.request }) (key_at-kept keys k p.account l)) ps located) in
-      let groups = map_agree (group_of (keys ++ k ∷ [])) (group_of keys) gs (All-weaker (IsPlaced (length keys)) (λ g. group_of (keys ++ k ∷ []) g ≡ group_of keys g) group_kept gs placed) in
+      let groups = map_agree (group_of (keys ++ k ∷ [])) (group_of keys) gs (All-weaker (IsOfAccounts (length keys)) (λ g. group_of (keys ++ k ∷ []) g ≡ group_of keys g) group_kept gs of_accounts) in
       ap (λ (x : List Entry). record { entries = x; holds = map (group_of (keys ++ k ∷ [])) gs }) entries ∙ ap (λ (x : List GroupHolds). record { entries = map (entry_of keys) ps; holds = x }) groups
 
 -- entries that grant nothing leave the accounts
@@ -76,7 +75,7 @@ charged_at s kind i k g at =
 pub held_of_at : (s : StoreSeen) (i : ℕ) (k : Key) → IsSound s → slice_get s.keys i ≡ Some k → held_of (store_books s).holds k ≡ held_at i s.groups
 held_of_at s i k g at =
     let li : i < length s.keys = slice_get_within s.keys i k at in
-    subst (λ (x : Key). held_of (store_books s).holds x ≡ held_at i s.groups) (get_or_from_slice_get s.keys i k no_key at) (held_of-held s.keys g.apart i li s.groups g.placed)
+    subst (λ (x : Key). held_of (store_books s).holds x ≡ held_at i s.groups) (get_or_from_slice_get s.keys i k no_key at) (held_of-held s.keys g.apart i li s.groups g.of_accounts)
 
 -- one more posting is one more entry
 pub posted_seen : (s : StoreSeen) (p : Posting) → store_books (with_posting s p) ≡ with_entry (entry_of s.keys p) (store_books s)

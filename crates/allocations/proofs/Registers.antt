@@ -1,28 +1,27 @@
 -- What a register's list says of its keys.
-use Rattle.std.proofs.Common.{◌≡◌, ℕ, ◌+◌, ◌<◌, ◌≤◌, List, [], ◌∷◌, ◌++◌, length, get_or, take, drop, zero, suc, refl, sym, ap, ◌∙◌, subst, inl, inr, ⊎_elim, arith, map, true, false}
+use Rattle.std.proofs.Common.{◌≡◌, ℕ, ◌+◌, ◌<◌, ◌≤◌, List, [], ◌∷◌, ◌++◌, length, get_or, take, drop, zero, suc, refl, sym, ap, ◌∙◌, inl, inr, ⊎_elim, arith, map, false}
 use Rattle.std.proofs.lemmas.Bool.{false≢true}
-use Rattle.std.specs.Prelude.{OnOk, Bool, IsTrue, ◌↔◌, is_ok, Result, Ok, Err, Some, Option, slice_get, All, Any, Contains, MatchResult}
+use Rattle.std.specs.Prelude.{OnOk, Bool, IsTrue, ◌↔◌, is_ok, Result, Ok, Err, Some, slice_get, All, Any, Contains, MatchResult}
 use Rattle.std.specs.List.{insert}
 use Rattle.std.specs.List.Sorted.{IsNonDecreasingBy, IsSearchInRange, IsBinarySearchResult}
 use Rattle.std.specs.Ordering.{nat_cmp, ordering_then, ordering_index, is_lt}
 use Rattle.std.specs.declared.cmp.Ordering.{Ordering}
 use Rattle.std.specs.declared.cmp.Ordering.TheVariants.{Less, Equal, Greater}
 use Rattle.std.specs.Cmp.Lexicographic.{slice_cmp}
-use Rattle.std.specs.BTreeSet.{insert_key}
 use Rattle.std.proofs.lemmas.Cmp.{nat_list_cmp_total, tied_itself}
 use Rattle.std.proofs.lemmas.Bool.{cases_lt}
 use Rattle.std.proofs.lemmas.List.{get_or-map as get_or_map, length-map, take-append-drop, map-append, take-map, drop-map}
-use Rattle.std.proofs.lemmas.List.Elements.{All-map, All-nil, All-cons, All-append, All-take, All-drop, All-contains, All-weaker, All-push, Contains-append_left, Contains-append_right, Contains-append_cases}
+use Rattle.std.proofs.lemmas.List.Elements.{All-map, All-cons, All-append, All-take, All-drop, All-contains, All-weaker, All-push, Contains-append_left, Contains-append_right, Contains-append_cases}
 use Rattle.std.proofs.lemmas.List.Sorted.{searchable_from_sorted}
-use Rattle.std.proofs.lemmas.Option.{slice_get_within, slice_get_cases, slice_get_read, get_or_from_slice_get}
+use Rattle.std.proofs.lemmas.Option.{slice_get_within, slice_get_cases, get_or_from_slice_get}
 use Rattle.std.proofs.Math.ListN.{get_or-map}
 use Rattle.allocations.specs.declared.key.Key.{Key}
 use Rattle.allocations.specs.declared.register.Listed.{Listed}
 use Rattle.allocations.specs.Key.{account_rank, key_cmp}
-use Rattle.allocations.specs.Rising.{Rises, IsGap}
+use Rattle.allocations.specs.Rising.{IsGap}
 use Rattle.allocations.specs.Register.{keys_of, IsRegister}
 use Rattle.allocations.proofs.Keys.{key_cmp_total, texts_same}
-use Rattle.allocations.proofs.Order.{above, tied, gap-absent, insert_key-gap, Rises-insert}
+use Rattle.allocations.proofs.Order.{above, tied, gap-absent, Rises-insert}
 
 -- a key with a gap in the order isn't known
 pub unknown : (keys : List Key) (order : List Listed) (k : Key) (i : ℕ) → IsRegister keys order → IsGap key_cmp (keys_of order) k i → Contains keys k → ⊥

@@ -1,6 +1,6 @@
 -- What releases and refunds of what is kept are in the books.
-use Rattle.std.proofs.Common.{◌≡◌, ◌≢◌, ℕ, zero, suc, ◌+◌, ◌-◌, ◌^◌, ◌<◌, ◌≤◌, List, [], ◌∷◌, ◌++◌, length, get_or, set, refl, sym, ap, ◌∙◌, subst, inl, inr, ⊎_elim, arith, map, Some, None, Option}
-use Rattle.std.specs.Prelude.{All, Any, slice_get, sum_by, if◌then◌else◌, ◌==◌}
+use Rattle.std.proofs.Common.{◌≡◌, ℕ, ◌+◌, ◌^◌, ◌<◌, ◌≤◌, List, [], length, get_or, set, refl, sym, ap, ◌∙◌, subst, inl, inr, ⊎_elim, arith, map, Some, None, Option}
+use Rattle.std.specs.Prelude.{All, Any, slice_get}
 use Rattle.std.specs.Option.{option_map, option_to_list}
 use Rattle.std.specs.Ordering.{nat_cmp}
 use Rattle.std.specs.declared.cmp.Ordering.TheVariants.{Less, Equal}
@@ -10,26 +10,24 @@ use Rattle.std.proofs.lemmas.List.{length-map, get_or-set_same, get_or_default, 
 use Rattle.std.proofs.lemmas.List.Elements.{All-nil, All-cons}
 use Rattle.std.proofs.lemmas.List.Sums.{sum_by-set}
 use Rattle.std.proofs.lemmas.Option.{same_Some, slice_get_cases}
-use Rattle.std.proofs.Math.ListN.{get_or-map}
 use Rattle.std.proofs.Math.Seq.{map-set_same}
 use Rattle.plan_base.specs.declared.number.GroupNo.{GroupNo}
 use Rattle.allocations.specs.declared.key.Key.{Key}
-use Rattle.allocations.specs.declared.entry.Entry.{Entry}
 use Rattle.allocations.specs.declared.entry.Hold.{Hold}
-use Rattle.allocations.specs.declared.entry.EntryKind.TheVariants.{Grant, Charge, Refund}
+use Rattle.allocations.specs.declared.entry.EntryKind.TheVariants.{Charge}
 use Rattle.allocations.specs.declared.sums.Amount.{Amount}
 use Rattle.allocations.specs.declared.posting.Posting.{Posting}
 use Rattle.allocations.specs.declared.posting.GroupState.{GroupState}
 use Rattle.allocations.specs.Rising.{Rises}
 use Rattle.allocations.specs.Amounts.{amount_at}
-use Rattle.allocations.specs.Books.{Books, GroupHolds, total_seconds}
+use Rattle.allocations.specs.Books.{GroupHolds, total_seconds}
 use Rattle.allocations.specs.Raw.{key_at, hold_of, group_of, posted, held_at}
 use Rattle.allocations.specs.Changes.{ipp_of}
-use Rattle.allocations.specs.Store.{StoreSeen, no_group, group_at, given_at, numbers_of, refund_posting, refunds_of, store_books, IsSound}
+use Rattle.allocations.specs.Store.{StoreSeen, no_group, group_at, given_at, numbers_of, refund_posting, refunds_of, store_books}
 use Rattle.allocations.specs.Ledger.{IsAtMost}
 use Rattle.allocations.specs.Lowered.{AreAtMost}
 use Rattle.allocations.proofs.Freed.{given-bounded}
-use Rattle.allocations.proofs.Booked.{number_at, same_number}
+use Rattle.allocations.proofs.Booked.{number_at}
 use Rattle.allocations.proofs.Changed.{ipp_at}
 use Rattle.allocations.proofs.Groups.{set_set}
 
@@ -103,14 +101,14 @@ at_most_seen keys gs n j hs r at most k d l =
           | inr w ↦ absurd (omega (arith, within, w.0))
         ]
 
--- holds laid in the place of what was lifted
-pub relaid : (gs : List GroupState) (j : ℕ) (low : List Amount) → j < length gs → set (set gs j (record (group_at gs j) { holds = [] })) j (record (group_at (set gs j (record (group_at gs j) { holds = [] })) j) { holds = low }) ≡ set gs j (record (group_at gs j) { holds = low })
-relaid gs j low l =
-    let lifted : GroupState = record (group_at gs j) { holds = [] } in
-    ap (λ (g : GroupState). set (set gs j lifted) j (record g { holds = low })) (get_or-set_same gs j lifted no_group l) ∙ set_set gs j lifted (record (group_at gs j) { holds = low })
+-- holds booked in the place of what was unbooked
+pub rebooked : (gs : List GroupState) (j : ℕ) (low : List Amount) → j < length gs → set (set gs j (record (group_at gs j) { holds = [] })) j (record (group_at (set gs j (record (group_at gs j) { holds = [] })) j) { holds = low }) ≡ set gs j (record (group_at gs j) { holds = low })
+rebooked gs j low l =
+    let unbooked : GroupState = record (group_at gs j) { holds = [] } in
+    ap (λ (g : GroupState). set (set gs j unbooked) j (record g { holds = low })) (get_or-set_same gs j unbooked no_group l) ∙ set_set gs j unbooked (record (group_at gs j) { holds = low })
 
 -- lower holds fit where the higher ones did
-pub relaid_room : (ps : List Posting) (gs : List GroupState) (j : ℕ) (low : List Amount) (i : ℕ) → j < length gs → held_at i gs + posted Charge i ps ≤ given_at i ps → amount_at i low ≤ amount_at i (group_at gs j).holds → held_at i (set gs j (record (group_at gs j) { holds = [] })) + amount_at i low + posted Charge i ps ≤ given_at i ps
-relaid_room ps gs j low i l covered less =
+pub rebooked_room : (ps : List Posting) (gs : List GroupState) (j : ℕ) (low : List Amount) (i : ℕ) → j < length gs → held_at i gs + posted Charge i ps ≤ given_at i ps → amount_at i low ≤ amount_at i (group_at gs j).holds → held_at i (set gs j (record (group_at gs j) { holds = [] })) + amount_at i low + posted Charge i ps ≤ given_at i ps
+rebooked_room ps gs j low i l covered less =
     let s = sum_by-set (λ (x : GroupState). amount_at i x.holds) gs j (record (group_at gs j) { holds = [] }) no_group l in
     omega (arith, s, covered, less)

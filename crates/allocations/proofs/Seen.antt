@@ -1,22 +1,20 @@
 -- Sums over the books are sums over postings and groups.
-use Rattle.std.proofs.Common.{◌≡◌, ◌≢◌, ℕ, ◌+◌, ◌-◌, ◌<◌, ◌≤◌, List, [], ◌∷◌, ◌++◌, length, get_or, set, refl, sym, ap, ◌∙◌, subst, inl, inr, ⊎_elim, arith, map, Bool, true, false}
-use Rattle.std.specs.Prelude.{All, AllPairs, Contains, sum_by, if◌then◌else◌, ◌==◌, ◌&&◌}
+use Rattle.std.proofs.Common.{◌≡◌, ◌≢◌, ℕ, ◌<◌, ◌≤◌, List, [], ◌∷◌, length, refl, sym, ap, ⊎_elim, arith, map, Bool, true, false}
+use Rattle.std.specs.Prelude.{All, AllPairs, sum_by, if◌then◌else◌, ◌==◌, ◌&&◌}
 use Rattle.std.proofs.lemmas.Bool.{cases_lt, cases_eq, eq-eqb, ne_eqb}
-use Rattle.std.proofs.lemmas.List.{get_or_default}
 use Rattle.std.proofs.lemmas.List.Elements.{All-head, All-tail, All-weaker}
 use Rattle.std.proofs.lemmas.List.Sums.{sum_by-cons}
 use Rattle.allocations.specs.declared.key.Key.{Key}
 use Rattle.allocations.specs.declared.entry.Entry.{Entry}
 use Rattle.allocations.specs.declared.entry.Hold.{Hold}
 use Rattle.allocations.specs.declared.entry.EntryKind.{EntryKind}
-use Rattle.allocations.specs.declared.entry.EntryKind.TheVariants.{Grant, Charge, Refund}
 use Rattle.allocations.specs.declared.sums.Amount.{Amount}
 use Rattle.allocations.specs.declared.posting.Posting.{Posting}
 use Rattle.allocations.specs.declared.posting.GroupState.{GroupState}
 use Rattle.allocations.specs.Key.{is_key}
 use Rattle.allocations.specs.Amounts.{amount_at}
-use Rattle.allocations.specs.Books.{GroupHolds, is_kind, seconds_of, balance_of, held_in, held_of}
-use Rattle.allocations.specs.Raw.{no_key, key_at, entry_of, hold_of, group_of, posted, held_at, IsPlaced}
+use Rattle.allocations.specs.Books.{GroupHolds, is_kind, seconds_of, held_in, held_of}
+use Rattle.allocations.specs.Raw.{no_key, key_at, entry_of, hold_of, group_of, posted, held_at, IsOfAccounts}
 use Rattle.allocations.proofs.Keys.{is_key-refl, is_key-true}
 
 pub sum_by_mapped : {X Y : Type 0} (f : X → ℕ) (g : Y → ℕ) (h : Y → X) (ys : List Y) → All (λ y. f (h y) ≡ g y) ys → sum_by f (map h ys) ≡ sum_by g ys
@@ -61,7 +59,7 @@ module _ (keys : List Key) (apart : AllPairs (λ x y. x ≢ y) keys) (i : ℕ) (
       (All-weaker (λ m. m.account < length keys) (λ m. (if is_key (key_at keys m.account) (key_at keys i) then m.seconds else 0) ≡ (if m.account == i then m.seconds else 0))
       (λ m l. ap (λ (b : Bool). if b then m.seconds else 0) (is_key_at keys i m.account apart li l)) ms located)
 
-  pub held_of-held : (gs : List GroupState) → All (IsPlaced (length keys)) gs → held_of (map (group_of keys) gs) (key_at keys i) ≡ held_at i gs
-  held_of-held gs placed =
+  pub held_of-held : (gs : List GroupState) → All (IsOfAccounts (length keys)) gs → held_of (map (group_of keys) gs) (key_at keys i) ≡ held_at i gs
+  held_of-held gs of_accounts =
       sum_by_mapped (λ (g : GroupHolds). held_in (key_at keys i) g.holds) (λ (g : GroupState). amount_at i g.holds) (group_of keys) gs
-      (All-weaker (IsPlaced (length keys)) (λ g. held_in (key_at keys i) (map (hold_of keys) g.holds) ≡ amount_at i g.holds) (λ g p. held_in-amount g.holds p.0) gs placed)
+      (All-weaker (IsOfAccounts (length keys)) (λ g. held_in (key_at keys i) (map (hold_of keys) g.holds) ≡ amount_at i g.holds) (λ g p. held_in-amount g.holds p.0) gs of_accounts)

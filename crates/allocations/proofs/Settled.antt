@@ -1,21 +1,19 @@
--- What was placed can be booked, and what is booked is what the books say.
-use Rattle.std.proofs.Common.{◌≡◌, ◌≢◌, ℕ, zero, suc, ◌+◌, ◌-◌, ◌^◌, ◌<◌, ◌≤◌, List, [], ◌∷◌, ◌++◌, length, get_or, set, refl, sym, ap, ◌∙◌, subst, inl, inr, ⊎_elim, arith, map, Bool, true, false, Some, None, Option}
-use Rattle.std.specs.Prelude.{All, AllPairs, IfSome, find, option_and_then, sum_by, if◌then◌else◌, ◌==◌}
+-- What is asked for can be booked, and what is booked is what the books say.
+use Rattle.std.proofs.Common.{◌≡◌, ◌≢◌, ℕ, suc, ◌+◌, ◌^◌, ◌<◌, ◌≤◌, List, [], ◌∷◌, ◌++◌, length, get_or, refl, sym, ap, ◌∙◌, subst, ⊎_elim, arith, map, Bool, true, false, Some, None, Option}
+use Rattle.std.specs.Prelude.{All, IfSome, find, option_and_then, sum_by, if◌then◌else◌, ◌==◌}
 use Rattle.std.specs.Option.{option_map, option_to_list}
 use Rattle.std.specs.Ordering.{match_ordering}
 use Rattle.std.specs.BTreeSet.{replace_key}
 use Rattle.std.specs.declared.cmp.Ordering.{Ordering}
 use Rattle.std.specs.declared.cmp.Ordering.TheVariants.{Less, Equal, Greater}
-use Rattle.std.proofs.lemmas.Bool.{cases_lt, cases_eq, eq-eqb, ne_eqb}
-use Rattle.std.proofs.lemmas.Bool.Decides.{nat_tests}
+use Rattle.std.proofs.lemmas.Bool.{cases_eq, eq-eqb, ne_eqb}
 use Rattle.std.proofs.lemmas.Cmp.{tied_itself}
 use Rattle.std.proofs.Math.ListN.{get_or-map}
 use Rattle.std.proofs.lemmas.List.{map-append, length-map}
-use Rattle.std.proofs.lemmas.List.Elements.{All-head, All-tail, All-weaker, All-map, All-set, All-nil, All-cons}
+use Rattle.std.proofs.lemmas.List.Elements.{All-head, All-tail, All-weaker, All-set, All-nil, All-cons}
 use Rattle.std.proofs.lemmas.List.Sums.{sum_by-cons, sum_by-le}
 use Rattle.plan_base.specs.declared.number.GroupNo.{GroupNo}
 use Rattle.allocations.specs.declared.key.Key.{Key}
-use Rattle.allocations.specs.declared.key.Account.{Account}
 use Rattle.allocations.specs.declared.key.Account.TheVariants.{Ipp}
 use Rattle.allocations.specs.declared.entry.Hold.{Hold}
 use Rattle.allocations.specs.declared.entry.EntryKind.TheVariants.{Grant, Charge, Refund}
@@ -25,13 +23,13 @@ use Rattle.allocations.specs.declared.posting.GroupState.{GroupState}
 use Rattle.allocations.specs.Key.{key_cmp}
 use Rattle.allocations.specs.Rising.{Rises}
 use Rattle.allocations.specs.Amounts.{amount_at}
-use Rattle.allocations.specs.Books.{Books, GroupHolds, total_seconds}
+use Rattle.allocations.specs.Books.{GroupHolds, total_seconds}
 use Rattle.allocations.specs.Raw.{key_at, entry_of, hold_of, group_of, books_of, posted, held_at}
 use Rattle.allocations.specs.Changes.{group_cmp, ipp_of, charge_entry, standing, booked}
 use Rattle.std.specs.Prelude.{nat_lt}
 use Rattle.std.proofs.lemmas.Option.{same_Some}
 use Rattle.allocations.specs.Refusals.{ipp_need, ipp_key, proposal_of}
-use Rattle.allocations.specs.Store.{StoreSeen, group_at, no_group, given_at, left_at, amount_keys, refund_posting, refunds_of, freed_postings, freed_groups, freed_books, empty_group}
+use Rattle.allocations.specs.Store.{StoreSeen, group_at, given_at, left_at, amount_keys, refund_posting, refunds_of, freed_groups, freed_books, empty_group}
 use Rattle.allocations.specs.Booking.{state_cmp, HoldsNothing, standing_of, charges_of, booked_groups}
 use Rattle.allocations.proofs.Keys.{key_cmp_total}
 use Rattle.allocations.proofs.Tied.{posted-push}
@@ -41,9 +39,9 @@ pub map_mapped : {X Y Z : Type 0} (f : X → Y) (g : Y → Z) (xs : List X) → 
 map_mapped f g [] = refl
 map_mapped {X} {Y} {Z} f g (x ∷ xs) = ap (λ (l : List Z). g (f x) ∷ l) (map_mapped f g xs)
 
--- the keys of what was placed are those of the holds
-pub placed_keys : (keys : List Key) (ms : List Amount) (hs : List Hold) → map (hold_of keys) ms ≡ hs → amount_keys keys ms ≡ map (λ h. h.key) hs
-placed_keys keys ms hs e = sym (map_mapped (hold_of keys) (λ (h : Hold). h.key) ms) ∙ ap (λ (l : List Hold). map (λ h. h.key) l) e
+-- the keys of amounts that stand for holds are those of the holds
+pub keys_of_holds : (keys : List Key) (ms : List Amount) (hs : List Hold) → map (hold_of keys) ms ≡ hs → amount_keys keys ms ≡ map (λ h. h.key) hs
+keys_of_holds keys ms hs e = sym (map_mapped (hold_of keys) (λ (h : Hold). h.key) ms) ∙ ap (λ (l : List Hold). map (λ h. h.key) l) e
 
 -- none of the amounts is of account i
 amount_at-other : (i : ℕ) (ms : List Amount) → All (λ m. m.account ≢ i) ms → amount_at i ms ≡ 0

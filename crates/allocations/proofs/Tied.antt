@@ -1,14 +1,13 @@
 -- The sums stay tied to the postings and the groups.
-use Rattle.std.proofs.Common.{◌≡◌, ◌≢◌, ℕ, zero, suc, ◌+◌, ◌-◌, ◌^◌, ◌<◌, ◌≤◌, List, [], ◌∷◌, ◌++◌, length, get_or, set, take, drop, refl, sym, ap, ◌∙◌, subst, inl, inr, ⊎_elim, arith, map, Bool, true, false, cond}
-use Rattle.std.specs.Prelude.{All, AllPairs, Contains, sum_by, if◌then◌else◌, ◌==◌, ◌&&◌}
+use Rattle.std.proofs.Common.{◌≡◌, ◌≢◌, ℕ, ◌+◌, ◌<◌, ◌≤◌, List, [], ◌∷◌, ◌++◌, length, get_or, set, refl, sym, ap, ◌∙◌, subst, ⊎_elim, arith, map, Bool, true, false}
+use Rattle.std.specs.Prelude.{All, Contains, if◌then◌else◌, ◌==◌, ◌&&◌}
 use Rattle.std.proofs.lemmas.Bool.{cases_lt, cases_eq, eq-eqb, ne_eqb}
 use Rattle.std.proofs.lemmas.Bool.Decides.{nat_tests}
-use Rattle.std.proofs.lemmas.Grind.{common_steps}
 use Rattle.std.proofs.lemmas.List.{get_or-set_same, get_or-set_other, length-set, length_push, get_or_append_left, get_or_push, get_or_default}
 use Rattle.std.proofs.lemmas.List.Elements.{All-push, All-weaker, All-head, All-tail}
 use Rattle.std.proofs.lemmas.List.Quantifiers.{all_pairs_push}
 use Rattle.std.proofs.lemmas.Option.{IfSome_then}
-use Rattle.std.proofs.lemmas.List.Sums.{sum_by_push, sum_by-set, sum_by-insert, sum_by-le}
+use Rattle.std.proofs.lemmas.List.Sums.{sum_by_push, sum_by-le}
 use Rattle.allocations.specs.declared.key.Key.{Key}
 use Rattle.allocations.specs.declared.entry.EntryKind.{EntryKind}
 use Rattle.allocations.specs.declared.entry.EntryKind.TheVariants.{Grant, Charge, Refund}
@@ -18,9 +17,7 @@ use Rattle.allocations.specs.declared.posting.Posting.{Posting}
 use Rattle.allocations.specs.declared.posting.GroupState.{GroupState}
 use Rattle.allocations.specs.Amounts.{amount_at, no_sums, sums_after, CanTake}
 use Rattle.allocations.specs.Books.{is_kind}
-use Rattle.allocations.specs.Rising.{Rises}
-use Rattle.allocations.specs.Key.{key_cmp}
-use Rattle.allocations.specs.Raw.{key_at, no_key, IsGrouped, posted, held_at, IsPlaced, Tied}
+use Rattle.allocations.specs.Raw.{key_at, no_key, IsGrouped, posted, held_at, IsOfAccounts, Tied}
 use Rattle.allocations.specs.Store.{given_at}
 
 pub posted-push : (kind : EntryKind) (i : ℕ) (ps : List Posting) (p : Posting) → posted kind i (ps ++ p ∷ []) ≡ posted kind i ps + (if is_kind kind p.kind && (p.account == i) then p.seconds else 0)
@@ -91,7 +88,7 @@ tied_post keys sums ps gs p t l c covered =
       lengths = length-set sums a after ∙ t.lengths;
       apart = t.apart;
       located = All-push (λ q. q.account < length keys) ps p t.located l;
-      placed = t.placed;
+      of_accounts = t.of_accounts;
       balance = λ i li. (each i li).0;
       held = λ i li. (each i li).1 ∙ t.held i li;
       covered = λ i li.
@@ -116,13 +113,13 @@ amount_at-none n ms h =
     let none = sum_by-le (λ (m : Amount). if m.account == n then m.seconds else 0) 0 ms (All-weaker (λ m. m.account < n) (λ m. (if m.account == n then m.seconds else 0) ≤ 0) (λ m l. not_kind true m.account n m.seconds l) ms h) in
     omega (arith, none)
 
-pub held_at-none : (n : ℕ) (gs : List GroupState) → All (IsPlaced n) gs → held_at n gs ≡ 0
+pub held_at-none : (n : ℕ) (gs : List GroupState) → All (IsOfAccounts n) gs → held_at n gs ≡ 0
 held_at-none n gs h =
-    let none = sum_by-le (λ (g : GroupState). amount_at n g.holds) 0 gs (All-weaker (IsPlaced n) (λ g. amount_at n g.holds ≤ 0) (λ g l. let z = amount_at-none n g.holds l.0 in omega (arith, z)) gs h) in
+    let none = sum_by-le (λ (g : GroupState). amount_at n g.holds) 0 gs (All-weaker (IsOfAccounts n) (λ g. amount_at n g.holds ≤ 0) (λ g l. let z = amount_at-none n g.holds l.0 in omega (arith, z)) gs h) in
     omega (arith, none)
 
-pub IsPlaced-more : (n k : ℕ) → n ≤ k → (g : GroupState) → IsPlaced n g → IsPlaced k g
-IsPlaced-more n k l g h = (All-weaker (λ m. m.account < n) (λ m. m.account < k) (λ m a. omega arith) g.holds h.0, IfSome_then g.ipp h.1 (λ m a. omega arith))
+pub IsOfAccounts-more : (n k : ℕ) → n ≤ k → (g : GroupState) → IsOfAccounts n g → IsOfAccounts k g
+IsOfAccounts-more n k l g h = (All-weaker (λ m. m.account < n) (λ m. m.account < k) (λ m a. omega arith) g.holds h.0, IfSome_then g.ipp h.1 (λ m a. omega arith))
 
 -- one more account
 pub tied_add : (keys : List Key) (sums : List Sums) (ps : List Posting) (gs : List GroupState) (k : Key) → Tied keys sums ps gs → (Contains keys k → ⊥) → Tied (keys ++ k ∷ []) (sums ++ no_sums ∷ []) ps gs
@@ -135,14 +132,14 @@ tied_add keys sums ps gs k t new =
       lengths = length_push sums no_sums ∙ ap (λ (x : ℕ). x + 1) t.lengths ∙ sym longer;
       apart = all_pairs_push (λ a b. a ≢ b) keys k t.apart (λ i d l e. new (i, l, get_or_default' keys i k d l ∙ e));
       located = All-weaker (λ p. p.account < n) (λ p. p.account < length (keys ++ k ∷ [])) (λ p l. omega (arith, longer)) ps t.located;
-      placed = All-weaker (IsPlaced n) (IsPlaced (length (keys ++ k ∷ []))) (λ g h. IsPlaced-more n (length (keys ++ k ∷ [])) (omega (arith, longer)) g h) gs t.placed;
+      of_accounts = All-weaker (IsOfAccounts n) (IsOfAccounts (length (keys ++ k ∷ []))) (λ g h. IsOfAccounts-more n (length (keys ++ k ∷ [])) (omega (arith, longer)) g h) gs t.of_accounts;
       balance = λ i l. ⊎_elim
           (λ (b : i < n). rw (get_or_append_left sums (no_sums ∷ []) no_sums i (omega (arith, t.lengths))) (t.balance i b))
           (λ (b : n ≤ i). let e : i ≡ n = omega (arith, longer) in rw (e, last, none Charge, none Grant, none Refund) refl)
           (cases_lt i n);
       held = λ i l. ⊎_elim
           (λ (b : i < n). rw (get_or_append_left sums (no_sums ∷ []) no_sums i (omega (arith, t.lengths))) (t.held i b))
-          (λ (b : n ≤ i). let e : i ≡ n = omega (arith, longer) in rw (e, last, held_at-none n gs t.placed) refl)
+          (λ (b : n ≤ i). let e : i ≡ n = omega (arith, longer) in rw (e, last, held_at-none n gs t.of_accounts) refl)
           (cases_lt i n);
       covered = λ i l. ⊎_elim
           (λ (b : i < n). rw (get_or_append_left sums (no_sums ∷ []) no_sums i (omega (arith, t.lengths))) (t.covered i b))
@@ -167,11 +164,11 @@ map_agree f g (x ∷ xs) h =
 pub key_at-kept : (keys : List Key) (k : Key) (i : ℕ) → i < length keys → key_at (keys ++ k ∷ []) i ≡ key_at keys i
 key_at-kept keys k i l = get_or_append_left keys (k ∷ []) no_key i l
 
-pub grouped_add : (keys : List Key) (k : Key) (gs : List GroupState) → All (IsPlaced (length keys)) gs → IsGrouped keys gs → IsGrouped (keys ++ k ∷ []) gs
-grouped_add keys k gs placed g = record {
+pub grouped_add : (keys : List Key) (k : Key) (gs : List GroupState) → All (IsOfAccounts (length keys)) gs → IsGrouped keys gs → IsGrouped (keys ++ k ∷ []) gs
+grouped_add keys k gs of_accounts g = record {
   rising = g.rising;
   ordered = λ i d l.
       let state : GroupState = get_or gs i d in
-      rw (map_agree (λ m. key_at (keys ++ k ∷ []) m.account) (λ m. key_at keys m.account) state.holds (All-weaker (λ m. m.account < length keys) (λ m. key_at (keys ++ k ∷ []) m.account ≡ key_at keys m.account) (λ m h. key_at-kept keys k m.account h) state.holds (placed i d l).0))
+      rw (map_agree (λ m. key_at (keys ++ k ∷ []) m.account) (λ m. key_at keys m.account) state.holds (All-weaker (λ m. m.account < length keys) (λ m. key_at (keys ++ k ∷ []) m.account ≡ key_at keys m.account) (λ m h. key_at-kept keys k m.account h) state.holds (of_accounts i d l).0))
       (g.ordered i d l);
 }

@@ -1,5 +1,5 @@
 -- What calls change of what is kept.
-use Rattle.std.specs.Prelude.{◌≡◌, ℕ, ◌++◌, ◌==◌, List, [], Option, All, map, find, option_and_then}
+use Rattle.std.specs.Prelude.{◌≡◌, ◌==◌, List, [], Option, All, map, find, option_and_then}
 use Rattle.std.specs.Option.{option_to_list}
 use Rattle.std.specs.Ordering.{nat_cmp}
 use Rattle.std.specs.BTreeSet.{replace_key}

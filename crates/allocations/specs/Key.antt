@@ -17,7 +17,8 @@ account_rank Ipp = 3
 -- keys are ordered by proposal, then account, then instrument type
 abbrev pub key_cmp : Key → Key → Ordering
 key_cmp a b =
-    ordering_then (slice_cmp nat_cmp a.proposal b.proposal) (ordering_then (nat_cmp (account_rank a.account) (account_rank b.account)) (slice_cmp nat_cmp a.instrument b.instrument))
+    ordering_then (slice_cmp nat_cmp a.proposal b.proposal)
+    (ordering_then (nat_cmp (account_rank a.account) (account_rank b.account)) (slice_cmp nat_cmp a.instrument b.instrument))
 
 -- whether two keys are the same
 abbrev pub is_key : Key → Key → Bool

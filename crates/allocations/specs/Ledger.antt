@@ -1,5 +1,5 @@
 -- What contracts see of a ledger.
-use Rattle.std.specs.Prelude.{◌≡◌, ◌≢◌, ℕ, ◌+◌, ◌≤◌, List, [], All, Any, AllPairs, length, map, sum_by, true, false}
+use Rattle.std.specs.Prelude.{◌≡◌, ◌≢◌, ℕ, ◌≤◌, List, [], All, Any, AllPairs, length, map, sum_by, false}
 use Rattle.plan_base.specs.declared.number.GroupNo.{GroupNo}
 use Rattle.allocations.specs.declared.key.Key.{Key}
 use Rattle.allocations.specs.declared.key.Account.TheVariants.{Ipp}

@@ -7,7 +7,7 @@ pub mod Raw
 pub mod Store
 pub mod StoreInside
 pub mod Refusals
-pub mod Placed
+pub mod Asked
 pub mod Changes
 pub mod Booking
 pub mod Ledger

@@ -1,5 +1,6 @@
 -- How a store keeps the books: accounts by place.
-use Rattle.std.specs.Prelude.{◌≡◌, ◌≢◌, ℕ, ◌+◌, ◌-◌, ◌<◌, ◌≤◌, ◌==◌, ◌&&◌, if◌then◌else◌, List, [], Option, Some, None, All, AllPairs, length, map, slice_index_or, sum_by}
+use Rattle.std.specs.Prelude.{◌≡◌, ◌≢◌, ℕ, ◌+◌, ◌<◌, ◌≤◌, ◌==◌, ◌&&◌, if◌then◌else◌, List, [], All, AllPairs}
+use Rattle.std.specs.Prelude.{length, map, slice_index_or, sum_by}
 use Rattle.std.specs.Option.{option_map, IfSome}
 use Rattle.std.specs.Ordering.{nat_cmp}
 use Rattle.allocations.specs.declared.key.Key.{Key}
@@ -49,9 +50,9 @@ posted kind i postings = sum_by (λ p. if is_kind kind p.kind && (p.account == i
 abbrev pub held_at : ℕ → List GroupState → ℕ
 held_at i groups = sum_by (λ g. amount_at i g.holds) groups
 
--- each amount is of one of n accounts
-abbrev pub IsPlaced : ℕ → GroupState → Type 0
-IsPlaced n g = All (λ m. m.account < n) g.holds × IfSome g.ipp (λ m. m.account < n)
+-- each amount of a group is of one of n accounts
+abbrev pub IsOfAccounts : ℕ → GroupState → Type 0
+IsOfAccounts n g = All (λ m. m.account < n) g.holds × IfSome g.ipp (λ m. m.account < n)
 
 -- groups rise, and each group's holds rise by their keys
 pub record IsGrouped (keys : List Key) (groups : List GroupState) : Type 0 where
@@ -63,7 +64,7 @@ pub record Tied (keys : List Key) (sums : List Sums) (postings : List Posting) (
   pub lengths : length sums ≡ length keys
   pub apart : AllPairs (λ a b. a ≢ b) keys
   pub located : All (λ p. p.account < length keys) postings
-  pub placed : All (IsPlaced (length keys)) groups
+  pub of_accounts : All (IsOfAccounts (length keys)) groups
   pub balance : (i : ℕ) → i < length keys
       → (slice_index_or sums i no_sums).balance + posted Charge i postings ≡ posted Grant i postings + posted Refund i postings
   pub held : (i : ℕ) → i < length keys → (slice_index_or sums i no_sums).held ≡ held_at i groups

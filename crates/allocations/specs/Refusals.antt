@@ -32,7 +32,9 @@ knows_proposal entries proposal = list_any (λ e. is_kind Grant e.kind && is_tex
 -- why an account can't give these seconds, if it can't
 abbrev pub refusal_at : Books → Hold → Option LedgerFault
 refusal_at books need =
-    if has_grant books.entries need.key then (if nat_le need.seconds (available_of books need.key) then None else Some (NotEnoughTime need.seconds (available_of books need.key))) else Some (NoSuchAllocation need.key.account)
+    if has_grant books.entries need.key
+    then (if nat_le need.seconds (available_of books need.key) then None else Some (NotEnoughTime need.seconds (available_of books need.key)))
+    else Some (NoSuchAllocation need.key.account)
 
 -- the first refusal of a list of needs
 abbrev pub first_refusal : Books → List Hold → Option LedgerFault

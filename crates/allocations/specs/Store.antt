@@ -1,5 +1,6 @@
 -- What contracts see of a store.
-use Rattle.std.specs.Prelude.{◌≡◌, ◌≢◌, true, ℕ, ◌+◌, ◌-◌, ◌^◌, ◌<◌, ◌≤◌, ◌++◌, ◌∷◌, List, [], Option, Some, None, All, AllPairs, length, map, slice_index_or, slice_set}
+use Rattle.std.specs.Prelude.{◌≡◌, ◌≢◌, true, ℕ, ◌+◌, ◌-◌, ◌^◌, ◌<◌, ◌≤◌, ◌++◌, ◌∷◌, List, [], Option, Some, None, All, AllPairs}
+use Rattle.std.specs.Prelude.{length, map, slice_index_or, slice_set}
 use Rattle.allocations.specs.declared.key.Key.{Key}
 use Rattle.allocations.specs.declared.entry.EntryKind.{EntryKind}
 use Rattle.allocations.specs.declared.entry.EntryKind.TheVariants.{Grant, Charge, Refund}
@@ -11,7 +12,7 @@ use Rattle.allocations.specs.Books.{Books, has_grant}
 use Rattle.std.specs.Option.{option_to_list}
 use Rattle.plan_base.specs.declared.number.GroupNo.{GroupNo}
 use Rattle.allocations.specs.Amounts.{amount_at}
-use Rattle.allocations.specs.Raw.{key_at, hold_of, books_of, posted, held_at, IsPlaced, IsGrouped}
+use Rattle.allocations.specs.Raw.{key_at, hold_of, books_of, posted, held_at, IsOfAccounts, IsGrouped}
 
 -- the accounts by place and in order, the postings, the groups in order, and the room for postings and groups
 pub record StoreSeen : Type 0 where
@@ -80,6 +81,18 @@ abbrev pub freed_groups : Option ℕ → List GroupState → List GroupState
 freed_groups None groups = groups
 freed_groups (Some j) groups = slice_set groups j (empty_group (group_at groups j).group)
 
+-- the store once the ipp charge of the group at a place was refunded, where it stands
+abbrev pub refunded_store : StoreSeen → ℕ → StoreSeen
+refunded_store s j = record s {
+  postings = s.postings ++ refunds_of (group_at s.groups j);
+  groups = slice_set s.groups j (record (group_at s.groups j) { ipp = None });
+  spare = s.spare - length (refunds_of (group_at s.groups j));
+}
+
+-- the store once the group at a place, if one is named, was refunded and holds nothing
+abbrev pub freed_store : StoreSeen → Option ℕ → StoreSeen
+freed_store s old = record s { postings = freed_postings old s.postings s.groups; groups = freed_groups old s.groups }
+
 -- the books once the group at a place, if one is named, was refunded and holds nothing
 abbrev pub freed_books : StoreSeen → Option ℕ → Books
 freed_books s old = books_of s.keys (freed_postings old s.postings s.groups) (freed_groups old s.groups)
@@ -87,6 +100,10 @@ freed_books s old = books_of s.keys (freed_postings old s.postings s.groups) (fr
 -- what is left of an account by its charges and holds
 abbrev pub left_at : ℕ → List Posting → List GroupState → ℕ
 left_at i postings groups = given_at i postings - posted Charge i postings - held_at i groups
+
+-- what is left of it once the group at a place, if one is named, was refunded and holds nothing
+abbrev pub left_after : StoreSeen → Option ℕ → ℕ → ℕ
+left_after s old i = left_at i (freed_postings old s.postings s.groups) (freed_groups old s.groups)
 
 -- an entry leaves an account covered and in its range
 abbrev pub CanPost : StoreSeen → ℕ → EntryKind → ℕ → Type 0
@@ -99,7 +116,7 @@ CanPost s i Refund seconds = given_at i s.postings + seconds < 2 ^ 64
 pub record IsSound (s : StoreSeen) : Type 0 where
   pub apart : AllPairs (λ a b. a ≢ b) s.keys
   pub located : All (λ p. p.account < length s.keys) s.postings
-  pub placed : All (IsPlaced (length s.keys)) s.groups
+  pub of_accounts : All (IsOfAccounts (length s.keys)) s.groups
   pub grouped : IsGrouped s.keys s.groups
   pub covered : (i : ℕ) → i < length s.keys → held_at i s.groups + posted Charge i s.postings ≤ given_at i s.postings
 

@@ -13,12 +13,12 @@ ghost use Rattle.allocations.specs.declared.fault.LedgerFault.TheVariants.{NoMem
 ghost use Rattle.allocations.specs.Books.{total_seconds};
 ghost use Rattle.allocations.specs.Changes.{booked};
 ghost use Rattle.allocations.specs.Refusals.{refusal_of};
-ghost use Rattle.allocations.specs.Store.{group_at, given_at, amount_keys, CanHold, IsSound, IsGranted, freed_postings, freed_groups, freed_books, store_books};
+ghost use Rattle.allocations.specs.Store.{group_at, given_at, amount_keys, CanHold, IsSound, IsGranted, freed_store, freed_books, store_books};
 ghost use Rattle.allocations.specs.Booking.{state_cmp, HoldsNothing, standing_of, charges_of, booked_groups};
 
+use crate::asking::{Booking, MOST_SECONDS, booking_for};
 use crate::entry::{EntryKind, Hold};
 use crate::fault::LedgerFault;
-use crate::placing::{MOST_SECONDS, Placed, place};
 use crate::posting::Posting;
 use crate::store::Store;
 use plan_base::{GroupNo, RequestNo};
@@ -44,20 +44,26 @@ fn open_group(store: &mut Store, alloc: Global, group: GroupNo) -> usize
 }
 
 /// Charges a group that holds nothing, and gives it what it holds from now on.
-pub fn book(store: &mut Store, alloc: Global, group: GroupNo, placed: Placed)
+pub fn book_group(store: &mut Store, alloc: Global, group: GroupNo, booking: Booking)
     requires slot { 0 < store.old.slots }
     requires spare { 0 < store.old.spare }
     requires nothing { HoldsNothing group store.old.groups }
-    requires places { All (λ m. m.account < length store.old.keys) placed.holds }
-    requires rising { Rises key_cmp (amount_keys store.old.keys placed.holds) }
-    requires ipp_place { IfSome placed.ipp (λ m. m.account < length store.old.keys) }
-    requires room { CanHold store.old placed.holds }
-    requires ipp_room { IfSome placed.ipp (λ m. held_at m.account store.old.groups + amount_at m.account placed.holds + posted Charge m.account store.old.postings + m.seconds ≤ given_at m.account store.old.postings) }
-    ensures { store.new ≡ record store.old { postings = store.old.postings ++ charges_of group placed.ipp; groups = booked_groups group placed.holds placed.ipp store.old.groups; spare = store.new.spare; slots = store.new.slots } }
+    requires places { All (λ m. m.account < length store.old.keys) booking.holds }
+    requires rising { Rises key_cmp (amount_keys store.old.keys booking.holds) }
+    requires ipp_place { IfSome booking.ipp (λ m. m.account < length store.old.keys) }
+    requires room { CanHold store.old booking.holds }
+    requires ipp_room { IfSome booking.ipp (λ m. held_at m.account store.old.groups + amount_at m.account booking.holds
+        + posted Charge m.account store.old.postings + m.seconds ≤ given_at m.account store.old.postings) }
+    ensures { store.new ≡ record store.old {
+      postings = store.old.postings ++ charges_of group booking.ipp;
+      groups = booked_groups group booking.holds booking.ipp store.old.groups;
+      spare = store.new.spare;
+      slots = store.new.slots;
+    } }
 {
-    let Placed { holds, ipp } = placed;
+    let Booking { holds, ipp } = booking;
     let index = open_group(store, alloc, group);
-    store.lay(index, holds);
+    store.book(index, holds);
     if let Some(amount) = ipp {
         store.set_ipp(index, ipp);
         store.post(Posting {
@@ -76,7 +82,7 @@ fn free_old(store: &mut Store, alloc: Global, old: Option<usize>)
     requires old { IfSome old (λ j. j < length store.old.groups) }
     requires spare { 0 < store.old.spare }
     requires bound { total_seconds (freed_books store.old old) ≤ MOST_SECONDS }
-    ensures freed { store.new ≡ record store.old { postings = freed_postings old store.old.postings store.old.groups; groups = freed_groups old store.old.groups; spare = store.new.spare } }
+    ensures freed { store.new ≡ record (freed_store store.old old) { spare = store.new.spare } }
     ensures spare { store.old.spare ≤ store.new.spare + 1 }
     ensures sound { IsSound store.new }
 {
@@ -108,10 +114,10 @@ pub fn settle(
     ensures refused { IfErr result (λ fault. fault ≢ NoMemory → refusal_of (freed_books store.old old) holds.now ipp ≡ Some fault) }
     ensures unchanged { OnErr result (store.new ≡ record store.old { spare = store.new.spare; slots = store.new.slots }) }
 {
-    let placed = place(alloc, store, old, holds, ipp)?;
+    let booking = booking_for(alloc, store, old, holds, ipp)?;
     store.reserve(2)?;
     store.make_slot()?;
     free_old(store, alloc, old);
-    book(store, alloc, group, placed);
+    book_group(store, alloc, group, booking);
     Ok(())
 }

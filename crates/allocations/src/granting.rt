@@ -9,10 +9,10 @@ ghost use Rattle.allocations.specs.Books.{has_grant, balance_of, accounts_of, to
 ghost use Rattle.allocations.specs.Changes.{grant_entry, with_entry};
 ghost use Rattle.allocations.specs.Store.{IsSound, IsGranted, store_books};
 
+use crate::asking::MOST_SECONDS;
 use crate::entry::EntryKind;
 use crate::fault::{FullOf, LedgerFault};
 use crate::key::Key;
-use crate::placing::MOST_SECONDS;
 use crate::posting::Posting;
 use crate::store::Store;
 use plan_base::{GroupNo, RequestNo};
@@ -30,7 +30,8 @@ fn account_for(store: &mut Store, alloc: Global, key: &Key) -> Result<usize, Led
     ensures spare { OnOk result (store.new.spare ≡ store.old.spare) }
     ensures granted { OnOk result (All (λ k. (has_grant (store_books store.old).entries k ≡ true) ⊎ (k ≡ key.now)) store.new.keys) }
     ensures fits { OnOk result (Contains store.old.keys key.now ⊎ (length store.old.listed < MOST_ACCOUNTS)) }
-    ensures full { IfErr result (λ fault. fault ≢ NoMemory → (fault ≡ Full MOST_ACCOUNTS Accounts) × (¬ (Contains store.old.keys key.now)) × (MOST_ACCOUNTS ≤ length store.old.listed)) }
+    ensures full { IfErr result (λ fault. fault ≢ NoMemory → (fault ≡ Full MOST_ACCOUNTS Accounts) × (¬ (Contains store.old.keys key.now))
+        × (MOST_ACCOUNTS ≤ length store.old.listed)) }
     ensures sound { IsSound store.old }
     ensures unchanged { OnErr result (store.new ≡ store.old) }
 {
@@ -58,7 +59,8 @@ pub fn grant(store: &mut Store, alloc: Global, key: &Key, seconds: u64) -> Resul
     ensures listed { OnOk result (store.new.listed ≡ accounts_of (store_books store.new).entries) }
     ensures balance { IfOk result (λ balance. balance ≡ balance_of (store_books store.new).entries key.now) }
     ensures fits { OnOk result (Contains store.old.keys key.now ⊎ (length store.old.listed < MOST_ACCOUNTS)) }
-    ensures full { IfErr result (λ fault. fault ≢ NoMemory → (fault ≡ Full MOST_ACCOUNTS Accounts) × (¬ (Contains store.old.keys key.now)) × (MOST_ACCOUNTS ≤ length store.old.listed)) }
+    ensures full { IfErr result (λ fault. fault ≢ NoMemory → (fault ≡ Full MOST_ACCOUNTS Accounts) × (¬ (Contains store.old.keys key.now))
+        × (MOST_ACCOUNTS ≤ length store.old.listed)) }
     ensures sound { IsSound store.old }
     ensures unchanged { OnErr result (store.new ≡ record store.old { spare = store.new.spare }) }
 {

@@ -1,6 +1,7 @@
 // The ledger on which proposals are charged.
 
-ghost use Rattle.std.specs.Prelude.{◌≡◌, ◌≢◌, ◌+◌, ◌-◌, ◌<◌, ◌≤◌, ◌∷◌, ◌++◌, ◌↔◌, [], if◌then◌else◌, true, Some, None, Contains, IsTrue, IfSome, IfOk, IfErr, OnOk, OnErr, map, slice_get, option_copied};
+ghost use Rattle.std.specs.Prelude.{◌≡◌, ◌≢◌, ◌+◌, ◌-◌, ◌<◌, ◌≤◌, ◌∷◌, ◌++◌, ◌↔◌, [], if◌then◌else◌, true, Some, None};
+ghost use Rattle.std.specs.Prelude.{Contains, IsTrue, IfSome, IfOk, IfErr, OnOk, OnErr, map, slice_get, option_copied};
 ghost use Rattle.allocations.specs.declared.entry.EntryKind.TheVariants.{Grant, Charge, Refund};
 ghost use Rattle.allocations.specs.declared.fault.LedgerFault.TheVariants.{Full, NoMemory};
 ghost use Rattle.allocations.specs.declared.fault.FullOf.TheVariants.{Accounts};
@@ -11,13 +12,13 @@ ghost use Rattle.allocations.specs.Changes.{grant_entry, request_entry, refund_e
 ghost use Rattle.allocations.specs.Refusals.{refusal_of};
 ghost use Rattle.allocations.specs.Ledger.{IsFull, IsHoldList, IsFree, IsAtMost, seconds_of_holds};
 
+use crate::asking::MOST_SECONDS;
 use crate::booking::settle;
 use crate::entry::{EntryKind, Hold};
 use crate::fault::LedgerFault;
 use crate::granting::{MOST_ACCOUNTS, grant};
 use crate::key::Key;
 use crate::lowering::lowered;
-use crate::placing::MOST_SECONDS;
 use crate::posting::Posting;
 use crate::store::Store;
 use plan_base::{GroupNo, RequestNo};
@@ -72,7 +73,8 @@ impl Ledger {
     /// An account's grants less its charges plus its refunds, none where it has no grant.
     pub fn balance(&self, key: &Key) -> Option<u64>
         ensures balance { result ≡ (if has_grant self.now.books.entries key.now then Some (balance_of self.now.books.entries key.now) else None) }
-        ensures sums { IfSome result (λ balance. balance + seconds_of Charge key.now self.now.books.entries ≡ seconds_of Grant key.now self.now.books.entries + seconds_of Refund key.now self.now.books.entries) }
+        ensures sums { let entries = self.now.books.entries in
+            IfSome result (λ balance. balance + seconds_of Charge key.now entries ≡ seconds_of Grant key.now entries + seconds_of Refund key.now entries) }
     {
         match self.store.find(key) {
             Ok(place) => Some(self.store.sums(place).balance),
@@ -180,9 +182,9 @@ impl Ledger {
         ensures spare { self.new.spare ≡ self.old.spare }
     {
         if let Some(index) = self.store.find_group(group) {
-            let held = self.store.lift(self.alloc, index);
+            let held = self.store.unbook(self.alloc, index);
             let kept = lowered(&self.store, held, holds);
-            self.store.lay(index, kept);
+            self.store.book(index, kept);
         }
     }
 

@@ -1,6 +1,7 @@
 // Time accounts: the ledger on which proposals are granted, held and charged seconds.
 #![tactic(auto)]
 
+mod asking;
 mod booking;
 mod entry;
 mod fault;
@@ -8,7 +9,6 @@ mod granting;
 mod key;
 mod ledger;
 mod lowering;
-mod placing;
 mod posting;
 mod register;
 mod store;
@@ -16,9 +16,9 @@ mod sums;
 #[cfg(test)]
 mod tests;
 
+pub use asking::MOST_SECONDS;
 pub use entry::{Entry, EntryKind, Hold};
 pub use fault::{FullOf, LedgerFault};
 pub use granting::MOST_ACCOUNTS;
 pub use key::{Account, Key};
 pub use ledger::Ledger;
-pub use placing::MOST_SECONDS;

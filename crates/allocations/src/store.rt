@@ -1,6 +1,7 @@
 // The books as they are kept: accounts, entries and holds by place, with sums beside them.
 
-ghost use Rattle.std.specs.Prelude.{◌≡◌, ◌+◌, ◌-◌, ◌^◌, ◌<◌, ◌≤◌, ◌++◌, ◌∷◌, [], ◌↔◌, Some, IsTrue, All, Any, Contains, IfSome, MatchOption, IfOk, IfErr, OnOk, OnErr, length, slice_get, slice_set, option_copied};
+ghost use Rattle.std.specs.Prelude.{◌≡◌, ◌+◌, ◌-◌, ◌^◌, ◌<◌, ◌≤◌, ◌++◌, ◌∷◌, [], ◌↔◌, Some, IsTrue, All, Any, Contains};
+ghost use Rattle.std.specs.Prelude.{IfSome, MatchOption, IfOk, IfErr, OnOk, OnErr, length, slice_get, slice_set, option_copied, vec_len, vec_capacity};
 ghost use Rattle.std.specs.List.{insert};
 ghost use Rattle.std.specs.Ordering.{nat_cmp};
 ghost use Rattle.std.specs.BTreeSet.{insert_key};
@@ -8,7 +9,8 @@ ghost use Rattle.allocations.specs.declared.entry.EntryKind.TheVariants.{Charge}
 ghost use Rattle.allocations.specs.Key.{key_cmp};
 ghost use Rattle.allocations.specs.Rising.{Rises, IsGap, IsFoundAt};
 ghost use Rattle.allocations.specs.Raw.{key_at, posted, held_at};
-ghost use Rattle.allocations.specs.Store.{group_at, given_at, with_posting, with_group, numbers_of, empty_group, amount_keys, CanHold, CanPost, refunds_of, freed_postings, freed_groups, left_at, IsSound};
+ghost use Rattle.allocations.specs.Store.{group_at, given_at, left_after, with_posting, with_group, numbers_of, empty_group};
+ghost use Rattle.allocations.specs.Store.{amount_keys, refunds_of, freed_postings, freed_groups, freed_store, refunded_store, CanHold, CanPost, IsSound};
 
 use crate::entry::EntryKind;
 use crate::key::Key;
@@ -162,7 +164,7 @@ impl Store {
     {
         let sums = self.sums[posting.account];
         self.sums[posting.account] = sums.after(posting.kind, posting.seconds);
-        let _ = self.postings.push(posting);
+        self.postings.push_reserved(posting);
         self.spare -= 1;
     }
 
@@ -178,7 +180,8 @@ impl Store {
 
     /// Where a group stands, if it is there.
     pub fn find_group(&self, group: GroupNo) -> Option<usize>
-        ensures found { MatchOption result (¬ (Contains (numbers_of self.now.groups) group.0)) (λ index. slice_get (numbers_of self.now.groups) index ≡ Some group.0) }
+        ensures found { let numbers = numbers_of self.now.groups in
+            MatchOption result (¬ (Contains numbers group.0)) (λ index. slice_get numbers index ≡ Some group.0) }
         ensures within { IfSome result (λ index. index < length self.now.groups) }
         ensures sound { IsSound self.now }
     {
@@ -216,11 +219,11 @@ impl Store {
             holds: ListOf::new(alloc),
             ipp: None,
         };
-        let _ = self.groups.insert(index, state);
+        insert_reserved(&mut self.groups, index, state);
     }
 
     /// Ends what a group holds, and gives the list of it.
-    pub fn lift(&mut self, alloc: Global, index: usize) -> ListOf<Amount>
+    pub fn unbook(&mut self, alloc: Global, index: usize) -> ListOf<Amount>
         requires { index < length self.old.groups }
         ensures holds { result ≡ (group_at self.old.groups index).holds }
         ensures was { IsSound self.old }
@@ -233,7 +236,7 @@ impl Store {
     }
 
     /// Gives a group that holds nothing what it holds from now on.
-    pub fn lay(&mut self, index: usize, holds: ListOf<Amount>)
+    pub fn book(&mut self, index: usize, holds: ListOf<Amount>)
         requires index { index < length self.old.groups }
         requires nothing { (group_at self.old.groups index).holds ≡ [] }
         requires places { All (λ m. m.account < length self.old.keys) holds }
@@ -260,7 +263,7 @@ impl Store {
         requires place { place < length self.now.keys }
         requires old { IfSome old (λ j. j < length self.now.groups) }
         requires fits { given_at place (freed_postings old self.now.postings self.now.groups) < 2 ^ 64 }
-        ensures { result ≡ left_at place (freed_postings old self.now.postings self.now.groups) (freed_groups old self.now.groups) }
+        ensures { result ≡ left_after self.now old place }
     {
         let sums = self.sums[place];
         match old {
@@ -279,7 +282,7 @@ impl Store {
         requires index { index < length self.old.groups }
         requires spare { 0 < self.old.spare }
         requires fits { All (λ p. given_at p.account self.old.postings + p.seconds < 2 ^ 64) (refunds_of (group_at self.old.groups index)) }
-        ensures refunded { self.new ≡ record self.old { postings = self.old.postings ++ refunds_of (group_at self.old.groups index); groups = slice_set self.old.groups index (record (group_at self.old.groups index) { ipp = None }); spare = self.old.spare - length (refunds_of (group_at self.old.groups index)) } }
+        ensures refunded { self.new ≡ refunded_store self.old index }
         ensures sound { IsSound self.new }
     {
         let group = self.groups[index].group;
@@ -301,11 +304,23 @@ impl Store {
         requires index { index < length self.old.groups }
         requires spare { 0 < self.old.spare }
         requires fits { All (λ p. given_at p.account self.old.postings + p.seconds < 2 ^ 64) (refunds_of (group_at self.old.groups index)) }
-        ensures freed { self.new ≡ record self.old { postings = freed_postings (Some index) self.old.postings self.old.groups; groups = freed_groups (Some index) self.old.groups; spare = self.new.spare } }
+        ensures freed { self.new ≡ record (freed_store self.old (Some index)) { spare = self.new.spare } }
         ensures spare { self.old.spare ≤ self.new.spare + 1 }
         ensures sound { IsSound self.new }
     {
-        let _ = self.lift(alloc, index);
+        self.unbook(alloc, index);
         self.refund(index);
+    }
+}
+
+// Puts a group into its place, where there is room for it.
+fn insert_reserved(groups: &mut Vec<GroupState>, index: usize, state: GroupState)
+    requires index { index ≤ vec_len groups.old }
+    requires room { vec_len groups.old < vec_capacity groups.old }
+    ensures items { groups.new.items ≡ insert groups.old.items index state }
+    ensures capacity { vec_capacity groups.new ≡ vec_capacity groups.old }
+{
+    if groups.insert(index, state).is_err() {
+        unreachable!();
     }
 }

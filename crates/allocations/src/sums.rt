@@ -51,8 +51,10 @@ impl Sums {
 /// Adds amounts to what is held.
 pub fn raise(sums: &mut [Sums], amounts: &[Amount])
     requires places { All (λ m. m.account < length sums.old) amounts.now }
-    requires room { (i : ℕ) → i < length sums.old → (slice_index_or sums.old i no_sums).held + amount_at i amounts.now ≤ (slice_index_or sums.old i no_sums).balance }
-    ensures held { (i : ℕ) → i < length sums.old → (slice_index_or sums.new i no_sums).held ≡ (slice_index_or sums.old i no_sums).held + amount_at i amounts.now }
+    requires room { (i : ℕ) → i < length sums.old
+        → (slice_index_or sums.old i no_sums).held + amount_at i amounts.now ≤ (slice_index_or sums.old i no_sums).balance }
+    ensures held { (i : ℕ) → i < length sums.old
+        → (slice_index_or sums.new i no_sums).held ≡ (slice_index_or sums.old i no_sums).held + amount_at i amounts.now }
     ensures balance { (i : ℕ) → i < length sums.old → (slice_index_or sums.new i no_sums).balance ≡ (slice_index_or sums.old i no_sums).balance }
 {
     for amount in amounts {
@@ -65,7 +67,8 @@ pub fn raise(sums: &mut [Sums], amounts: &[Amount])
 pub fn lower(sums: &mut [Sums], amounts: &[Amount])
     requires places { All (λ m. m.account < length sums.old) amounts.now }
     requires held { (i : ℕ) → i < length sums.old → amount_at i amounts.now ≤ (slice_index_or sums.old i no_sums).held }
-    ensures held { (i : ℕ) → i < length sums.old → (slice_index_or sums.new i no_sums).held + amount_at i amounts.now ≡ (slice_index_or sums.old i no_sums).held }
+    ensures held { (i : ℕ) → i < length sums.old
+        → (slice_index_or sums.new i no_sums).held + amount_at i amounts.now ≡ (slice_index_or sums.old i no_sums).held }
     ensures balance { (i : ℕ) → i < length sums.old → (slice_index_or sums.new i no_sums).balance ≡ (slice_index_or sums.old i no_sums).balance }
 {
     for amount in amounts {

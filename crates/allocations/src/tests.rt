@@ -2,7 +2,6 @@
 
 mod accounts;
 mod desk;
-mod keys;
 mod plain;
 mod rows;
 mod walk;

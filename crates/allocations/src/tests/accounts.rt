@@ -1,11 +1,7 @@
 // Accounts of three proposals, and holds of them.
 
-ghost use Rattle.std.specs.Prelude.{IfOk};
-ghost use Rattle.allocations.specs.InUse.{IsAsked};
-
-use super::desk::{key, one, two};
-use crate::{Account, Hold, Key};
-use plan_base::ListOf;
+use super::desk::{Asked, key};
+use crate::{Account, Key};
 use std::alloc::Global;
 use std::process::Abort;
 use std::test::Fail;
@@ -67,21 +63,17 @@ pub fn one_wish(spot: usize, seconds: u64, ipp: u64) -> Wish {
 }
 
 /// The holds that are wished for.
-pub fn holds_of(
-    rt: &impl Abort,
-    alloc: Global,
-    keys: &[Key],
-    wish: &Wish,
-) -> Result<ListOf<Hold>, Fail>
-    ensures { IfOk result IsAsked }
-{
+pub fn holds_of(rt: &impl Abort, alloc: Global, keys: &[Key], wish: &Wish) -> Result<Asked, Fail> {
     match wish.asks {
         [Some(first), Some(second)] => {
             let one = key_at(keys, first.spot)?;
             let other = key_at(keys, second.spot)?;
-            Ok(two(rt, alloc, (one, first.seconds), (other, second.seconds))?)
+            Ok(Asked::two(rt, alloc, (one, first.seconds), (other, second.seconds))?)
         }
-        [Some(first), None] => Ok(one(rt, alloc, key_at(keys, first.spot)?, first.seconds)?),
+        [Some(first), None] => {
+            let key = key_at(keys, first.spot)?;
+            Ok(Asked::one(rt, alloc, key, first.seconds)?)
+        }
         _ => Err("nothing is asked for")?,
     }
 }

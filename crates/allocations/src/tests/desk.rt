@@ -1,13 +1,12 @@
-// A ledger in use, whose calls meet the conditions of the ledger's own.
+// A ledger in use. Its type keeps what the conditions of the ledger's calls ask for, so that no caller has to.
 
-ghost use Rattle.std.specs.Prelude.{◌≡◌, ◌≢◌, ◌+◌, ◌<◌, ◌≤◌, ◌∷◌, [], IfOk, OnOk, map};
+ghost use Rattle.std.specs.Prelude.{◌≡◌, ◌≢◌, ◌≤◌, IfOk, OnOk};
 ghost use Rattle.allocations.specs.declared.key.Account.TheVariants.{Ipp};
-ghost use Rattle.allocations.specs.Changes.{booked};
-ghost use Rattle.allocations.specs.InUse.{IsInUse, IsAsked};
 
 use crate::{Account, Hold, Key, Ledger, LedgerFault};
 use plan_base::{GroupNo, ListOf, Name, RequestNo};
 use std::alloc::{AllocError, Global};
+use std::marker::Model;
 use std::process::Abort;
 use std::test::Fail;
 
@@ -17,7 +16,7 @@ const MOST_CALLS: u32 = 100_000_000;
 /// The most seconds that a call grants, charges, or asks of an account.
 const MOST_ASKED: u64 = 1_000_000_000;
 
-pub fn name(alloc: Global, text: &str) -> Result<Name, Fail> {
+fn name(alloc: Global, text: &str) -> Result<Name, Fail> {
     Ok(Name::new(alloc, text)?.ok_or("too long")?)
 }
 
@@ -44,115 +43,123 @@ fn part(rt: &impl Abort, alloc: Global, key: &Key, seconds: u64) -> Result<Hold,
     })
 }
 
-/// One hold.
-pub fn one(
-    rt: &impl Abort,
-    alloc: Global,
-    key: &Key,
-    seconds: u64,
-) -> Result<ListOf<Hold>, AllocError>
-    ensures { IfOk result IsAsked }
-{
-    let mut holds = ListOf::new(alloc);
-    holds.push(part(rt, alloc, key, seconds)?)?;
-    Ok(holds)
+/// Holds that may be asked for. Contracts see nothing of them.
+#[derive(Drop)]
+pub struct Asked {
+    holds: ListOf<Hold>,
 }
 
-/// Two holds of one proposal, by rising keys.
-pub fn two(
-    rt: &impl Abort,
-    alloc: Global,
-    first: (&Key, u64),
-    second: (&Key, u64),
-) -> Result<ListOf<Hold>, AllocError>
-    ensures { IfOk result IsAsked }
-{
-    assert!(rt; first.0.cmp(second.0).is_lt());
-    assert!(rt; first.0.proposal == second.0.proposal);
-    let mut holds = ListOf::new(alloc);
-    holds.push(part(rt, alloc, first.0, first.1)?)?;
-    holds.push(part(rt, alloc, second.0, second.1)?)?;
-    Ok(holds)
+impl Model for Asked {
+    ghost use Rattle.std.specs.Prelude.{ℕ};
+    ghost use Rattle.allocations.specs.InUse.{IsAsked};
+
+    ghost Value = { ℕ };
+
+    ghost view = { λ _. 0 };
+
+    ghost invariant = { λ a. IsAsked a.holds };
 }
 
-/// A ledger, with the number of its next call. A group has the number of the call that made it.
+impl Asked {
+    /// One hold.
+    pub fn one(
+        rt: &impl Abort,
+        alloc: Global,
+        key: &Key,
+        seconds: u64,
+    ) -> Result<Self, AllocError> {
+        let mut holds = ListOf::new(alloc);
+        holds.push(part(rt, alloc, key, seconds)?)?;
+        Ok(Asked { holds })
+    }
+
+    /// Two holds of one proposal, by rising keys.
+    pub fn two(
+        rt: &impl Abort,
+        alloc: Global,
+        first: (&Key, u64),
+        second: (&Key, u64),
+    ) -> Result<Self, AllocError> {
+        assert!(rt; first.0.cmp(second.0).is_lt());
+        assert!(rt; first.0.proposal == second.0.proposal);
+        let mut holds = ListOf::new(alloc);
+        holds.push(part(rt, alloc, first.0, first.1)?)?;
+        holds.push(part(rt, alloc, second.0, second.1)?)?;
+        Ok(Asked { holds })
+    }
+}
+
+/// A ledger, with the number of its next call. A group has the number of the call that made it. Contracts see the number.
 #[derive(Drop)]
 pub struct Desk {
-    pub ledger: Ledger,
-    pub calls: u32,
+    ledger: Ledger,
+    calls: u32,
+}
+
+impl Model for Desk {
+    ghost use Rattle.std.specs.Prelude.{ℕ};
+    ghost use Rattle.allocations.specs.InUse.{IsInUse};
+
+    ghost Value = { ℕ };
+
+    ghost view = { λ a. a.calls };
+
+    ghost invariant = { λ a. IsInUse a.calls a.ledger.books };
 }
 
 impl Desk {
-    pub fn new(alloc: Global) -> Self
-        ensures { IsInUse result.calls result.ledger.books }
-    {
+    pub fn new(alloc: Global) -> Self {
         Desk {
             ledger: Ledger::new(alloc),
             calls: 1,
         }
     }
 
-    /// The group that the next call makes.
-    pub fn next(&self) -> GroupNo
-        ensures { result ≡ record { 0 = self.now.calls } }
-    {
-        GroupNo(self.calls)
+    /// The number of the next call, and of the group that it makes.
+    pub fn next(&self) -> u32 {
+        self.calls
     }
 
-    /// Asserts which account stands at a place.
-    pub fn check_account(&self, rt: &impl Abort, index: usize, key: Option<&Key>) {
-        assert_eq!(rt; self.ledger.account(index), key);
+    pub fn balance(&self, key: &Key) -> Option<u64> {
+        self.ledger.balance(key)
     }
 
-    /// Counts a call.
-    fn count(&mut self, rt: &impl Abort)
-        ensures few { self.old.calls < 100000000 }
-        ensures ledger { self.new.ledger ≡ self.old.ledger }
-        ensures calls { self.new.calls ≡ self.old.calls + 1 }
-    {
+    pub fn available(&self, key: &Key) -> Option<u64> {
+        self.ledger.available(key)
+    }
+
+    /// The account at a place in the order of keys.
+    pub fn account(&self, index: usize) -> Option<&Key> {
+        self.ledger.account(index)
+    }
+
+    pub fn grant(&mut self, rt: &impl Abort, key: &Key, seconds: u64) -> Result<u64, LedgerFault> {
+        assert!(rt; seconds <= MOST_ASKED);
         assert!(rt; self.calls < MOST_CALLS);
         self.calls += 1;
-    }
-
-    pub fn grant(&mut self, rt: &impl Abort, key: &Key, seconds: u64) -> Result<u64, LedgerFault>
-        requires { IsInUse self.old.calls self.old.ledger.books }
-        ensures { IsInUse self.new.calls self.new.ledger.books }
-    {
-        assert!(rt; seconds <= MOST_ASKED);
-        self.count(rt);
         self.ledger.grant(key, seconds)
     }
 
-    pub fn hold(&mut self, rt: &impl Abort, holds: &[Hold], ipp: u64) -> Result<(), LedgerFault>
-        requires used { IsInUse self.old.calls self.old.ledger.books }
-        requires asked { IsAsked holds.now }
-        ensures used { IsInUse self.new.calls self.new.ledger.books }
-        ensures booked { OnOk result (self.new.ledger.books ≡ booked (record { 0 = self.old.calls }) holds.now ipp self.old.ledger.books) }
-        ensures few { ipp ≤ 1000000000 }
-        ensures calls { self.new.calls ≡ self.old.calls + 1 }
-        ensures most { self.old.calls < 100000000 }
-    {
+    pub fn hold(&mut self, rt: &impl Abort, asked: &Asked, ipp: u64) -> Result<(), LedgerFault> {
         assert!(rt; ipp <= MOST_ASKED);
-        let group = self.next();
-        self.count(rt);
-        self.ledger.hold(group, holds, ipp)
+        assert!(rt; self.calls < MOST_CALLS);
+        let group = GroupNo(self.calls);
+        self.calls += 1;
+        self.ledger.hold(group, asked.holds.as_slice(), ipp)
     }
 
     pub fn replace(
         &mut self,
         rt: &impl Abort,
         old: GroupNo,
-        holds: &[Hold],
+        asked: &Asked,
         ipp: u64,
-    ) -> Result<(), LedgerFault>
-        requires used { IsInUse self.old.calls self.old.ledger.books }
-        requires asked { IsAsked holds.now }
-        ensures { IsInUse self.new.calls self.new.ledger.books }
-    {
+    ) -> Result<(), LedgerFault> {
         assert!(rt; ipp <= MOST_ASKED);
-        let group = self.next();
-        self.count(rt);
-        self.ledger.replace(old, group, holds, ipp)
+        assert!(rt; self.calls < MOST_CALLS);
+        let group = GroupNo(self.calls);
+        self.calls += 1;
+        self.ledger.replace(old, group, asked.holds.as_slice(), ipp)
     }
 
     /// Charges what is available.
@@ -162,25 +169,20 @@ impl Desk {
         key: &Key,
         seconds: u64,
         request: RequestNo,
-    ) -> Result<(), AllocError>
-        requires { IsInUse self.old.calls self.old.ledger.books }
-        ensures { IsInUse self.new.calls self.new.ledger.books }
-    {
+    ) -> Result<(), AllocError> {
         assert!(rt; seconds <= MOST_ASKED);
+        assert!(rt; self.calls < MOST_CALLS);
         let available = self.ledger.available(key).expect(rt, "a grant");
         assert!(rt; seconds <= available);
-        let group = self.next();
-        self.count(rt);
         self.ledger.reserve(1)?;
+        let group = GroupNo(self.calls);
+        self.calls += 1;
         self.ledger.charge(key, seconds, group, request);
         Ok(())
     }
 
     /// Ends what a group holds.
-    pub fn end(&mut self, group: GroupNo)
-        requires { IsInUse self.old.calls self.old.ledger.books }
-        ensures { IsInUse self.new.calls self.new.ledger.books }
-    {
+    pub fn end(&mut self, group: GroupNo) {
         self.ledger.release(group, &[]);
     }
 
@@ -192,16 +194,14 @@ impl Desk {
         key: &Key,
         whole: u64,
         less: u64,
-        ipp: u64,
-    ) -> Result<(), LedgerFault>
-        requires { IsInUse self.old.calls self.old.ledger.books }
-        ensures { IsInUse self.new.calls self.new.ledger.books }
-    {
+    ) -> Result<(), LedgerFault> {
         assert!(rt; less <= whole);
-        let group = self.next();
+        assert!(rt; self.calls < MOST_CALLS);
         let whole = [part(rt, alloc, key, whole)?];
         let less = [part(rt, alloc, key, less)?];
-        self.hold(rt, &whole, ipp)?;
+        let group = GroupNo(self.calls);
+        self.calls += 1;
+        self.ledger.hold(group, &whole, 0)?;
         self.ledger.release(group, &less);
         Ok(())
     }
@@ -214,15 +214,15 @@ impl Desk {
         key: &Key,
         seconds: u64,
         ipp: u64,
-    ) -> Result<(), LedgerFault>
-        requires { IsInUse self.old.calls self.old.ledger.books }
-        ensures { IsInUse self.new.calls self.new.ledger.books }
-    {
+    ) -> Result<(), LedgerFault> {
         assert!(rt; ipp > 0);
-        let group = self.next();
+        assert!(rt; ipp <= MOST_ASKED);
+        assert!(rt; self.calls < MOST_CALLS);
         let asked = [part(rt, alloc, key, seconds)?];
         let ipp_key = Key::ipp(alloc, &key.proposal)?;
-        self.hold(rt, &asked, ipp)?;
+        let group = GroupNo(self.calls);
+        self.calls += 1;
+        self.ledger.hold(group, &asked, ipp)?;
         self.ledger.reserve(1)?;
         self.ledger.refund(&ipp_key, ipp, group);
         Ok(())

@@ -1,11 +1,9 @@
 // A random walk over the calls, beside the plain program.
 
-ghost use Rattle.allocations.specs.InUse.{IsInUse, IsAsked};
-
 use super::accounts::{Ask, SPOTS, Wish, holds_of, key_at, keys, one_wish};
-use super::desk::Desk;
+use super::desk::{Asked, Desk};
 use super::plain::Plain;
-use crate::{Account, Hold, Key, LedgerFault};
+use crate::{Account, Key, LedgerFault};
 use plan_base::{GroupNo, RequestNo};
 use std::alloc::Global;
 use std::process::Abort;
@@ -58,17 +56,22 @@ fn check_spot(rt: &impl Abort, walk: &Walk, spot: usize) {
     let balance = walk.plain.balance(spot);
     let available = walk.plain.available(spot, 0);
     assert_eq!(rt;
-        walk.desk.ledger.balance(key),
+        walk.desk.balance(key),
         granted.then_some(balance),
         "call {}",
-        walk.desk.calls
+        walk.desk.next()
     );
     assert_eq!(rt;
-        walk.desk.ledger.available(key),
+        walk.desk.available(key),
         granted.then_some(available),
         "call {}",
-        walk.desk.calls
+        walk.desk.next()
     );
+}
+
+/// Asserts which account stands at a place in the order of keys.
+fn check_account(rt: &impl Abort, walk: &Walk, index: usize, key: Option<&Key>) {
+    assert_eq!(rt; walk.desk.account(index), key);
 }
 
 /// Asserts that all accounts are as the plain program sums them up, and in the order of keys.
@@ -77,11 +80,11 @@ fn check_all(rt: &impl Abort, walk: &Walk) {
     for spot in 0..walk.keys.len() {
         check_spot(rt, walk, spot);
         if walk.plain.is_granted(spot) {
-            walk.desk.check_account(rt, accounts, walk.keys.get(spot));
+            check_account(rt, walk, accounts, walk.keys.get(spot));
             accounts = accounts.saturating_add(1);
         }
     }
-    walk.desk.check_account(rt, accounts, None);
+    check_account(rt, walk, accounts, None);
 }
 
 /// An account that may be held.
@@ -131,13 +134,9 @@ fn ask(
     rt: &impl Abort,
     desk: &mut Desk,
     old: u32,
-    holds: &[Hold],
+    holds: &Asked,
     ipp: u64,
-) -> Result<(), LedgerFault>
-    requires used { IsInUse desk.old.calls desk.old.ledger.books }
-    requires asked { IsAsked holds.now }
-    ensures { IsInUse desk.new.calls desk.new.ledger.books }
-{
+) -> Result<(), LedgerFault> {
     if old == 0 {
         desk.hold(rt, holds, ipp)
     } else {
@@ -153,21 +152,18 @@ fn check_answer(
     answer: Result<(), LedgerFault>,
     expected: Option<LedgerFault>,
 ) {
-    assert_eq!(rt; answer.err(), expected, "call {}", walk.desk.calls);
+    assert_eq!(rt; answer.err(), expected, "call {}", walk.desk.next());
     if expected.is_some() {
         check_spot(rt, walk, spot);
     }
 }
 
-fn hold_step(rt: &impl Abort, alloc: Global, walk: &mut Walk, old: u32) -> Result<(), Fail>
-    requires { IsInUse walk.old.desk.calls walk.old.desk.ledger.books }
-    ensures { IsInUse walk.new.desk.calls walk.new.desk.ledger.books }
-{
+fn hold_step(rt: &impl Abort, alloc: Global, walk: &mut Walk, old: u32) -> Result<(), Fail> {
     let wish = draw_wish(&mut walk.draws);
     let holds = holds_of(rt, alloc, walk.keys.as_slice(), &wish)?;
     let expected = walk.plain.refusal(old, &wish);
-    let group = walk.desk.calls;
-    let answer = ask(rt, &mut walk.desk, old, holds.as_slice(), wish.ipp);
+    let group = walk.desk.next();
+    let answer = ask(rt, &mut walk.desk, old, &holds, wish.ipp);
     let spot = wish.asks[0].map_or(0, |ask| ask.spot);
     check_answer(rt, walk, spot, answer, expected);
     if expected.is_none() {
@@ -178,11 +174,8 @@ fn hold_step(rt: &impl Abort, alloc: Global, walk: &mut Walk, old: u32) -> Resul
     Ok(())
 }
 
-fn grant_step(rt: &impl Abort, walk: &mut Walk) -> Result<(), Fail>
-    requires { IsInUse walk.old.desk.calls walk.old.desk.ledger.books }
-    ensures { IsInUse walk.new.desk.calls walk.new.desk.ledger.books }
-{
-    let known = (walk.desk.calls / 900) as usize;
+fn grant_step(rt: &impl Abort, walk: &mut Walk) -> Result<(), Fail> {
+    let known = (walk.desk.next() / 900) as usize;
     let drawn = walk.draws.below(known.saturating_add(1));
     let spot = drawn.saturating_mul(7) % SPOTS.len();
     let seconds = walk.draws.seconds(2_000);
@@ -195,17 +188,14 @@ fn grant_step(rt: &impl Abort, walk: &mut Walk) -> Result<(), Fail>
 }
 
 /// Charges an account, where the plain program has the seconds.
-fn charge_step(rt: &impl Abort, walk: &mut Walk) -> Result<(), Fail>
-    requires { IsInUse walk.old.desk.calls walk.old.desk.ledger.books }
-    ensures { IsInUse walk.new.desk.calls walk.new.desk.ledger.books }
-{
+fn charge_step(rt: &impl Abort, walk: &mut Walk) -> Result<(), Fail> {
     let spot = walk.draws.below(SPOTS.len());
     let seconds = walk.draws.seconds(300);
     if !walk.plain.is_granted(spot) || seconds > walk.plain.available(spot, 0) {
         walk.skipped = walk.skipped.saturating_add(1);
         return Ok(());
     }
-    let group = walk.desk.calls;
+    let group = walk.desk.next();
     walk.plain.charge(Ask { spot, seconds }, group, 1)?;
     walk.desk.charge(
         rt,
@@ -216,28 +206,22 @@ fn charge_step(rt: &impl Abort, walk: &mut Walk) -> Result<(), Fail>
     Ok(())
 }
 
-fn end_step(walk: &mut Walk)
-    requires { IsInUse walk.old.desk.calls walk.old.desk.ledger.books }
-    ensures { IsInUse walk.new.desk.calls walk.new.desk.ledger.books }
-{
-    let group = draw_group(&mut walk.draws, walk.desk.calls);
+fn end_step(walk: &mut Walk) {
+    let group = draw_group(&mut walk.draws, walk.desk.next());
     walk.plain.end(group);
     walk.desk.end(GroupNo(group));
 }
 
 /// Seconds of one account, then fewer.
-fn lower_step(rt: &impl Abort, alloc: Global, walk: &mut Walk) -> Result<(), Fail>
-    requires { IsInUse walk.old.desk.calls walk.old.desk.ledger.books }
-    ensures { IsInUse walk.new.desk.calls walk.new.desk.ledger.books }
-{
+fn lower_step(rt: &impl Abort, alloc: Global, walk: &mut Walk) -> Result<(), Fail> {
     let spot = draw_held(&mut walk.draws);
     let seconds = walk.draws.seconds(400);
     let less = walk.draws.seconds(400).min(seconds);
     let wish = one_wish(spot, seconds, 0);
     let expected = walk.plain.refusal(0, &wish);
-    let group = walk.desk.calls;
+    let group = walk.desk.next();
     let key = key_at(walk.keys.as_slice(), spot)?;
-    let answer = walk.desk.hold_and_lower(rt, alloc, key, seconds, less, 0);
+    let answer = walk.desk.hold_and_lower(rt, alloc, key, seconds, less);
     check_answer(rt, walk, spot, answer, expected);
     if expected.is_none() {
         walk.plain.hold(group, &one_wish(spot, less, 0))?;
@@ -246,16 +230,13 @@ fn lower_step(rt: &impl Abort, alloc: Global, walk: &mut Walk) -> Result<(), Fai
 }
 
 /// Seconds of one account and an ipp charge, which is refunded at once.
-fn refund_step(rt: &impl Abort, alloc: Global, walk: &mut Walk) -> Result<(), Fail>
-    requires { IsInUse walk.old.desk.calls walk.old.desk.ledger.books }
-    ensures { IsInUse walk.new.desk.calls walk.new.desk.ledger.books }
-{
+fn refund_step(rt: &impl Abort, alloc: Global, walk: &mut Walk) -> Result<(), Fail> {
     let spot = draw_held(&mut walk.draws);
     let seconds = walk.draws.seconds(400);
     let ipp = walk.draws.seconds(400).saturating_add(1);
     let wish = one_wish(spot, seconds, ipp);
     let expected = walk.plain.refusal(0, &wish);
-    let group = walk.desk.calls;
+    let group = walk.desk.next();
     let key = key_at(walk.keys.as_slice(), spot)?;
     let answer = walk.desk.hold_and_refund(rt, alloc, key, seconds, ipp);
     check_answer(rt, walk, spot, answer, expected);
@@ -266,15 +247,12 @@ fn refund_step(rt: &impl Abort, alloc: Global, walk: &mut Walk) -> Result<(), Fa
     Ok(())
 }
 
-fn step(rt: &impl Abort, alloc: Global, walk: &mut Walk) -> Result<(), Fail>
-    requires { IsInUse walk.old.desk.calls walk.old.desk.ledger.books }
-    ensures { IsInUse walk.new.desk.calls walk.new.desk.ledger.books }
-{
+fn step(rt: &impl Abort, alloc: Global, walk: &mut Walk) -> Result<(), Fail> {
     match walk.draws.below(16) {
         0..=3 => grant_step(rt, walk),
         4..=6 => hold_step(rt, alloc, walk, 0),
         7..=9 => {
-            let old = draw_group(&mut walk.draws, walk.desk.calls);
+            let old = draw_group(&mut walk.draws, walk.desk.next());
             hold_step(rt, alloc, walk, old)
         }
         10 => lower_step(rt, alloc, walk),

@@ -1,4 +1,3 @@
-use Rattle.std.proofs.Common.{ap}
 use Rattle.allocations.proofs.Settled.{refunds_fit}
 use Rattle.allocations.proofs.booking.free_old.Goals as goal
 

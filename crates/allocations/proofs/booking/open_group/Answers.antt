@@ -1,5 +1,4 @@
-use Rattle.std.proofs.Common.{◌≡◌, ap}
-use Rattle.allocations.specs.Store.{StoreSeen, empty_group}
+use Rattle.allocations.specs.Store.{empty_group}
 use Rattle.allocations.proofs.Booked.{opened_state, puts_there, opened_gap, puts_gap}
 use Rattle.allocations.proofs.booking.open_group.Goals as goal
 

@@ -1,10 +1,10 @@
-use Rattle.std.proofs.Common.{◌≡◌, ◌∙◌, sym, ap, subst, ℕ, ◌+◌, ◌-◌, ◌<◌, ◌≤◌, List, length, get_or, set, take, drop, Some, None, Option, Vec, Global, arith}
+use Rattle.std.proofs.Common.{◌≡◌, ◌∙◌, sym, ap, subst, ℕ, ◌-◌, ◌<◌, List, length, get_or, set, take, drop, Option, Vec, Global, arith}
 use Rattle.std.specs.Prelude.{All}
 use Rattle.std.proofs.lemmas.List.{take_all, length-drop}
 use Rattle.allocations.specs.declared.entry.Hold.{Hold}
 use Rattle.allocations.specs.declared.sums.Amount.{Amount}
 use Rattle.allocations.specs.Lowered.{IsFirstOn}
-use Rattle.allocations.proofs.Lower.{Lowers, at_index, lowers_skip, lowers_take}
+use Rattle.allocations.proofs.Lower.{at_index, lowers_skip, lowers_take}
 use Rattle.allocations.proofs.lowering.lowered.Goals as goal
 use Rattle.allocations.proofs.lowering.lowered.Goals.{in-Some, in_default}
 
@@ -17,8 +17,8 @@ first_on-requires c =
     let all = c.into_vec-amounts.result.items in
     let within : c.loop-index.index < length all = let t = c.loop-index-test.true in let e = c.len-index-end.ensures in let o = c.into_vec-amounts.result.ok.0 in omega (arith, t, e, o) in
     let same = at_index keys all c.args.holds.now c.loop-index.amounts.items c.loop-index.kept c.loop-index.index c.loop-index.invariant within c.index.result.now in
-    let placed : All (λ (m : Amount). m.account < length keys) all = subst (λ (l : List Amount). All (λ (m : Amount). m.account < length keys) l) (sym c.into_vec-amounts.ensures) c.requires in
-    subst (λ (m : Amount). m.account < length keys) (sym (c.index.ensures ∙ same)) (placed c.loop-index.index c.index.result.now within)
+    let of_accounts : All (λ (m : Amount). m.account < length keys) all = subst (λ (l : List Amount). All (λ (m : Amount). m.account < length keys) l) (sym c.into_vec-amounts.ensures) c.requires in
+    subst (λ (m : Amount). m.account < length keys) (sym (c.index.ensures ∙ same)) (of_accounts c.loop-index.index c.index.result.now within)
 
 pub loop-index-preserved : goal.loop-index-preserved
 loop-index-preserved c =

@@ -3,7 +3,7 @@ use Rattle.std.specs.Prelude.{Contains, ◌↔◌}
 use Rattle.allocations.specs.declared.key.Key.{Key}
 use Rattle.allocations.specs.Key.{key_cmp}
 use Rattle.allocations.specs.Rising.{Rises}
-use Rattle.allocations.specs.Books.{accounts_of, has_grant}
+use Rattle.allocations.specs.Books.{has_grant}
 use Rattle.allocations.specs.Store.{store_books}
 use Rattle.allocations.proofs.Granted.{listed_granted}
 use Rattle.allocations.proofs.ledger.Ledger.account.Goals as goal

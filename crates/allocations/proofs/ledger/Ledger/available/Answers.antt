@@ -1,6 +1,6 @@
-use Rattle.std.proofs.Common.{◌≡◌, ◌∙◌, sym, ap, ℕ, Bool, true, false, ◌+◌, ◌-◌, Some, None, arith}
+use Rattle.std.proofs.Common.{◌≡◌, ◌∙◌, sym, ap, ℕ, Bool, true, false, ◌-◌, Some, None, arith}
 use Rattle.std.specs.Prelude.{if◌then◌else◌}
-use Rattle.allocations.specs.Books.{has_grant, balance_of, available_of}
+use Rattle.allocations.specs.Books.{has_grant, available_of}
 use Rattle.allocations.specs.Store.{store_books}
 use Rattle.allocations.proofs.Freed.{unknown_granted}
 use Rattle.allocations.proofs.Granted.{granted_at, balance_at, held_of_at}

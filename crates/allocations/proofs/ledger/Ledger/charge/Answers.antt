@@ -1,9 +1,9 @@
-use Rattle.std.proofs.Common.{◌≡◌, ◌∙◌, ap, ◌+◌, ◌-◌, ◌≤◌, arith}
+use Rattle.std.proofs.Common.{◌∙◌, ap, arith}
 use Rattle.std.proofs.lemmas.Option.{slice_get_within, get_or_from_slice_get}
 use Rattle.allocations.specs.declared.key.Key.{Key}
 use Rattle.allocations.specs.Changes.{request_entry, with_entry}
 use Rattle.allocations.specs.Raw.{no_key}
-use Rattle.allocations.specs.Store.{StoreSeen, store_books}
+use Rattle.allocations.specs.Store.{store_books}
 use Rattle.allocations.proofs.Granted.{known_key, balance_at, held_of_at, posted_seen}
 use Rattle.allocations.proofs.ledger.Ledger.charge.Goals as goal
 

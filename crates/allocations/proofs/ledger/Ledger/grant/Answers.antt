@@ -1,4 +1,4 @@
-use Rattle.std.proofs.Common.{◌≡◌, ◌≢◌, ◌∙◌, ap, List, ◌≤◌, length, arith}
+use Rattle.std.proofs.Common.{◌≡◌, ◌≢◌, ap, List, ◌≤◌, length, arith}
 use Rattle.std.specs.Prelude.{Contains}
 use Rattle.std.proofs.lemmas.Result.{IfErr-weaker}
 use Rattle.allocations.specs.declared.fault.LedgerFault.{LedgerFault}

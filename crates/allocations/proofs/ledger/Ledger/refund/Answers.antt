@@ -1,12 +1,11 @@
-use Rattle.std.proofs.Common.{◌≡◌, ◌∙◌, sym, ap, subst, ◌+◌, ◌++◌, List, Some, None, Option, map, set, length, arith}
-use Rattle.std.specs.Option.{option_map, option_to_list}
+use Rattle.std.proofs.Common.{◌∙◌, sym, ap, ◌++◌, None, Option, map, set, arith}
+use Rattle.std.specs.Option.{option_to_list}
 use Rattle.plan_base.specs.declared.number.GroupNo.{GroupNo}
-use Rattle.allocations.specs.declared.entry.Entry.{Entry}
 use Rattle.allocations.specs.declared.entry.Hold.{Hold}
 use Rattle.allocations.specs.Books.{Books}
-use Rattle.allocations.specs.Changes.{ipp_of, refund_entry}
-use Rattle.allocations.specs.Raw.{hold_of, books_of}
-use Rattle.allocations.specs.Store.{StoreSeen, group_at, store_books, refund_posting}
+use Rattle.allocations.specs.Changes.{refund_entry}
+use Rattle.allocations.specs.Raw.{books_of}
+use Rattle.allocations.specs.Store.{group_at, store_books, refund_posting}
 use Rattle.allocations.proofs.Booked.{number_at}
 use Rattle.allocations.proofs.Changed.{ipp_at, ipp_absent, refunded_seen}
 use Rattle.allocations.proofs.Released.{refund_fits, refunds_one, refunded_once}

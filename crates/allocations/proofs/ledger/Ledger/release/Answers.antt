@@ -1,7 +1,5 @@
-use Rattle.std.proofs.Common.{◌≡◌, ◌∙◌, sym, ap, subst, ◌+◌, ◌<◌, ◌≤◌, ℕ, List, [], length, set, map}
-use Rattle.std.specs.Prelude.{All}
+use Rattle.std.proofs.Common.{◌≡◌, ◌∙◌, sym, ap, subst, ◌<◌, List, length, map}
 use Rattle.allocations.specs.declared.key.Key.{Key}
-use Rattle.allocations.specs.declared.entry.Hold.{Hold}
 use Rattle.allocations.specs.declared.sums.Amount.{Amount}
 use Rattle.allocations.specs.declared.posting.GroupState.{GroupState}
 use Rattle.allocations.specs.Key.{key_cmp}
@@ -10,48 +8,48 @@ use Rattle.allocations.specs.Books.{GroupHolds}
 use Rattle.allocations.specs.Changes.{with_holds}
 use Rattle.allocations.specs.Lowered.{lowered_to}
 use Rattle.allocations.specs.Raw.{entry_of}
-use Rattle.allocations.specs.Store.{StoreSeen, no_group, group_at, amount_keys, store_books}
+use Rattle.allocations.specs.Store.{StoreSeen, no_group, group_at}
 use Rattle.allocations.proofs.Changed.{released_seen, change_absent}
 use Rattle.allocations.proofs.Lower.{lowered_places, lowered_is, IsLowered}
-use Rattle.allocations.proofs.Released.{at_most_seen, relaid, relaid_room}
-use Rattle.allocations.proofs.Settled.{placed_keys}
+use Rattle.allocations.proofs.Released.{at_most_seen, rebooked, rebooked_room}
+use Rattle.allocations.proofs.Settled.{keys_of_holds}
 use Rattle.allocations.proofs.ledger.Ledger.release.Goals as goal
 
-pub lay-requires-clause-places : goal.lay-requires-clause-places
-lay-requires-clause-places c =
+pub book-requires-clause-places : goal.book-requires-clause-places
+book-requires-clause-places c =
     let s = c.self.inside.store in
     let j = c.in-Some.index in
     let hs = c.args.holds.now in
     let sound = c.find_group.ensures.sound in
     let g : GroupState = group_at s.groups j in
     let within : j < length s.groups = c.in-Some.ensures.within in
-    let low : c.lowered-kept.result ≡ lowered_to s.keys g.holds hs = c.lowered-kept.ensures ∙ ap (λ (x : StoreSeen). lowered_to x.keys c.lift-held.result hs) c.lift-held.ensures.rest ∙ ap (λ (x : List Amount). lowered_to s.keys x hs) c.lift-held.ensures.holds in
+    let low : c.lowered-kept.result ≡ lowered_to s.keys g.holds hs = c.lowered-kept.ensures ∙ ap (λ (x : StoreSeen). lowered_to x.keys c.unbook-held.result hs) c.unbook-held.ensures.rest ∙ ap (λ (x : List Amount). lowered_to s.keys x hs) c.unbook-held.ensures.holds in
     let is : IsLowered s.keys g.holds hs (lowered_to s.keys g.holds hs) = lowered_is s.keys g.holds hs (sound.grouped.ordered j no_group within) c.requires.rising (at_most_seen s.keys s.groups c.args.group j hs sound.grouped.rising c.in-Some.ensures.found (rw (← c.self.view_is) at c.requires.at_most)) in
-    rw (c.lift-held.ensures.rest, low) (lowered_places s.keys (length s.keys) g.holds hs (sound.placed j no_group within).0)
+    rw (c.unbook-held.ensures.rest, low) (lowered_places s.keys (length s.keys) g.holds hs (sound.of_accounts j no_group within).0)
 
-pub lay-requires-clause-rising : goal.lay-requires-clause-rising
-lay-requires-clause-rising c =
+pub book-requires-clause-rising : goal.book-requires-clause-rising
+book-requires-clause-rising c =
     let s = c.self.inside.store in
     let j = c.in-Some.index in
     let hs = c.args.holds.now in
     let sound = c.find_group.ensures.sound in
     let g : GroupState = group_at s.groups j in
     let within : j < length s.groups = c.in-Some.ensures.within in
-    let low : c.lowered-kept.result ≡ lowered_to s.keys g.holds hs = c.lowered-kept.ensures ∙ ap (λ (x : StoreSeen). lowered_to x.keys c.lift-held.result hs) c.lift-held.ensures.rest ∙ ap (λ (x : List Amount). lowered_to s.keys x hs) c.lift-held.ensures.holds in
+    let low : c.lowered-kept.result ≡ lowered_to s.keys g.holds hs = c.lowered-kept.ensures ∙ ap (λ (x : StoreSeen). lowered_to x.keys c.unbook-held.result hs) c.unbook-held.ensures.rest ∙ ap (λ (x : List Amount). lowered_to s.keys x hs) c.unbook-held.ensures.holds in
     let is : IsLowered s.keys g.holds hs (lowered_to s.keys g.holds hs) = lowered_is s.keys g.holds hs (sound.grouped.ordered j no_group within) c.requires.rising (at_most_seen s.keys s.groups c.args.group j hs sound.grouped.rising c.in-Some.ensures.found (rw (← c.self.view_is) at c.requires.at_most)) in
-    rw (c.lift-held.ensures.rest, low) (subst (λ (ks : List Key). Rises key_cmp ks) (sym (placed_keys s.keys (lowered_to s.keys g.holds hs) hs is.stand)) c.requires.rising)
+    rw (c.unbook-held.ensures.rest, low) (subst (λ (ks : List Key). Rises key_cmp ks) (sym (keys_of_holds s.keys (lowered_to s.keys g.holds hs) hs is.stand)) c.requires.rising)
 
-pub lay-requires-clause-room : goal.lay-requires-clause-room
-lay-requires-clause-room c =
+pub book-requires-clause-room : goal.book-requires-clause-room
+book-requires-clause-room c =
     let s = c.self.inside.store in
     let j = c.in-Some.index in
     let hs = c.args.holds.now in
     let sound = c.find_group.ensures.sound in
     let g : GroupState = group_at s.groups j in
     let within : j < length s.groups = c.in-Some.ensures.within in
-    let low : c.lowered-kept.result ≡ lowered_to s.keys g.holds hs = c.lowered-kept.ensures ∙ ap (λ (x : StoreSeen). lowered_to x.keys c.lift-held.result hs) c.lift-held.ensures.rest ∙ ap (λ (x : List Amount). lowered_to s.keys x hs) c.lift-held.ensures.holds in
+    let low : c.lowered-kept.result ≡ lowered_to s.keys g.holds hs = c.lowered-kept.ensures ∙ ap (λ (x : StoreSeen). lowered_to x.keys c.unbook-held.result hs) c.unbook-held.ensures.rest ∙ ap (λ (x : List Amount). lowered_to s.keys x hs) c.unbook-held.ensures.holds in
     let is : IsLowered s.keys g.holds hs (lowered_to s.keys g.holds hs) = lowered_is s.keys g.holds hs (sound.grouped.ordered j no_group within) c.requires.rising (at_most_seen s.keys s.groups c.args.group j hs sound.grouped.rising c.in-Some.ensures.found (rw (← c.self.view_is) at c.requires.at_most)) in
-    rw (c.lift-held.ensures.rest, low) (λ i l. relaid_room s.postings s.groups j (lowered_to s.keys g.holds hs) i within (sound.covered i l) (is.less i))
+    rw (c.unbook-held.ensures.rest, low) (λ i l. rebooked_room s.postings s.groups j (lowered_to s.keys g.holds hs) i within (sound.covered i l) (is.less i))
 
 pub returns-in-Some-clause-books : goal.returns-in-Some-clause-books
 returns-in-Some-clause-books c =
@@ -61,9 +59,9 @@ returns-in-Some-clause-books c =
     let sound = c.find_group.ensures.sound in
     let g : GroupState = group_at s.groups j in
     let within : j < length s.groups = c.in-Some.ensures.within in
-    let low : c.lowered-kept.result ≡ lowered_to s.keys g.holds hs = c.lowered-kept.ensures ∙ ap (λ (x : StoreSeen). lowered_to x.keys c.lift-held.result hs) c.lift-held.ensures.rest ∙ ap (λ (x : List Amount). lowered_to s.keys x hs) c.lift-held.ensures.holds in
+    let low : c.lowered-kept.result ≡ lowered_to s.keys g.holds hs = c.lowered-kept.ensures ∙ ap (λ (x : StoreSeen). lowered_to x.keys c.unbook-held.result hs) c.unbook-held.ensures.rest ∙ ap (λ (x : List Amount). lowered_to s.keys x hs) c.unbook-held.ensures.holds in
     let is : IsLowered s.keys g.holds hs (lowered_to s.keys g.holds hs) = lowered_is s.keys g.holds hs (sound.grouped.ordered j no_group within) c.requires.rising (at_most_seen s.keys s.groups c.args.group j hs sound.grouped.rising c.in-Some.ensures.found (rw (← c.self.view_is) at c.requires.at_most)) in
-    rw (c.lay.ensures, c.lift-held.ensures.rest, low, relaid s.groups j (lowered_to s.keys g.holds hs) within, ← c.self.view_is)
+    rw (c.book.ensures, c.unbook-held.ensures.rest, low, rebooked s.groups j (lowered_to s.keys g.holds hs) within, ← c.self.view_is)
     (sym (released_seen s.keys s.postings s.groups c.args.group j hs (lowered_to s.keys g.holds hs) sound.grouped.rising c.in-Some.ensures.found is.stand))
 
 pub returns-in_default-clause-books : goal.returns-in_default-clause-books

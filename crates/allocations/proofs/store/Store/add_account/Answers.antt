@@ -1,4 +1,4 @@
-use Rattle.std.proofs.Common.{◌≡◌, ◌<◌, ◌++◌, ◌∷◌, [], length, vec_len, vec_capacity, arith}
+use Rattle.std.proofs.Common.{◌≡◌, ◌<◌, ◌++◌, ◌∷◌, [], vec_len, vec_capacity, arith}
 use Rattle.std.proofs.lemmas.Grind.{common_steps}
 use Rattle.allocations.specs.Amounts.{no_sums}
 use Rattle.allocations.proofs.Tied.{tied_add, grouped_add}
@@ -13,6 +13,6 @@ invariant_of-self-2 c =
     let inside = c.self.inside in
     record {
       tied = rw (pushed, keys) (tied_add inside.register.keys inside.sums.items inside.postings.items inside.groups.items c.args.key.now c.self.invariant.tied (rw (← c.self.view_is) at c.requires.absent));
-      grouped = rw keys (grouped_add inside.register.keys c.args.key.now inside.groups.items c.self.invariant.tied.placed c.self.invariant.grouped);
+      grouped = rw keys (grouped_add inside.register.keys c.args.key.now inside.groups.items c.self.invariant.tied.of_accounts c.self.invariant.grouped);
       room = c.self.invariant.room;
     }

@@ -9,7 +9,7 @@ pub returns-clause-freed : goal.returns-clause-freed
 returns-clause-freed c =
     let gs = c.args.self.now.groups in
     let j = c.args.index in
-    let lifted : GroupState = record (group_at gs j) { holds = [] } in
-    let here : group_at (set gs j lifted) j ≡ lifted = get_or-set_same gs j lifted no_group c.requires.index in
+    let unbooked : GroupState = record (group_at gs j) { holds = [] } in
+    let here : group_at (set gs j unbooked) j ≡ unbooked = get_or-set_same gs j unbooked no_group c.requires.index in
     let groups = emptied gs j c.requires.index in
-    rw (c.refund.ensures.refunded, c.lift.ensures.rest, groups, here) refl
+    rw (c.refund.ensures.refunded, c.unbook.ensures.rest, groups, here) refl

@@ -1,6 +1,5 @@
-use Rattle.std.proofs.Common.{◌≡◌, ◌<◌, length, vec_len, vec_capacity, arith}
+use Rattle.std.proofs.Common.{◌≡◌}
 use Rattle.std.specs.List.{insert}
-use Rattle.std.proofs.lemmas.Grind.{common_steps}
 use Rattle.allocations.specs.Store.{empty_group}
 use Rattle.allocations.proofs.Groups.{tied_open, grouped_open}
 use Rattle.allocations.proofs.store.Store.open.Goals as goal
@@ -8,10 +7,7 @@ use Rattle.allocations.proofs.store.Store.open.Goals as goal
 pub invariant_of-self : goal.invariant_of-self
 invariant_of-self c =
     let inside = c.self.inside in
-    let slot = rw (← c.self.view_is) at c.requires.slot in
-    let roomy : vec_len inside.groups < vec_capacity inside.groups = omega (arith, slot) in
-    let ok = c.insert.ensures.succeeds roomy in
-    let opened : c.insert.new.self.items ≡ insert inside.groups.items c.args.index (empty_group c.args.group) = grind (arith, common_steps, ok) in
+    let opened : c.insert_reserved.new.groups.items ≡ insert inside.groups.items c.args.index (empty_group c.args.group) = rw c.new.ensures at c.insert_reserved.ensures.items in
     record {
       tied = rw opened (tied_open inside.register.keys inside.sums.items inside.postings.items inside.groups.items c.args.index c.args.group c.self.invariant.tied);
       grouped = rw opened (grouped_open inside.register.keys inside.groups.items c.args.index c.args.group c.self.invariant.grouped (rw (← c.self.view_is) at c.requires.gap));

@@ -4,7 +4,7 @@ use Rattle.allocations.specs.InUse.{IsInUse}
 use Rattle.allocations.proofs.InUse.{within_ended}
 use Rattle.allocations.proofs.tests.desk.Desk.end.Goals as goal
 
-pub returns : goal.returns
-returns c =
-    let calls = c.args.self.now.calls in
-    subst (λ (b : Books). IsInUse calls b) (sym c.release.ensures.books) (within_ended calls (calls * 4000000000) c.args.self.now.ledger.books c.args.group c.requires)
+pub invariant_of-self : goal.invariant_of-self
+invariant_of-self c =
+    let calls = c.self.inside.calls in
+    subst (λ (b : Books). IsInUse calls b) (sym c.release.ensures.books) (within_ended calls (calls * 4000000000) c.self.inside.ledger.books c.args.group c.self.invariant)

@@ -1,26 +1,26 @@
-use Rattle.std.proofs.Common.{rules, ◌≡◌, ◌+◌, ◌≤◌, sym, ap, subst}
-use Rattle.allocations.specs.Books.{Books, total_seconds}
-use Rattle.allocations.specs.Ledger.{LedgerSeen, seconds_of_holds}
+use Rattle.std.proofs.Common.{rules, ◌+◌, ◌<◌, ◌≤◌, List, refl, sym, subst}
+use Rattle.allocations.specs.declared.entry.Hold.{Hold}
+use Rattle.allocations.specs.Books.{Books}
 use Rattle.allocations.specs.Changes.{freed, booked}
-use Rattle.allocations.specs.InUse.{IsInUse}
+use Rattle.allocations.specs.InUse.{IsInUse, IsAsked}
 use Rattle.allocations.proofs.InUse.{either, in_use_more, in_use_replaced, freed_bound}
 use Rattle.allocations.proofs.tests.desk.Desk.replace.Goals as goal
 
 pub replace-requires-clause-bound : goal.replace-requires-clause-bound
 replace-requires-clause-bound g c =
+    let hs : List Hold = c.as_slice.result.now in
     let few : c.args.ipp ≤ 1000000000 = search rules in
-    let same : c.count.new.self.ledger.books ≡ c.args.self.now.ledger.books = ap (λ (l : LedgerSeen). l.books) c.count.ensures.ledger in
-    subst (λ (b : Books). total_seconds (freed c.args.old b) + seconds_of_holds c.args.holds.now + c.args.ipp ≤ 1000000000000000000) (sym same)
-    (freed_bound c.args.self.now.calls c.args.self.now.ledger.books c.args.old c.args.holds.now c.args.ipp c.requires.used c.count.ensures.few c.requires.asked few)
+    let fewer : c.self.inside.calls < 100000000 = search rules in
+    let asked : IsAsked hs = subst (λ (l : List Hold). IsAsked l) (sym c.as_slice.ensures) c.asked.invariant in
+    freed_bound c.self.inside.calls c.self.inside.ledger.books c.args.old hs c.args.ipp c.self.invariant fewer asked few
 
-pub returns : goal.returns
-returns g c =
-    let calls = c.args.self.now.calls in
-    let more = c.count.new.self.calls in
-    let b = c.args.self.now.ledger.books in
-    let hs = c.args.holds.now in
+pub invariant_of-self : goal.invariant_of-self
+invariant_of-self g c =
+    let calls = c.self.inside.calls in
+    let b : Books = c.self.inside.ledger.books in
+    let hs : List Hold = c.as_slice.result.now in
     let few : c.args.ipp ≤ 1000000000 = search rules in
-    let same : c.count.new.self.ledger.books ≡ b = ap (λ (l : LedgerSeen). l.books) c.count.ensures.ledger in
-    either c.replace.result (λ (x : Books). IsInUse more x) c.replace.new.self.books (booked c.next-group.result hs c.args.ipp (freed c.args.old c.count.new.self.ledger.books)) c.count.new.self.ledger.books c.replace.ensures.booked c.replace.ensures.unchanged
-    (subst (λ (x : Books). IsInUse more (booked c.next-group.result hs c.args.ipp (freed c.args.old x))) (sym same) (in_use_replaced calls more c.args.old c.next-group.result b hs c.args.ipp c.requires.used c.count.ensures.calls c.next-group.ensures c.requires.asked few))
-    (subst (λ (x : Books). IsInUse more x) (sym same) (in_use_more calls more b c.requires.used c.count.ensures.calls))
+    let asked : IsAsked hs = subst (λ (l : List Hold). IsAsked l) (sym c.as_slice.ensures) c.asked.invariant in
+    either c.replace.result (λ (x : Books). IsInUse (calls + 1) x) c.replace.new.self.books (booked record { 0 = calls } hs c.args.ipp (freed c.args.old b)) b c.replace.ensures.booked c.replace.ensures.unchanged
+    (in_use_replaced calls (calls + 1) c.args.old record { 0 = calls } b hs c.args.ipp c.self.invariant refl refl asked few)
+    (in_use_more calls (calls + 1) b c.self.invariant refl)

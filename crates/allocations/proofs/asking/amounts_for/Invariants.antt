@@ -3,7 +3,7 @@ use Rattle.std.specs.Prelude.{All, map, length}
 use Rattle.allocations.specs.Raw.{hold_of}
 use Rattle.allocations.specs.Refusals.{first_refusal}
 use Rattle.allocations.specs.Store.{freed_postings, freed_groups, freed_books, left_at}
-use Rattle.allocations.proofs.placing.place_holds.Given as goal
+use Rattle.allocations.proofs.asking.amounts_for.Given as goal
 
 abbrev pub invariant-loop-hold : goal.invariant-loop-hold
 invariant-loop-hold l = record {

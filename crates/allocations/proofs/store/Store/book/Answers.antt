@@ -1,13 +1,11 @@
-use Rattle.std.proofs.Common.{◌≡◌, ◌∙◌, sym, ap, subst, ◌+◌, ◌<◌, ◌≤◌, ℕ, List, [], length, get_or, set, refl, arith}
+use Rattle.std.proofs.Common.{◌≡◌, ◌∙◌, sym, ap, subst, ◌+◌, ◌<◌, ℕ, List, [], length, get_or, set, refl, arith}
 use Rattle.std.proofs.lemmas.List.{get_or_default}
 use Rattle.allocations.specs.declared.sums.Sums.{Sums}
-use Rattle.allocations.specs.declared.sums.Amount.{Amount}
-use Rattle.allocations.specs.declared.posting.GroupState.{GroupState}
 use Rattle.allocations.specs.Amounts.{amount_at, no_sums}
 use Rattle.allocations.specs.Raw.{Tied}
 use Rattle.allocations.specs.Store.{group_at, no_group}
 use Rattle.allocations.proofs.Groups.{tied_set, grouped_set, put_all}
-use Rattle.allocations.proofs.store.Store.lay.Goals as goal
+use Rattle.allocations.proofs.store.Store.book.Goals as goal
 
 pub invariant_of-self : goal.invariant_of-self
 invariant_of-self c =
@@ -25,7 +23,7 @@ invariant_of-self c =
     let same : (i : ℕ) → i < length inside.sums.items → (get_or c.raise.new.sums i no_sums).balance ≡ (get_or inside.sums.items i no_sums).balance = rw sums at c.raise.ensures.balance in
     let held : (i : ℕ) → i < length inside.register.keys → (get_or c.raise.new.sums i no_sums).held ≡ (get_or inside.sums.items i no_sums).held + amount_at i c.args.holds = λ i l. more i (omega (arith, t.lengths)) in
     let balance : (i : ℕ) → i < length inside.register.keys → (get_or c.raise.new.sums i no_sums).balance ≡ (get_or inside.sums.items i no_sums).balance = λ i l. same i (omega (arith, t.lengths)) in
-    let tied = tied_set inside.register.keys inside.sums.items c.raise.new.sums inside.postings.items inside.groups.items j g t within (rw (← c.self.view_is) at c.requires.places, (t.placed j no_group within).1) lengths balance
+    let tied = tied_set inside.register.keys inside.sums.items c.raise.new.sums inside.postings.items inside.groups.items j g t within (rw (← c.self.view_is) at c.requires.places, (t.of_accounts j no_group within).1) lengths balance
     (λ i l. let h = held i l in rw nothing (omega (arith, h)))
     (λ i l. let h = held i l in let b = balance i l in let o = t.held i l in let d = t.balance i l in let r = room i l in omega (arith, h, b, o, d, r)) in
     rw state record {

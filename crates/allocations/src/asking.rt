@@ -5,9 +5,9 @@ ghost use Rattle.std.specs.Option.{option_to_list};
 ghost use Rattle.allocations.specs.declared.fault.LedgerFault.TheVariants.{NoMemory};
 ghost use Rattle.allocations.specs.Books.{total_seconds};
 ghost use Rattle.allocations.specs.Raw.{hold_of};
-ghost use Rattle.allocations.specs.Placed.{IsPlacedFor};
+ghost use Rattle.allocations.specs.Asked.{IsBookingFor};
 ghost use Rattle.allocations.specs.Refusals.{refusal_at, first_refusal, refusal_of, ipp_key};
-ghost use Rattle.allocations.specs.Store.{freed_postings, freed_groups, freed_books, left_at, IsGranted, StandsFor};
+ghost use Rattle.allocations.specs.Store.{freed_books, left_after, IsGranted, StandsFor};
 
 use crate::entry::Hold;
 use crate::fault::LedgerFault;
@@ -21,7 +21,7 @@ use std::alloc::Global;
 pub const MOST_SECONDS: u64 = 1_000_000_000_000_000_000;
 
 /// The amount of an account for a need, tested against what is left once the group at `old` is freed.
-pub fn place_need(
+pub fn amount_for(
     store: &Store,
     old: Option<usize>,
     key: &Key,
@@ -31,7 +31,7 @@ pub fn place_need(
     requires granted { IsGranted store.now }
     requires bound { total_seconds (freed_books store.now old) ≤ MOST_SECONDS }
     ensures stands { IfOk result (λ m. StandsFor store.now m record { key = key.now; seconds = needed }) }
-    ensures fits { IfOk result (λ m. m.seconds ≤ left_at m.account (freed_postings old store.now.postings store.now.groups) (freed_groups old store.now.groups)) }
+    ensures fits { IfOk result (λ m. m.seconds ≤ left_after store.now old m.account) }
     ensures given { OnOk result (refusal_at (freed_books store.now old) record { key = key.now; seconds = needed } ≡ None) }
     ensures refused { IfErr result (λ fault. refusal_at (freed_books store.now old) record { key = key.now; seconds = needed } ≡ Some fault) }
 {
@@ -54,7 +54,7 @@ pub fn place_need(
 }
 
 /// The amounts for holds, each tested in order.
-pub fn place_holds(
+pub fn amounts_for(
     alloc: Global,
     store: &Store,
     old: Option<usize>,
@@ -65,13 +65,13 @@ pub fn place_holds(
     requires bound { total_seconds (freed_books store.now old) ≤ MOST_SECONDS }
     ensures places { IfOk result (All (λ m. m.account < length store.now.keys)) }
     ensures stand { IfOk result (λ ms. map (hold_of store.now.keys) ms ≡ holds.now) }
-    ensures fit { IfOk result (All (λ m. m.seconds ≤ left_at m.account (freed_postings old store.now.postings store.now.groups) (freed_groups old store.now.groups))) }
+    ensures fit { IfOk result (All (λ m. m.seconds ≤ left_after store.now old m.account)) }
     ensures given { OnOk result (first_refusal (freed_books store.now old) holds.now ≡ None) }
     ensures refused { IfErr result (λ fault. fault ≢ NoMemory → first_refusal (freed_books store.now old) holds.now ≡ Some fault) }
 {
     let mut amounts = Vec::with_capacity(alloc, holds.len())?;
     for hold in holds {
-        let amount = place_need(store, old, &hold.key, hold.seconds)?;
+        let amount = amount_for(store, old, &hold.key, hold.seconds)?;
         amounts.push(amount)?;
     }
     Ok(ListOf::from_vec(amounts))
@@ -79,13 +79,13 @@ pub fn place_holds(
 
 /// What a group is to hold, and its ipp charge where there is one.
 #[derive(Debug, Drop)]
-pub struct Placed {
+pub struct Booking {
     pub holds: ListOf<Amount>,
     pub ipp: Option<Amount>,
 }
 
 /// The amount of a proposal's ipp account, where one is asked for.
-fn place_ipp(
+fn ipp_amount_for(
     alloc: Global,
     store: &Store,
     old: Option<usize>,
@@ -97,32 +97,33 @@ fn place_ipp(
     requires bound { total_seconds (freed_books store.now old) ≤ MOST_SECONDS }
     ensures none { OnOk result (0 ≡ ipp → result ≡ Ok None) }
     ensures stands { IfOk result (λ o. 0 < ipp → IsSomeAnd o (λ m. StandsFor store.now m record { key = ipp_key proposal.now; seconds = ipp })) }
-    ensures fits { IfOk result (λ o. IfSome o (λ m. m.seconds ≤ left_at m.account (freed_postings old store.now.postings store.now.groups) (freed_groups old store.now.groups))) }
+    ensures fits { IfOk result (λ o. IfSome o (λ m. m.seconds ≤ left_after store.now old m.account)) }
     ensures given { OnOk result (0 < ipp → refusal_at (freed_books store.now old) record { key = ipp_key proposal.now; seconds = ipp } ≡ None) }
-    ensures refused { IfErr result (λ fault. fault ≢ NoMemory → (0 < ipp) × (refusal_at (freed_books store.now old) record { key = ipp_key proposal.now; seconds = ipp } ≡ Some fault)) }
+    ensures refused { IfErr result (λ fault. fault ≢ NoMemory → (0 < ipp)
+        × (refusal_at (freed_books store.now old) record { key = ipp_key proposal.now; seconds = ipp } ≡ Some fault)) }
 {
     if ipp == 0 {
         return Ok(None);
     }
     let key = Key::ipp(alloc, proposal)?;
-    let amount = place_need(store, old, &key, ipp)?;
+    let amount = amount_for(store, old, &key, ipp)?;
     Ok(Some(amount))
 }
 
 /// The amounts for holds of one proposal and its ipp charge, tested against what is left once the group at `old` is
 /// freed.
-pub fn place(
+pub fn booking_for(
     alloc: Global,
     store: &Store,
     old: Option<usize>,
     holds: &[Hold],
     ipp: u64,
-) -> Result<Placed, LedgerFault>
+) -> Result<Booking, LedgerFault>
     requires some { 0 < length holds.now }
     requires old { IfSome old (λ j. j < length store.now.groups) }
     requires granted { IsGranted store.now }
     requires bound { total_seconds (freed_books store.now old) ≤ MOST_SECONDS }
-    ensures placed { IfOk result (IsPlacedFor store.now old holds.now ipp) }
+    ensures booking { IfOk result (IsBookingFor store.now old holds.now ipp) }
     ensures given { OnOk result (refusal_of (freed_books store.now old) holds.now ipp ≡ None) }
     ensures refused { IfErr result (λ fault. fault ≢ NoMemory → refusal_of (freed_books store.now old) holds.now ipp ≡ Some fault) }
 {
@@ -130,7 +131,7 @@ pub fn place(
     if !store.knows(proposal) {
         return Err(LedgerFault::NoSuchProposal);
     }
-    let holds = place_holds(alloc, store, old, holds)?;
-    let ipp = place_ipp(alloc, store, old, proposal, ipp)?;
-    Ok(Placed { holds, ipp })
+    let holds = amounts_for(alloc, store, old, holds)?;
+    let ipp = ipp_amount_for(alloc, store, old, proposal, ipp)?;
+    Ok(Booking { holds, ipp })
 }

@@ -1,9 +1,7 @@
-use Rattle.std.proofs.Common.{◌≡◌, ap, ◌∙◌, sym, refl, List}
-use Rattle.allocations.specs.declared.key.Key.{Key}
-use Rattle.allocations.specs.declared.posting.Posting.{Posting}
+use Rattle.std.proofs.Common.{◌≡◌, ap, refl}
 use Rattle.allocations.specs.Store.{StoreSeen}
 use Rattle.allocations.proofs.Booked.{laid_charged}
-use Rattle.allocations.proofs.booking.book.Goals as goal
+use Rattle.allocations.proofs.booking.book_group.Goals as goal
 
 pub returns-in-Some : goal.returns-in-Some
 returns-in-Some c =
@@ -11,5 +9,5 @@ returns-in-Some c =
     let keys : c.open_group-index.new.store.keys ≡ c.args.store.now.keys = ap (λ (s : StoreSeen). s.keys) opened.rest in
     let listed : c.open_group-index.new.store.listed ≡ c.args.store.now.listed = ap (λ (s : StoreSeen). s.listed) opened.rest in
     let postings : c.open_group-index.new.store.postings ≡ c.args.store.now.postings = ap (λ (s : StoreSeen). s.postings) opened.rest in
-    let groups = laid_charged c.args.store.now.groups c.open_group-index.new.store.groups c.args.group c.open_group-index.result c.args.placed.holds c.in-Some.amount opened.within opened.state opened.puts in
-    rw (c.post.ensures.posted, c.set_ipp.ensures.changed, c.lay.ensures, c.in-Some.is, groups, keys, listed, postings) refl
+    let groups = laid_charged c.args.store.now.groups c.open_group-index.new.store.groups c.args.group c.open_group-index.result c.args.booking.holds c.in-Some.amount opened.within opened.state opened.puts in
+    rw (c.post.ensures.posted, c.set_ipp.ensures.changed, c.book.ensures, c.in-Some.is, groups, keys, listed, postings) refl

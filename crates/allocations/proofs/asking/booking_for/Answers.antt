@@ -1,4 +1,4 @@
-use Rattle.std.proofs.Common.{◌≡◌, ◌∙◌, sym, ap, subst, ◌+◌, ◌<◌, ◌≤◌, ℕ, List, Bool, true, false, refl, length, get_or, arith, Some, None, Option, ⊎_elim}
+use Rattle.std.proofs.Common.{◌≡◌, ◌∙◌, sym, subst, ◌<◌, ◌≤◌, ℕ, List, true, get_or, Some, None, ⊎_elim}
 use Rattle.std.specs.Prelude.{Any}
 use Rattle.std.proofs.lemmas.Bool.{cases_lt, false≢true}
 use Rattle.std.proofs.lemmas.Result.{err_from_is_err_and}
@@ -7,7 +7,7 @@ use Rattle.allocations.specs.Refusals.{proposal_of, knows_proposal, refusal_at, 
 use Rattle.allocations.specs.Store.{freed_books}
 use Rattle.allocations.proofs.Freed.{knows_true, knows_false}
 use Rattle.allocations.proofs.Refused.{proposal_first, unknown_proposal, refused_hold, asked_ipp, asked_none}
-use Rattle.allocations.proofs.placing.place.Goals as goal
+use Rattle.allocations.proofs.asking.booking_for.Goals as goal
 
 pub returns-then-not-knows-clause-refused : goal.returns-then-not-knows-clause-refused
 returns-then-not-knows-clause-refused c =

@@ -1,13 +1,12 @@
-use Rattle.std.proofs.Common.{◌≡◌, ◌∙◌, sym, ap, ◌+◌, ◌<◌, ◌≤◌, ℕ, Bool, true, false, refl, length, arith, leb, Some, None, Option}
-use Rattle.std.specs.Prelude.{nat_le, if◌then◌else◌}
+use Rattle.std.proofs.Common.{◌≡◌, ◌∙◌, sym, ap, ℕ, Bool, refl, arith, Some, None}
+use Rattle.std.specs.Prelude.{if◌then◌else◌}
 use Rattle.std.proofs.lemmas.Bool.{le-leb, lt-leb}
 use Rattle.std.proofs.lemmas.Option.{slice_get_within, get_or_from_slice_get}
-use Rattle.allocations.specs.declared.fault.LedgerFault.{LedgerFault}
 use Rattle.allocations.specs.declared.fault.LedgerFault.TheVariants.{NotEnoughTime}
 use Rattle.allocations.specs.Raw.{no_key}
 use Rattle.allocations.specs.Store.{freed_postings, freed_groups, left_at}
 use Rattle.allocations.proofs.Freed.{refusal_unknown, refusal_known, given-bounded}
-use Rattle.allocations.proofs.placing.place_need.Goals as goal
+use Rattle.allocations.proofs.asking.amount_for.Goals as goal
 
 pub returns-in-Err-clause-refused : goal.returns-in-Err-clause-refused
 returns-in-Err-clause-refused c = refusal_unknown c.args.store.now c.args.old c.args.key.now c.args.needed c.find.ensures.sound c.requires.old c.in-Err.ensures.absent
