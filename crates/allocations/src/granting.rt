@@ -16,13 +16,12 @@ use crate::key::Key;
 use crate::posting::Posting;
 use crate::store::Store;
 use plan_base::{GroupNo, RequestNo};
-use std::alloc::Global;
 
 /// The most accounts that a ledger has.
 pub const MOST_ACCOUNTS: usize = 1_024;
 
 /// The place of an account, which is added where it isn't there.
-fn account_for(store: &mut Store, alloc: Global, key: &Key) -> Result<usize, LedgerFault>
+fn account_for(store: &mut Store, key: &Key) -> Result<usize, LedgerFault>
     requires granted { IsGranted store.old }
     ensures place { IfOk result (λ place. slice_get store.new.keys place ≡ Some key.now) }
     ensures listed { OnOk result (store.new.listed ≡ insert_key key_cmp store.old.listed key.now) }
@@ -44,13 +43,13 @@ fn account_for(store: &mut Store, alloc: Global, key: &Key) -> Result<usize, Led
                     what: FullOf::Accounts,
                 });
             }
-            Ok(store.add_account(alloc, index, key)?)
+            Ok(store.add_account(index, key)?)
         }
     }
 }
 
 /// Grants seconds to an account, and answers its balance. An error changes nothing of the books.
-pub fn grant(store: &mut Store, alloc: Global, key: &Key, seconds: u64) -> Result<u64, LedgerFault>
+pub fn grant(store: &mut Store, key: &Key, seconds: u64) -> Result<u64, LedgerFault>
     requires granted { IsGranted store.old }
     requires listed { store.old.listed ≡ accounts_of (store_books store.old).entries }
     requires bound { total_seconds (store_books store.old) + seconds ≤ MOST_SECONDS }
@@ -65,7 +64,7 @@ pub fn grant(store: &mut Store, alloc: Global, key: &Key, seconds: u64) -> Resul
     ensures unchanged { OnErr result (store.new ≡ record store.old { spare = store.new.spare }) }
 {
     store.reserve(1)?;
-    let account = account_for(store, alloc, key)?;
+    let account = account_for(store, key)?;
     store.post(Posting {
         account,
         kind: EntryKind::Grant,

@@ -23,7 +23,7 @@ pub enum Account {
 
 /// The name of an account. Keys are in the order of their proposals' bytes, then of the accounts, then of the
 /// instrument types' bytes.
-#[derive(Debug, Drop, PartialEq, Eq, PartialOrd, Ord)]
+#[derive(Clone, Debug, Drop, PartialEq, Eq, PartialOrd, Ord)]
 pub struct Key {
     pub proposal: Name,
     pub account: Account,
@@ -32,17 +32,6 @@ pub struct Key {
 }
 
 impl Key {
-    /// The same key once more. Fails only for want of memory.
-    pub fn copy(&self, alloc: Global) -> Result<Key, AllocError>
-        ensures { IfOk result (λ copy. copy ≡ self.now) }
-    {
-        Ok(Key {
-            proposal: self.proposal.copy(alloc)?,
-            account: self.account,
-            instrument: self.instrument.copy(alloc)?,
-        })
-    }
-
     /// The key of a proposal's ipp account. Fails only for want of memory.
     pub fn ipp(alloc: Global, proposal: &Name) -> Result<Key, AllocError>
         ensures { IfOk result (λ key. key ≡ ipp_key proposal.now) }
@@ -51,7 +40,7 @@ impl Key {
             unreachable!();
         };
         Ok(Key {
-            proposal: proposal.copy(alloc)?,
+            proposal: proposal.clone()?,
             account: Account::Ipp,
             instrument,
         })

@@ -67,7 +67,7 @@ impl Ledger {
         ensures full { IfErr result (λ fault. fault ≢ NoMemory → (fault ≡ Full MOST_ACCOUNTS Accounts) × IsFull MOST_ACCOUNTS self.old.books.entries key.now) }
         ensures unchanged { OnErr result (self.new.books ≡ self.old.books) }
     {
-        grant(&mut self.store, self.alloc, key, seconds)
+        grant(&mut self.store, key, seconds)
     }
 
     /// An account's grants less its charges plus its refunds, none where it has no grant.

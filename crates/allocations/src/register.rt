@@ -110,17 +110,17 @@ impl Register {
     }
 
     /// Adds an account where it stands in the order of keys. Fails only for want of memory, and then changes nothing.
-    pub fn add(&mut self, alloc: Global, index: usize, key: &Key) -> Result<(), AllocError>
+    pub fn add(&mut self, index: usize, key: &Key) -> Result<(), AllocError>
         requires { IsGap key_cmp self.old.listed key.now index }
         ensures keys { OnOk result (self.new.keys ≡ self.old.keys ++ key.now ∷ []) }
         ensures listed { OnOk result (self.new.listed ≡ insert_key key_cmp self.old.listed key.now) }
         ensures err { OnErr result (self.new ≡ self.old) }
     {
         let listed = Listed {
-            key: key.copy(alloc)?,
+            key: key.clone()?,
             place: self.keys.len(),
         };
-        let key = key.copy(alloc)?;
+        let key = key.clone()?;
         self.keys.reserve(1)?;
         self.order.insert(index, listed)?;
         self.keys.push(key).map_err(AllocError::from)

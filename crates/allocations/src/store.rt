@@ -119,12 +119,7 @@ impl Store {
 
     /// Adds an account where it stands in the order of keys, and gives its place. Fails only for want of memory, and then
     /// changes nothing.
-    pub fn add_account(
-        &mut self,
-        alloc: Global,
-        index: usize,
-        key: &Key,
-    ) -> Result<usize, AllocError>
+    pub fn add_account(&mut self, index: usize, key: &Key) -> Result<usize, AllocError>
         requires gap { IsGap key_cmp self.old.listed key.now index }
         requires absent { ¬ (Contains self.old.keys key.now) }
         ensures ok { OnOk result (self.new ≡ record self.old { keys = self.old.keys ++ key.now ∷ []; listed = insert_key key_cmp self.old.listed key.now }) }
@@ -133,7 +128,7 @@ impl Store {
     {
         let place = self.sums.len();
         self.sums.reserve(1)?;
-        self.register.add(alloc, index, key)?;
+        self.register.add(index, key)?;
         let sums = Sums {
             balance: 0,
             held: 0,

@@ -38,7 +38,7 @@ fn part(rt: &impl Abort, alloc: Global, key: &Key, seconds: u64) -> Result<Hold,
     assert!(rt; !matches!(key.account, Account::Ipp));
     assert!(rt; seconds <= MOST_ASKED);
     Ok(Hold {
-        key: key.copy(alloc)?,
+        key: key.clone()?,
         seconds,
     })
 }
