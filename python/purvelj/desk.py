@@ -1,0 +1,249 @@
+"""A desk: a session program that is sent lines and replies to them."""
+
+from __future__ import annotations
+
+import os
+import shlex
+import shutil
+from pathlib import Path
+from types import TracebackType
+from typing import Iterable, Mapping, Sequence, TypeVar
+
+from purvelj import lines
+from purvelj.documents import compact, write_text
+from purvelj.history import Exchange, History
+from purvelj.lines import Line, Pairs
+from purvelj.model import Claim
+from purvelj.moments import Moment
+from purvelj.pipes import DeskError, LineProgram
+from purvelj.replies import (
+    Amended,
+    Balance,
+    Balances,
+    Clocked,
+    Completed,
+    Done,
+    Exported,
+    Failed,
+    Granted,
+    Published,
+    Refused,
+    Reply,
+    Shown,
+    Submitted,
+    TelescopeAdded,
+    Withdrawn,
+    read_reply,
+)
+
+R = TypeVar("R", bound=Reply)
+
+
+class Refusal(DeskError):
+    """The desk refused a line and is as before.
+
+    ``number`` and ``name`` are those of the formats, such as 19 and ``NotEnoughTime``; ``members`` has
+    the refusal's other members, and ``line`` and ``version`` are those of the reply.
+    """
+
+    def __init__(self, reply: Refused) -> None:
+        more = f" {compact(reply.members)}" if reply.members else ""
+        super().__init__(f"line {reply.line} is refused: {reply.number} {reply.name}{more}")
+        self.number = reply.number
+        self.name = reply.name
+        self.members = reply.members
+        self.line = reply.line
+        self.version = reply.version
+
+
+def default_program() -> list[str]:
+    """The command of the session program.
+
+    It is that of the environment variable ``PURVELJ_PROGRAM``, or ``bin/netsched session`` of the
+    repository that this package stands in, or ``netsched session`` of the search path.
+    """
+    chosen = os.environ.get("PURVELJ_PROGRAM")
+    if chosen:
+        return shlex.split(chosen)
+    own = Path(__file__).resolve().parents[2] / "bin" / "netsched"
+    found = str(own) if own.exists() else shutil.which("netsched")
+    if found is None:
+        raise DeskError("netsched isn't there: name a session program, or set PURVELJ_PROGRAM")
+    return [found, "session"]
+
+
+class Desk:
+    """A session with a scheduler, a line and its replies at a time.
+
+    Use it in a ``with`` statement, which ends the program. Each command is a method that gives the
+    typed reply, or raises ``Refusal``; ``DeskEnded`` where the program ended, ``NoReply`` where it
+    took longer than ``timeout`` seconds. A desk is for one thread.
+
+    All that was sent is kept in ``history``; ``save`` writes it as a script, and ``replay`` sends one.
+    """
+
+    def __init__(self, program: Sequence[str] | None = None, timeout: float | None = None) -> None:
+        self._exchanges: list[Exchange] = []
+        self._program = LineProgram(default_program() if program is None else program, timeout)
+
+    def __enter__(self) -> Desk:
+        return self
+
+    def __exit__(
+        self,
+        kind: type[BaseException] | None,
+        fault: BaseException | None,
+        trace: TracebackType | None,
+    ) -> None:
+        self.close()
+
+    def close(self) -> int:
+        """Ends the session and gives the program's exit status; a program that goes on is ended."""
+        return self._program.close()
+
+    @property
+    def history(self) -> History:
+        """Every line that was sent so far, with its replies."""
+        return History(tuple(self._exchanges))
+
+    def save(self, path: str | Path) -> None:
+        """Writes every line that was sent so far to a file, as a script."""
+        write_text(path, self.history.script())
+
+    def send(self, line: Mapping[str, object] | str) -> tuple[Reply, ...]:
+        """Sends any line and gives its replies, refusals among them."""
+        text = line if isinstance(line, str) else compact(line)
+        if "\n" in text:
+            raise ValueError("a line has no newline in it")
+        place = len(self._exchanges) + 1
+        self._program.write(text.encode("utf-8", "surrogatepass"))
+        texts: list[str] = []
+        replies: list[Reply] = []
+        while not replies or (len(replies) == 1 and _is_taken(replies[0])):
+            texts.append(self._program.read().decode("utf-8", "surrogatepass"))
+            replies.append(read_reply(texts[-1], f"reply to line {place}"))
+        self._exchanges.append(Exchange(text, tuple(texts), tuple(replies)))
+        return tuple(replies)
+
+    def ask(self, line: Mapping[str, object] | str) -> Reply:
+        """Sends any line and gives its last reply; ``Refusal`` where that is one."""
+        reply = self.send(line)[-1]
+        if isinstance(reply, Refused):
+            raise Refusal(reply)
+        return reply
+
+    def replay(self, script: Iterable[str]) -> list[tuple[Reply, ...]]:
+        """Sends the lines of a script one after another and gives the replies to each, refusals among them."""
+        return [self.send(line.rstrip("\n")) for line in script]
+
+    def open(
+        self,
+        now: Moment,
+        slice_seconds: int,
+        horizon: int,
+        semester: tuple[Moment, Moment],
+        lanes: int = 4,
+        rounds: int = 32,
+        workers: int = 1,
+        quota: int | None = None,
+    ) -> Done:
+        """Opens the desk; see ``lines.open_line``."""
+        line = lines.open_line(now, slice_seconds, horizon, semester, lanes, rounds, workers, quota)
+        return self._ask(line, Done)
+
+    def instrument(
+        self, name: str, front_ms: int = 0, config_ms: int = 0, readout_ms: int = 0, change_ms: int = 0
+    ) -> Done:
+        """Registers an instrument type with its overheads in milliseconds."""
+        return self._ask(lines.instrument_line(name, front_ms, config_ms, readout_ms, change_ms), Done)
+
+    def telescope(
+        self, site: str, enclosure: str, telescope: str, telescope_class: str, instruments: Sequence[str]
+    ) -> int:
+        """Registers a telescope and gives its number."""
+        line = lines.telescope_line(site, enclosure, telescope, telescope_class, instruments)
+        return self._ask(line, TelescopeAdded).telescope
+
+    def night(self, site: str, spans: Pairs) -> Done:
+        """Sets the night of a site."""
+        return self._ask(lines.night_line(site, spans), Done)
+
+    def visibility(self, target: str, site: str, spans: Pairs) -> Done:
+        """Sets the seconds in which a target can be observed from a site."""
+        return self._ask(lines.visibility_line(target, site, spans), Done)
+
+    def close_telescope(self, site: str, enclosure: str, telescope: str, spans: Pairs) -> Done:
+        """Closes a telescope for these seconds. Published placements stay as they are."""
+        return self._ask(lines.close_line(site, spans, enclosure, telescope), Done)
+
+    def close_site(self, site: str, spans: Pairs) -> Done:
+        """Closes all telescopes that a site has so far for these seconds."""
+        return self._ask(lines.close_line(site, spans), Done)
+
+    def reopen_telescope(self, site: str, enclosure: str, telescope: str, spans: Pairs) -> Done:
+        """Takes these seconds out of a telescope's closures."""
+        return self._ask(lines.reopen_line(site, spans, enclosure, telescope), Done)
+
+    def reopen_site(self, site: str, spans: Pairs) -> Done:
+        """Takes these seconds out of the closures of a site's telescopes."""
+        return self._ask(lines.reopen_line(site, spans), Done)
+
+    def grant(self, proposal: str, account: str, seconds: int, instrument_type: str | None = None) -> int:
+        """Grants seconds to an account of a proposal and gives the account's balance."""
+        return self._ask(lines.grant_line(proposal, account, seconds, instrument_type), Granted).balance
+
+    def submit(self, group: Mapping[str, object]) -> Submitted:
+        """Submits a request group document."""
+        return self._ask(lines.submit_line(group), Submitted)
+
+    def amend(self, group_number: int, group: Mapping[str, object]) -> Amended:
+        """Withdraws a group and submits another in its place."""
+        return self._ask(lines.amend_line(group_number, group), Amended)
+
+    def withdraw(self, group_number: int) -> Withdrawn:
+        """Withdraws a group."""
+        return self._ask(lines.withdraw_line(group_number), Withdrawn)
+
+    def clock(self, at: Moment) -> Clocked:
+        """Sets the desk's moment; placements that began before it are running or have failed then."""
+        return self._ask(lines.clock_line(at), Clocked)
+
+    def report(self, request: int, percent: int, used: int) -> Completed | Failed:
+        """Reports the end of a running request: the percent done, and the seconds used."""
+        reply = self.ask(lines.report_line(request, percent, used))
+        if isinstance(reply, (Completed, Failed)):
+            return reply
+        raise self._odd(reply)
+
+    def plan(self) -> Published:
+        """Asks for a plan and gives its publication."""
+        return self._ask(lines.plan_line(), Published)
+
+    def publish(self, version: int, claim: Claim) -> Published:
+        """Publishes a claim that was made elsewhere, for the desk at this version."""
+        return self._ask(lines.publish_line(version, claim), Published)
+
+    def export(self) -> Exported:
+        """The last publication's claim, and the snapshot that it is for."""
+        return self._ask(lines.export_line(), Exported)
+
+    def balances(self) -> tuple[Balance, ...]:
+        """The balances of all accounts."""
+        return self._ask(lines.balances_line(), Balances).balances
+
+    def show(self, group_number: int) -> Shown:
+        """A group: its document, its state and its requests' states."""
+        return self._ask(lines.show_line(group_number), Shown)
+
+    def _ask(self, line: Line, kind: type[R]) -> R:
+        reply = self.ask(line)
+        if isinstance(reply, kind):
+            return reply
+        raise self._odd(reply)
+
+    def _odd(self, reply: Reply) -> DeskError:
+        return DeskError(f"line {reply.line}: a reply of another kind than the line's came back: {reply}")
+
+
+def _is_taken(reply: Reply) -> bool:
+    return isinstance(reply, Done) and reply.ok == "taken"

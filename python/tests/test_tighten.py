@@ -1,0 +1,133 @@
+"""Tightened claims, beside all plans of small snapshots and on a small network."""
+
+from __future__ import annotations
+
+from dataclasses import replace
+from random import Random
+
+import numpy as np
+import pytest
+
+from all_plans import best_value
+from drawn import drawn_network, drawn_snapshot
+from purvelj.bound import bound
+from purvelj.checker import check, is_feasible, value_of
+from purvelj.model import Claim, Snapshot
+from purvelj.plans import PlanBuilder
+from purvelj.starts import Starts, runs_of
+from purvelj.tighten import NotCertified, tighten
+from purvelj.tighten.programs import NoSolution
+from purvelj.tighten.search import Search
+from snapshots import AND_IN_ONE_SLICE, FADING, ONE, ONE_CLAIM, ONEOF_ON_TWO, TWO, WITH_QUOTA, single, snapshot
+
+
+def greedy_claim(shot: Snapshot) -> Claim:
+    """The greedy plan, with prices equal to the values."""
+    starts = Starts.of(shot)
+    plan = PlanBuilder(starts)
+    plan.fill()
+    prices = tuple(request.value for request in shot.requests)
+    return Claim(plan.placements(), prices, plan.value, bound(starts, np.array(prices), ()))
+
+
+def grown(shot: Snapshot, factor: int) -> Snapshot:
+    """The snapshot with every value so many times as great."""
+    groups = (
+        replace(
+            group, requests=tuple(replace(request, value=factor * request.value) for request in group.requests)
+        )
+        for group in shot.groups
+    )
+    return replace(shot, groups=tuple(groups))
+
+
+@pytest.mark.parametrize(
+    "shot, value, wanted",
+    [
+        (ONE, 50_000, 50_000),
+        (TWO, 100_000, 100_000),
+        (AND_IN_ONE_SLICE, 0, 50_000),
+        (ONEOF_ON_TWO, 50_000, 50_000),
+        (FADING, 35_000, 35_000),
+        (snapshot(single(1, (0, 300), (300, 600), seconds=600)), 0, 0),
+        (snapshot(*(single(n, seconds=301, value=60_000) for n in (1, 2)), slices=3), 60_000, 60_000),
+    ],
+)
+def test_worked_snapshots(shot: Snapshot, value: int, wanted: int) -> None:
+    found = tighten(shot, greedy_claim(shot)).claim
+    assert (found.value, found.bound) == (value, wanted)
+
+
+def test_a_quota_has_a_whole_price() -> None:
+    found = tighten(WITH_QUOTA, greedy_claim(WITH_QUOTA)).claim
+    assert (found.value, found.quota_prices, found.bound) == (50_000, (167,), 50_100)
+
+
+@pytest.mark.parametrize("quotas", [False, True])
+def test_plans_are_the_best_of_all(quotas: bool) -> None:
+    draw = Random(11)
+    closed = tried = 0
+    while tried < 60:
+        shot = grown(drawn_snapshot(draw, slices=5, quotas=quotas), 1000)
+        if len(Starts.of(shot)) > 50:
+            continue
+        tried += 1
+        before = greedy_claim(shot)
+        found = tighten(shot, before).claim
+        assert check(shot, found).yes
+        assert found.value == best_value(shot)
+        assert found.value <= found.bound <= before.bound
+        closed += found.gap == 0
+    assert closed >= (45 if quotas else 55)
+
+
+def test_a_network_is_tightened_over_some_of_its_starts(monkeypatch: pytest.MonkeyPatch) -> None:
+    monkeypatch.setattr("purvelj.tighten.search.MOST_AT_ONCE", 0)
+    monkeypatch.setattr("purvelj.tighten.planning.MOST_AT_ONCE", 0)
+    shot = drawn_network(Random(1))
+    before = greedy_claim(shot)
+    found = tighten(shot, before, seconds=12.0)
+    assert found.in_time
+    assert found.claim.gap_percent < 1 < before.gap_percent
+
+
+def test_a_filled_plan_has_room_for_nothing() -> None:
+    draw = Random(2)
+    for _ in range(60):
+        shot = drawn_snapshot(draw, quotas=True)
+        starts = Starts.of(shot)
+        plan = PlanBuilder(starts)
+        plan.fill()
+        placements = plan.placements()
+        assert is_feasible(shot, placements)
+        assert plan.value == value_of(shot, placements)
+        for place in range(len(starts)):
+            if not plan.is_placed(int(starts.request[place])):
+                assert _is_and(shot, int(starts.request[place])) or not is_feasible(
+                    shot, (*placements, starts.placement(place))
+                )
+
+
+def _is_and(shot: Snapshot, request: int) -> bool:
+    return shot.groups[shot.group_places[request]].operator.value == "AND"
+
+
+def test_a_wrong_claim_is_refused() -> None:
+    with pytest.raises(NotCertified, match="BoundDiffers"):
+        tighten(ONE, replace(ONE_CLAIM, bound=50_001))
+
+
+def test_no_time_leaves_the_claim_as_it_was() -> None:
+    shot = drawn_network(Random(1))
+    before = greedy_claim(shot)
+    found = tighten(shot, before, seconds=0.2)
+    assert not found.in_time
+    assert found.claim.bound <= before.bound and found.claim.value >= before.value
+    assert check(shot, found.claim).yes
+
+
+def test_a_search_without_time_raises() -> None:
+    shot = drawn_network(Random(1))
+    search = Search(Starts.of(shot), greedy_claim(shot), lambda bound, used: None)
+    with pytest.raises(NoSolution, match="time was over"):
+        search.run(runs_of(shot), lambda: 0.0)
