@@ -77,7 +77,8 @@ class Desk:
 
     Use it in a ``with`` statement, which ends the program. Each command is a method that gives the
     typed reply, or raises ``Refusal``; ``DeskEnded`` where the program ended, ``NoReply`` where it
-    took longer than ``timeout`` seconds. A desk is for one thread.
+    took longer than ``timeout`` seconds, after which the desk is of no more use. A desk is for one
+    thread.
 
     All that was sent is kept in ``history``; ``save`` writes it as a script, and ``replay`` sends one.
     """
@@ -122,6 +123,8 @@ class Desk:
         while not replies or (len(replies) == 1 and _is_taken(replies[0])):
             texts.append(self._program.read().decode("utf-8", "surrogatepass"))
             replies.append(read_reply(texts[-1], f"reply to line {place}"))
+            if replies[-1].line != place:
+                raise DeskError(f"a reply to line {replies[-1].line} came back to line {place}")
         self._exchanges.append(Exchange(text, tuple(texts), tuple(replies)))
         return tuple(replies)
 

@@ -65,6 +65,7 @@ class LineProgram:
 
     def write(self, line: bytes) -> None:
         """Writes a line, to which the newline is added here."""
+        self._test_open()
         left = memoryview(line + b"\n")
         deadline = self._deadline()
         while left:
@@ -78,6 +79,7 @@ class LineProgram:
 
     def read(self) -> bytes:
         """Reads a line, without its newline."""
+        self._test_open()
         deadline = self._deadline()
         while b"\n" not in self._left:
             self._wait(self._output, select.POLLIN, deadline)
@@ -95,6 +97,10 @@ class LineProgram:
         """
         self._finalizer()
         return self._process.returncode
+
+    def _test_open(self) -> None:
+        if not self._finalizer.alive:
+            raise self._ended()
 
     def _deadline(self) -> float | None:
         return None if self._timeout is None else time.monotonic() + self._timeout

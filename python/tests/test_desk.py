@@ -1,0 +1,276 @@
+"""The desk over pipes, against the stand-in and against programs that misbehave."""
+
+from __future__ import annotations
+
+import json
+import os
+import signal
+import sys
+import time
+from pathlib import Path
+
+import pytest
+
+from purvelj.desk import Desk, Refusal, default_program
+from purvelj.documents import compact
+from purvelj.errors import DocumentError, FileError
+from purvelj.history import read_history
+from purvelj.lines import submit_line
+from purvelj.model import Placement
+from purvelj.pipes import DeskEnded, DeskError, NoReply
+from purvelj.replies import Balance, Completed, Failed, Refused, Submitted
+from script import LINES, REPLIES, SNAPSHOT
+
+STANDIN = [sys.executable, str(Path(__file__).parent / "standin")]
+GROUP = json.loads(LINES[6])["group"]
+
+
+def group(**members) -> dict:
+    """The script's group with other members."""
+    return {**GROUP, **members}
+
+
+@pytest.fixture
+def desk():
+    with Desk(STANDIN, timeout=20) as opened:
+        yield opened
+
+
+@pytest.fixture
+def ready(desk: Desk) -> Desk:
+    """A desk that did all lines of the script but the plan."""
+    desk.replay(LINES[:7])
+    return desk
+
+
+def program(text: str) -> list[str]:
+    """A session program that is a few lines of Python."""
+    return [sys.executable, "-c", text]
+
+
+def test_the_script_is_replied_to_as_it_was_worked_out(desk: Desk) -> None:
+    desk.replay(LINES)
+    assert desk.history.output().splitlines() == REPLIES
+    assert desk.history.script().splitlines() == LINES
+
+
+def test_commands_send_the_lines_of_the_script(desk: Desk) -> None:
+    desk.open(0, 300, 12, (0, "1970-06-30"), lanes=1, rounds=8)
+    desk.instrument("1M0-SCICAM-SINISTRO")
+    assert desk.telescope("coj", "doma", "1m0a", "1m0", ["1M0-SCICAM-SINISTRO"]) == 0
+    desk.night("coj", [(0, 3600)])
+    desk.visibility("M51", "coj", [(0, 3600)])
+    assert desk.grant("P1", "standard", 1000, "1M0-SCICAM-SINISTRO") == 1000
+    submitted = desk.submit(GROUP)
+    assert submitted == Submitted(caller=0, line=7, version=6, group=1, requests=(1,), ipp_charged=0)
+    published = desk.plan()
+    assert (published.claim.value, published.claim.bound) == (50_000, 50_000)
+    assert published.claim.placements == (Placement(1, 0, 0),)
+    exported = desk.export()
+    assert exported.version == 8 and compact(exported.snapshot.document()) == SNAPSHOT
+    sent = [json.loads(line) for line in desk.history.script().splitlines()]
+    assert sent == [json.loads(line) for line in LINES]
+
+
+def test_a_refusal_has_its_number_name_and_members(ready: Desk) -> None:
+    configurations = GROUP["requests"][0]["configurations"]
+    longer = [{**configurations[0], "instrument_configs": [{"exposure_time_ms": 500_000, "exposure_count": 2}]}]
+    with pytest.raises(Refusal) as caught:
+        ready.submit(group(requests=[{**GROUP["requests"][0], "configurations": longer}]))
+    fault = caught.value
+    assert (fault.number, fault.name) == (19, "NotEnoughTime")
+    assert fault.members == {"available": 700, "needed": 1000}
+    assert (fault.line, fault.version) == (8, 7)
+    assert str(fault) == 'line 8 is refused: 19 NotEnoughTime {"available":700,"needed":1000}'
+
+
+def test_a_desk_goes_on_after_a_refusal(desk: Desk) -> None:
+    with pytest.raises(Refusal, match="20 NotOpened"):
+        desk.plan()
+    desk.open(0, 300, 12, (0, 15_552_000))
+    with pytest.raises(Refusal, match="21 AlreadyOpened"):
+        desk.open(0, 300, 12, (0, 15_552_000))
+    assert desk.plan().claim.placements == ()
+
+
+def test_a_night_of_running_and_reporting(ready: Desk) -> None:
+    ready.plan()
+    clocked = ready.clock(1)
+    assert (clocked.started, clocked.failed, clocked.expired, clocked.refunded) == ((1,), (), (), ())
+    completed = ready.report(1, 95, 280)
+    assert isinstance(completed, Completed) and completed.charged == 280
+    with pytest.raises(Refusal, match="28 NotRunning"):
+        ready.report(1, 95, 280)
+    assert ready.balances() == (Balance("P1", "standard", "1M0-SCICAM-SINISTRO", 720, 720),)
+    shown = ready.show(1)
+    assert (shown.state, shown.requests) == ("COMPLETED", ((1, "COMPLETED"),))
+    assert shown.document["proposal"] == "P1"
+    with pytest.raises(Refusal) as caught:
+        ready.clock(0)
+    assert caught.value.members == {"asked": 0, "now": 1}
+
+
+def test_a_failed_request_is_planned_again(ready: Desk) -> None:
+    ready.plan()
+    ready.clock(1)
+    assert isinstance(ready.report(1, 89, 300), Failed)
+    assert ready.plan().claim.placements == (Placement(1, 0, 1),)
+
+
+def test_groups_are_amended_and_withdrawn(ready: Desk) -> None:
+    amended = ready.amend(1, group(priority=20))
+    assert (amended.group, amended.replaces, amended.requests) == (2, 1, (2,))
+    assert ready.plan().claim.value == 100_000
+    ready.withdraw(2)
+    with pytest.raises(Refusal, match='25 GroupClosed {"state":"CANCELED"}'):
+        ready.withdraw(2)
+
+
+def test_closures_move_placements(ready: Desk) -> None:
+    ready.close_telescope("coj", "doma", "1m0a", [(0, 900)])
+    assert ready.plan().claim.placements == (Placement(1, 0, 3),)
+    ready.reopen_telescope("coj", "doma", "1m0a", [(300, 900)])
+    assert ready.plan().claim.placements == (Placement(1, 0, 1),)
+    ready.close_site("coj", [(0, 1800)])
+    ready.reopen_site("coj", [(0, 300)])
+    assert ready.plan().claim.placements == (Placement(1, 0, 0),)
+
+
+def test_a_claim_is_published_for_the_version_of_the_desk(ready: Desk) -> None:
+    ready.plan()
+    exported = ready.export()
+    published = ready.publish(exported.version, exported.claim)
+    assert published.claim == exported.claim
+    with pytest.raises(Refusal) as caught:
+        ready.publish(exported.version, exported.claim)
+    assert (caught.value.name, caught.value.members) == ("Stale", {"asked": 8, "newer": 9})
+
+
+def test_a_saved_script_is_replayed_to_the_same_output(ready: Desk, tmp_path: Path) -> None:
+    ready.plan()
+    ready.send("[]")
+    ready.balances()
+    ready.save(tmp_path / "script.jsonl")
+    with Desk(STANDIN, timeout=20) as again, open(tmp_path / "script.jsonl", encoding="utf-8") as script:
+        replies = again.replay(script)
+        assert again.history.output() == ready.history.output()
+    assert isinstance(replies[8][0], Refused) and replies[8][0].name == "NotObject"
+    assert [len(each) for each in replies] == [1, 1, 1, 1, 1, 1, 1, 2, 1, 1]
+
+
+def test_a_history_is_read_from_output_and_script(ready: Desk) -> None:
+    ready.plan()
+    history = ready.history
+    assert read_history(history.output(), history.script()).exchanges == list(history.exchanges)
+    alone = read_history(history.output())
+    assert [each.replies for each in alone.exchanges] == [each.replies for each in history.exchanges]
+    with pytest.raises(DocumentError, match="replies to line 8, and the script has 7 lines"):
+        read_history(history.output(), "\n".join(LINES[:7]))
+    with pytest.raises(FileError, match="output, line 1: not JSON: it ends in the middle"):
+        read_history(history.output()[:20])
+
+
+def test_a_line_of_any_text_is_one_line(desk: Desk) -> None:
+    desk.open(0, 300, 12, (0, 15_552_000))
+    desk.send(submit_line(group(name="a\nb\u2028\u0085 \U0001f52d")))
+    assert len(desk.history.exchanges) == 2
+    with pytest.raises(ValueError, match="no newline"):
+        desk.send('{"do":\n"plan"}')
+
+
+def alive(process: int) -> bool:
+    try:
+        os.kill(process, 0)
+    except ProcessLookupError:
+        return False
+    return True
+
+
+def test_a_program_that_ends_is_told_with_its_status() -> None:
+    with Desk(program("import sys; sys.stdin.readline(); sys.exit(4)"), timeout=20) as desk:
+        with pytest.raises(DeskEnded, match=r"ended with status 4 \(it ran out of memory\) before it replied"):
+            desk.plan()
+        with pytest.raises(DeskEnded, match="ended with status 4"):
+            desk.plan()
+        assert desk.close() == 4
+
+
+def test_a_program_that_was_killed_is_told() -> None:
+    with Desk(program("import os; os.kill(os.getpid(), 9)"), timeout=20) as desk:
+        with pytest.raises(DeskEnded, match="SIGKILL"):
+            desk.plan()
+
+
+def test_a_program_that_is_silent_is_left_after_the_timeout(monkeypatch: pytest.MonkeyPatch) -> None:
+    monkeypatch.setattr("purvelj.pipes.GRACE", 0.3)
+    with Desk(program("import time; time.sleep(60)"), timeout=0.3) as desk:
+        with pytest.raises(NoReply, match="within 0.3 s"):
+            desk.plan()
+        begun = time.monotonic()
+    assert desk.close() == -signal.SIGTERM
+    assert time.monotonic() - begun < 10
+
+
+def test_what_a_program_started_is_ended_with_it(monkeypatch: pytest.MonkeyPatch) -> None:
+    monkeypatch.setattr("purvelj.pipes.GRACE", 0.5)
+    text = (
+        "import signal, subprocess, time; signal.signal(signal.SIGTERM, signal.SIG_IGN);"
+        "child = subprocess.Popen(['sleep', '60']); input();"
+        'print(\'{"caller":0,"line":1,"ok":"granted","version":0,"balance":%d}\' % child.pid, flush=True);'
+        "time.sleep(60)"
+    )
+    with Desk(program(text), timeout=20) as desk:
+        child = desk.send("{}")[0].balance
+        assert alive(child)
+    assert desk.close() == -signal.SIGKILL
+    deadline = time.monotonic() + 5
+    while alive(child) and time.monotonic() < deadline:
+        time.sleep(0.05)
+    assert not alive(child) or _is_zombie(child)
+
+
+def _is_zombie(process: int) -> bool:
+    return Path(f"/proc/{process}/stat").read_text().rsplit(")", 1)[1].split()[0] == "Z"
+
+
+def test_a_fault_in_the_with_statement_ends_the_program() -> None:
+    with pytest.raises(ZeroDivisionError):
+        with Desk(STANDIN) as desk:
+            process = desk._program._process
+            1 / 0
+    assert process.returncode == 0
+
+
+def test_a_forgotten_desk_leaves_no_process() -> None:
+    desk = Desk(STANDIN)
+    process = desk._program._process
+    del desk
+    assert process.returncode == 0
+
+
+def test_a_program_that_is_not_there() -> None:
+    with pytest.raises(DeskError, match="no-such-program can't be started: No such file or directory"):
+        Desk(["no-such-program"])
+
+
+def test_a_reply_that_is_none() -> None:
+    with Desk(program("input(); print('proving and building')"), timeout=20) as desk:
+        with pytest.raises(FileError, match="reply to line 1: not JSON"):
+            desk.plan()
+    with Desk(program('input(); print(\'{"caller":0,"line":1,"version":0,"ok":"sung"}\')'), timeout=20) as desk:
+        with pytest.raises(DocumentError, match="reply to line 1.ok: 'sung' is none of"):
+            desk.plan()
+
+
+def test_a_late_reply_is_not_taken_for_another_lines() -> None:
+    late = program('input(); print(\'{"caller":0,"line":7,"version":0,"ok":"opened"}\')')
+    with Desk(late, timeout=20) as desk:
+        with pytest.raises(DeskError, match="a reply to line 7 came back to line 1"):
+            desk.plan()
+
+
+def test_the_program_is_chosen(monkeypatch: pytest.MonkeyPatch) -> None:
+    monkeypatch.setenv("PURVELJ_PROGRAM", "python3 'my desk.py' session")
+    assert default_program() == ["python3", "my desk.py", "session"]
+    monkeypatch.delenv("PURVELJ_PROGRAM")
+    assert default_program()[0].endswith("bin/netsched")
