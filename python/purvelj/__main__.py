@@ -1,0 +1,7 @@
+"""``python3 -m purvelj``."""
+
+import sys
+
+from purvelj.cli import main
+
+sys.exit(main())

@@ -1,0 +1,162 @@
+"""The picture of a plan: a row a telescope, and value beside bound."""
+
+from __future__ import annotations
+
+from datetime import datetime, timezone
+from typing import Any
+
+from matplotlib.dates import AutoDateLocator, ConciseDateFormatter, date2num
+from matplotlib.figure import Figure
+from matplotlib.patches import Patch, Rectangle
+
+from purvelj.chart.colours import BLACK, BLUE, DAY, GREY, NIGHT, OTHER, SKY, Style, styles
+from purvelj.chart.views import Bar, PlanView, Row
+from purvelj.moments import text_of
+from purvelj.spans import Span, Spans
+
+#: Inches: a row, what stands above and below them, and the least and greatest width.
+ROW, AROUND, LEAST_WIDTH, MOST_WIDTH = 0.34, 2.2, 11.0, 26.0
+#: Inches an hour of the horizon, if the picture isn't too wide with it.
+HOUR = 0.2
+#: Points: the size of a request's number, and about how wide a digit of it is.
+NUMBER, DIGIT = 5.5, 3.6
+BAR = 0.78
+
+
+def draw_plan(view: PlanView) -> Figure:
+    """Draws a plan. Each placement has the id ``placement-N`` with its request's number."""
+    hours = view.horizon.seconds / 3600
+    width = min(MOST_WIDTH, max(LEAST_WIDTH, hours * HOUR))
+    figure = Figure(figsize=(width, AROUND + ROW * max(3, len(view.rows))), layout="constrained")
+    above, key, below = figure.subplots(3, 1, height_ratios=[ROW * max(3, len(view.rows)), 0.3, 0.35])
+    _draw_rows(above, view)
+    style = styles(view.proposals)
+    points = 72 * 0.86 * width / view.horizon.seconds
+    for bar in view.bars:
+        _draw_bar(above, bar, style.get(bar.proposal or "", OTHER), points)
+    _draw_axis(above, view)
+    _draw_legend(key, view, style)
+    _draw_bound(below, view)
+    return figure
+
+
+def _draw_rows(axes: Any, view: PlanView) -> None:
+    for place, row in enumerate(view.rows):
+        _draw_span(axes, place, view.horizon, DAY, f"day-{place}")
+        for span in _open(row):
+            _draw_span(axes, place, span, NIGHT, f"night-{place}")
+        for span in row.closed:
+            _draw_span(axes, place, span, NIGHT, f"closed-{place}", hatch="xxxx", edgecolor=GREY)
+    axes.hlines(
+        [place - 0.5 for place in range(len(view.rows) + 1)],
+        _day(view.horizon.start),
+        _day(view.horizon.end),
+        color=GREY,
+        linewidth=0.4,
+    )
+
+
+def _open(row: Row) -> Spans:
+    """The night where it is known, else the seconds in which the telescope can be used."""
+    return row.night or row.usable
+
+
+def _draw_span(axes: Any, place: int, span: Span, colour: str, name: str, **style: Any) -> None:
+    style = {"linewidth": 0, **style}
+    axes.add_patch(Rectangle(*_box(place, span, 1.0), facecolor=colour, gid=name, zorder=1, **style))
+
+
+def _draw_bar(axes: Any, bar: Bar, style: Style, points: float) -> None:
+    axes.add_patch(
+        Rectangle(
+            *_box(bar.row, bar.span, BAR),
+            facecolor=style.colour,
+            hatch=style.pattern,
+            edgecolor=BLACK,
+            linewidth=2.2 if bar.running else 0.4,
+            linestyle=(0, (2, 1)) if bar.running else "solid",
+            gid=f"{'running' if bar.running else 'placement'}-{bar.request}",
+            zorder=4 if bar.running else 3,
+        )
+    )
+    text, width = str(bar.request), bar.span.seconds * points
+    upright = width < DIGIT * len(text)
+    if width >= NUMBER:
+        axes.text(
+            _day(bar.span.start + bar.span.seconds / 2),
+            bar.row,
+            text,
+            fontsize=NUMBER,
+            rotation=90 if upright else 0,
+            color=style.text,
+            ha="center",
+            va="center",
+            zorder=5,
+            bbox={"facecolor": style.colour, "edgecolor": "none", "pad": 0.4} if style.pattern else None,
+        )
+
+
+def _box(place: int, span: Span, height: float) -> tuple[tuple[float, float], float, float]:
+    start, end = _day(span.start), _day(span.end)
+    return (start, place - height / 2), end - start, height
+
+
+def _draw_axis(axes: Any, view: PlanView) -> None:
+    axes.set_xlim(_day(view.horizon.start), _day(view.horizon.end))
+    axes.set_ylim(len(view.rows) - 0.5, -0.5)
+    axes.set_yticks(range(len(view.rows)), [row.name for row in view.rows], fontsize=8)
+    locator = AutoDateLocator(minticks=6, maxticks=18)
+    axes.xaxis.set_major_locator(locator)
+    axes.xaxis.set_major_formatter(ConciseDateFormatter(locator))
+    axes.set_xlabel("UTC", fontsize=8)
+    axes.tick_params(axis="x", labelsize=8)
+    axes.set_title(
+        f"Plan of version {view.version}: {len(view.claim.placements)} placements"
+        f" from {text_of(view.horizon.start)} to {text_of(view.horizon.end)}",
+        fontsize=10,
+        loc="left",
+    )
+    if view.now is not None and view.horizon.start <= view.now <= view.horizon.end:
+        axes.axvline(_day(view.now), color=BLACK, linewidth=1.2, linestyle="dotted", gid="now", zorder=6)
+
+
+def _draw_legend(axes: Any, view: PlanView, style: dict[str, Style]) -> None:
+    handles = [
+        Patch(facecolor=each.colour, hatch=each.pattern, edgecolor=BLACK, linewidth=0.4, label=name)
+        for name, each in style.items()
+    ]
+    if any(bar.running for bar in view.bars):
+        dashes = (0, (2, 1))
+        handles.append(Patch(facecolor=NIGHT, edgecolor=BLACK, linewidth=2.2, linestyle=dashes, label="running"))
+    known = any(row.night for row in view.rows)
+    handles.append(Patch(facecolor=NIGHT, edgecolor=GREY, label="night" if known else "usable"))
+    handles.append(Patch(facecolor=DAY, label="day" if known else "not usable"))
+    if any(row.closed for row in view.rows):
+        handles.append(Patch(facecolor=NIGHT, hatch="xxxx", edgecolor=GREY, linewidth=0, label="closed"))
+    axes.axis("off")
+    axes.legend(handles=handles, loc="center", ncols=min(10, len(handles)), fontsize=8, frameon=False)
+
+
+def _draw_bound(axes: Any, view: PlanView) -> None:
+    claim = view.claim
+    axes.barh(0, claim.bound, color=SKY, height=0.9, gid="bound")
+    axes.barh(0, claim.value, color=BLUE, height=0.9, gid="value")
+    axes.set_xlim(0, max(1, claim.bound))
+    axes.set_yticks([])
+    axes.set_xticks([])
+    axes.set_title(
+        f"value {claim.value:,} (dark), and no plan is worth more than {claim.bound:,}: {percent_text(claim)}",
+        fontsize=9,
+        loc="left",
+    )
+
+
+def percent_text(claim: Any) -> str:
+    """The gap of a claim in words."""
+    if claim.gap == 0:
+        return "no gap, no plan is better"
+    return f"a gap of {claim.gap:,}, {claim.gap_percent:.2f} %"
+
+
+def _day(second: float) -> float:
+    return float(date2num(datetime.fromtimestamp(second, timezone.utc)))

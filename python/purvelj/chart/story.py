@@ -1,0 +1,235 @@
+"""What a session's history tells beside its last publication: names, nights, closures, grants, what runs.
+
+The replies alone tell numbers. Where the lines that were sent are at hand too, names, nights, closures
+and grants are known.
+"""
+
+from __future__ import annotations
+
+from dataclasses import dataclass, field
+from typing import Callable
+
+from purvelj.documents import Document
+from purvelj.history import Exchange, History
+from purvelj.model import Placement
+from purvelj.moments import in_utc
+from purvelj.replies import (
+    Balance,
+    Balances,
+    Clocked,
+    Completed,
+    Exported,
+    Failed,
+    Published,
+    Refused,
+    Shown,
+    Submitted,
+    TelescopeAdded,
+)
+from purvelj.spans import Span, Spans, minus, union
+
+#: The account of each observation type.
+ACCOUNTS = {
+    "NORMAL": "standard",
+    "TIME_CRITICAL": "time_critical",
+    "RAPID_RESPONSE": "rapid_response",
+}
+
+Key = tuple[str, str, str]
+
+
+@dataclass(frozen=True)
+class Owner:
+    """Whose a request is: its group, and the proposal, account and instrument type that it counts against.
+
+    ``seconds`` is how long it takes, or None where that isn't known.
+    """
+
+    group: int
+    key: Key
+    seconds: int | None
+
+    @property
+    def proposal(self) -> str:
+        """The proposal."""
+        return self.key[0]
+
+
+@dataclass(frozen=True)
+class Named:
+    """A telescope's codes."""
+
+    site: str
+    enclosure: str
+    telescope: str
+
+    def __str__(self) -> str:
+        return f"{self.site} {self.enclosure} {self.telescope}"
+
+
+@dataclass
+class Story:
+    """The state that the history leaves, as far as it is known. Telescopes and requests by their numbers."""
+
+    exported: Exported | None = None
+    balances: tuple[Balance, ...] | None = None
+    now: int | None = None
+    telescopes: dict[int, Named] = field(default_factory=dict)
+    nights: dict[str, Spans] = field(default_factory=dict)
+    closures: dict[int, Spans] = field(default_factory=dict)
+    owners: dict[int, Owner] = field(default_factory=dict)
+    granted: dict[Key, int] = field(default_factory=dict)
+    running: dict[int, Placement] = field(default_factory=dict)
+    notes: list[str] = field(default_factory=list)
+    _kept: dict[int, Placement] = field(default_factory=dict)
+    _instruments: dict[str, Document] = field(default_factory=dict)
+
+    def proposal_of(self, request: int) -> str | None:
+        """The proposal of a request, if it is known."""
+        owner = self.owners.get(request)
+        return owner.proposal if owner else None
+
+    def tell(self, exchange: Exchange) -> None:
+        """Takes in one line and its replies."""
+        reply = exchange.reply
+        if isinstance(reply, Refused):
+            return
+        line = Document(exchange.command, f"line {reply.line}")
+        if isinstance(reply, Exported):
+            self.exported = reply
+        elif isinstance(reply, Balances):
+            self.balances = reply.balances
+        elif isinstance(reply, Published):
+            self._kept = {each.request: each for each in reply.claim.placements}
+        elif isinstance(reply, Clocked):
+            self._clock(reply)
+        elif isinstance(reply, (Completed, Failed)):
+            self._end_one(line)
+        elif isinstance(reply, Shown):
+            self._own(Document(reply.document), reply.group, [number for number, _ in reply.requests])
+        elif isinstance(reply, Submitted) and line.has("group"):
+            self._own(line.object("group"), reply.group, reply.requests)
+        elif isinstance(reply, TelescopeAdded) and line.has("site"):
+            codes = (line.text(name) for name in ("site", "enclosure", "telescope"))
+            self.telescopes[reply.telescope] = Named(*codes)
+        if line.has("do"):
+            _LINES.get(line.text("do"), lambda story, line: None)(self, line)
+
+    def open(self, line: Document) -> None:
+        """Takes in an ``open`` line."""
+        self.now = _moment(line.raw("now"), line.path_of("now"))
+
+    def clock(self, line: Document) -> None:
+        """Takes in a ``clock`` line."""
+        self.now = _moment(line.raw("at"), line.path_of("at"))
+
+    def instrument(self, line: Document) -> None:
+        """Takes in an ``instrument`` line."""
+        self._instruments[line.text("type")] = line
+
+    def night(self, line: Document) -> None:
+        """Takes in a ``night`` line."""
+        self.nights[line.text("site")] = _spans(line)
+
+    def close(self, line: Document) -> None:
+        """Takes in a ``close`` line."""
+        for telescope in self._scope(line):
+            self.closures[telescope] = union(self.closures.get(telescope, ()) + _spans(line))
+
+    def reopen(self, line: Document) -> None:
+        """Takes in a ``reopen`` line."""
+        for telescope in self._scope(line):
+            self.closures[telescope] = minus(self.closures.get(telescope, ()), _spans(line))
+
+    def grant(self, line: Document) -> None:
+        """Takes in a ``grant`` line."""
+        account = line.text("account")
+        instrument = "" if account == "ipp" else line.text("instrument_type")
+        key = (line.text("proposal"), account, instrument)
+        self.granted[key] = self.granted.get(key, 0) + line.whole("seconds", 1, 10**9)
+
+    def _scope(self, line: Document) -> list[int]:
+        site, telescope = line.text("site"), line.raw_or("telescope", None)
+        enclosure = line.raw_or("enclosure", None)
+        return [
+            number
+            for number, named in self.telescopes.items()
+            if named.site == site
+            and (telescope is None or (named.enclosure, named.telescope) == (enclosure, telescope))
+        ]
+
+    def _clock(self, reply: Clocked) -> None:
+        for request in reply.started:
+            if request in self._kept:
+                self.running[request] = self._kept.pop(request)
+        for request in reply.failed:
+            self.running.pop(request, None)
+
+    def _end_one(self, line: Document) -> None:
+        if line.has("request"):
+            self.running.pop(line.whole("request", 0, 2**32 - 1), None)
+            return
+        if len(self.running) > 1:
+            self.notes.append("which requests were reported isn't known without the lines that were sent")
+        self.running.clear()
+
+    def _own(self, document: Document, group: int, numbers: list[int] | tuple[int, ...]) -> None:
+        account = ACCOUNTS.get(document.text("observation_type"), "standard")
+        requests = document.objects("requests")
+        for place, number in enumerate(numbers):
+            request = requests[place] if len(requests) == len(numbers) else requests[0]
+            instrument = request.objects("configurations")[0].text("instrument_type")
+            key = (document.text("proposal"), account, instrument)
+            self.owners[number] = Owner(group, key, self._seconds(request, instrument))
+
+    def _seconds(self, request: Document, instrument: str) -> int | None:
+        """How long a request takes: its exposures and the overheads of its instrument type."""
+        times = self._instruments.get(instrument)
+        if times is None:
+            return None
+        readout, change = _milliseconds(times, "readout_ms"), _milliseconds(times, "change_ms")
+        total = _milliseconds(times, "front_ms")
+        for configuration in request.objects("configurations"):
+            total += _milliseconds(times, "config_ms")
+            for exposures in configuration.objects("instrument_configs"):
+                one = exposures.whole("exposure_time_ms", 1, 86_400_000) + readout
+                total += exposures.whole("exposure_count", 1, 10_000) * one + change
+        return -(-total // 1000)
+
+
+_LINES: dict[str, Callable[[Story, Document], None]] = {
+    "open": Story.open,
+    "clock": Story.clock,
+    "instrument": Story.instrument,
+    "night": Story.night,
+    "close": Story.close,
+    "reopen": Story.reopen,
+    "grant": Story.grant,
+}
+
+
+def story_of(history: History) -> Story:
+    """What a history tells."""
+    story = Story()
+    for exchange in history.exchanges:
+        story.tell(exchange)
+    return story
+
+
+def _milliseconds(times: Document, name: str) -> int:
+    return times.whole(name, 0, 86_400_000)
+
+
+def _spans(line: Document) -> Spans:
+    return union(line.each("spans", _span))
+
+
+def _span(value: object, path: str) -> Span:
+    start, end = value if isinstance(value, list) and len(value) == 2 else (None, None)
+    return Span(_moment(start, path), _moment(end, path))
+
+
+def _moment(value: object, path: str) -> int:
+    if isinstance(value, str):
+        return int(in_utc(value, path).timestamp())
+    return value if isinstance(value, int) else int(str(value))

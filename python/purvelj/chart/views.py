@@ -1,0 +1,151 @@
+"""What the pictures show, as plain values: a plan over its telescopes, and accounts with their shares."""
+
+from __future__ import annotations
+
+from collections import Counter
+from dataclasses import dataclass
+
+from purvelj.chart.story import Key, Story
+from purvelj.errors import DocumentError
+from purvelj.model import Claim, Snapshot
+from purvelj.spans import Span, Spans, meet
+
+
+@dataclass(frozen=True)
+class Row:
+    """A telescope: its name, the seconds in which it can be used, its night, and when it is closed.
+
+    Night and closures are empty where they aren't known.
+    """
+
+    name: str
+    usable: Spans
+    night: Spans
+    closed: Spans
+
+
+@dataclass(frozen=True)
+class Bar:
+    """A request on a telescope's row, its proposal if it is known, and whether it is running."""
+
+    row: int
+    span: Span
+    request: int
+    proposal: str | None
+    running: bool = False
+
+
+@dataclass(frozen=True)
+class PlanView:
+    """A plan: its telescopes, what is placed or running on them, and its value beside its bound."""
+
+    horizon: Span
+    rows: tuple[Row, ...]
+    bars: tuple[Bar, ...]
+    claim: Claim
+    version: int
+    now: int | None
+    proposals: tuple[str, ...]
+
+
+@dataclass(frozen=True)
+class Share:
+    """An account, in seconds: what of its grants was used, is held, is planned of that, and is left.
+
+    ``used`` is None where the grants aren't known.
+    """
+
+    key: Key
+    used: int | None
+    held: int
+    planned: int
+    available: int
+
+    @property
+    def name(self) -> str:
+        """Proposal, account and instrument type."""
+        return " ".join(part for part in self.key if part)
+
+
+def plan_view(story: Story) -> PlanView:
+    """The view of the last export; ``DocumentError`` where there is none."""
+    if story.exported is None:
+        raise DocumentError("", "there is no reply to an `export` line to draw a plan from")
+    snapshot, claim = story.exported.snapshot, story.exported.claim
+    horizon = snapshot.horizon
+    rows = tuple(_row(story, snapshot, number) for number in range(len(snapshot.telescopes)))
+    bars = [
+        Bar(
+            placement.telescope,
+            snapshot.span_of(snapshot.requests[snapshot.places[placement.request]], placement.slice),
+            placement.request,
+            story.proposal_of(placement.request),
+            placement.request in story.running,
+        )
+        for placement in claim.placements
+    ]
+    placed = {placement.request for placement in claim.placements}
+    bars += [
+        bar for request in story.running if request not in placed for bar in _running(story, snapshot, request)
+    ]
+    spans = [bar.span for bar in bars] + [horizon]
+    return PlanView(
+        horizon=Span(min(span.start for span in spans), max(span.end for span in spans)),
+        rows=rows,
+        bars=tuple(sorted(bars, key=lambda bar: (bar.row, bar.span))),
+        claim=claim,
+        version=snapshot.version,
+        now=story.now,
+        proposals=tuple(sorted({bar.proposal for bar in bars if bar.proposal is not None})),
+    )
+
+
+def shares(story: Story) -> tuple[Share, ...]:
+    """The shares of the last balances; ``DocumentError`` where there are none."""
+    if story.balances is None:
+        raise DocumentError("", "there is no reply to a `balances` line to draw shares from")
+    planned = _planned(story)
+    return tuple(
+        Share(
+            key,
+            story.granted[key] - balance.balance if key in story.granted else None,
+            balance.balance - balance.available,
+            min(planned[key], balance.balance - balance.available),
+            balance.available,
+        )
+        for balance in story.balances
+        for key in [(balance.proposal, balance.account, balance.instrument_type)]
+    )
+
+
+def _row(story: Story, snapshot: Snapshot, number: int) -> Row:
+    telescope = snapshot.telescopes[number]
+    named = story.telescopes.get(number)
+    name = str(named) if named else f"telescope {number}, site {telescope.site}"
+    horizon = (snapshot.horizon,)
+    night = meet(story.nights.get(named.site, ()), horizon) if named else ()
+    closed = meet(story.closures.get(number, ()), night) if night else ()
+    return Row(name, telescope.usable, night, closed)
+
+
+def _running(story: Story, snapshot: Snapshot, request: int) -> list[Bar]:
+    placement, owner = story.running[request], story.owners.get(request)
+    if owner is None or owner.seconds is None:
+        story.notes.append(
+            f"request {request} is running, and how long isn't known without the lines that were sent"
+        )
+        return []
+    start = placement.slice * snapshot.slice_seconds
+    span = Span(start, start + owner.seconds)
+    return [Bar(placement.telescope, span, request, owner.proposal, running=True)]
+
+
+def _planned(story: Story) -> Counter[Key]:
+    """The seconds that the last export's plan and what is running take from each account."""
+    planned: Counter[Key] = Counter()
+    placed = {each.request for each in story.exported.claim.placements} if story.exported else set()
+    for request in placed | set(story.running):
+        owner = story.owners.get(request)
+        if owner is not None and owner.seconds is not None:
+            planned[owner.key] += owner.seconds
+    return planned

@@ -1,0 +1,43 @@
+"""``chart``: pictures of a plan and of accounts."""
+
+from __future__ import annotations
+
+import argparse
+
+from purvelj.cli.words import Commands, tell
+from purvelj.documents import read_text
+from purvelj.history import read_history
+
+
+def add_commands(commands: Commands) -> None:
+    """Adds the command to a parser."""
+    chart = commands.add_parser(
+        "chart",
+        help="draw a plan, and who got how much of their grants",
+        description="Draws the last export, and the last balances, of a session's output. Files end in .svg or .png.",
+    )
+    chart.add_argument("output", help="the replies of a session: all, or those to `export` and `balances` lines")
+    chart.add_argument(
+        "--script", metavar="FILE", help="the lines that were sent: they have names, nights, closures and grants"
+    )
+    chart.add_argument("--plan", metavar="FILE", help="draw the plan there")
+    chart.add_argument("--accounts", metavar="FILE", help="draw the accounts there")
+    chart.set_defaults(run=run_chart)
+
+
+def run_chart(options: argparse.Namespace) -> int:
+    """Runs ``chart``."""
+    from purvelj.chart import draw_plan, draw_shares, plan_view, save, shares, story_of
+
+    source = "standard input" if options.output == "-" else options.output
+    script = read_text(options.script) if options.script else None
+    story = story_of(read_history(read_text(options.output), script, source))
+    if options.plan:
+        save(draw_plan(plan_view(story)), options.plan)
+    if options.accounts:
+        save(draw_shares(shares(story)), options.accounts)
+    if not options.plan and not options.accounts:
+        tell("nothing is drawn: name a file by --plan or --accounts")
+    for note in dict.fromkeys(story.notes):
+        tell(note)
+    return 0

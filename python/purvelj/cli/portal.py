@@ -1,0 +1,84 @@
+"""``portal``: request groups of an observation portal as lines."""
+
+from __future__ import annotations
+
+import argparse
+import sys
+from typing import Iterator
+
+from purvelj.cli.words import Commands, ranged
+from purvelj.documents import compact, read_json, write_text
+from purvelj.portal.convert import convert
+from purvelj.portal.notes import Note, Notes, PortalError, summary
+
+
+def add_commands(commands: Commands) -> None:
+    """Adds the command to a parser."""
+    portal = commands.add_parser(
+        "portal",
+        help="print a `submit` line for each request group of an observation portal",
+        description="Prints a `submit` line for each request group, and on standard error everything in them that "
+        "the desk won't heed or would read otherwise. Where there is a fault, nothing is printed.",
+    )
+    portal.add_argument(
+        "documents", nargs="+", help="JSON files: a request group, a list of them, or a page with `results`"
+    )
+    portal.add_argument("--priority", type=ranged(int, 1, 100), required=True, help="of all groups, 1 to 100")
+    portal.add_argument(
+        "--fade",
+        type=ranged(int, 0, 1000),
+        default=0,
+        help="the thousandths of its value that each request loses with each slice of delay (default 0)",
+    )
+    portal.add_argument(
+        "--targets", metavar="FILE", help="write the targets with their limits there, as `visibility` takes them"
+    )
+    portal.add_argument("--strict", action="store_true", help="take every warning for a fault")
+    portal.set_defaults(run=run_portal)
+
+
+def run_portal(options: argparse.Namespace) -> int:
+    """Runs ``portal``."""
+    values = [each for path in options.documents for each in _groups(path)]
+    conversions = [convert(value, options.priority, options.fade, path) for path, value in values]
+    notes = [note for conversion in conversions for note in conversion.notes]
+    faults = any(conversion.group is None for conversion in conversions)
+    if options.targets and not faults:
+        notes += _write_targets(options.targets, values)
+    for line in summary(tuple(notes)):
+        print(f"purvelj: {line}", file=sys.stderr)
+    if faults or (options.strict and notes):
+        return int(PortalError.status)
+    for conversion in conversions:
+        print(compact(conversion.line()))
+    return 0
+
+
+def _groups(path: str) -> Iterator[tuple[str, object]]:
+    """The request groups of a file, each with the path that names it."""
+    value = read_json(path)
+    if isinstance(value, dict) and isinstance(value.get("results"), list):
+        value = value["results"]
+    if not isinstance(value, list):
+        yield path, value
+        return
+    for place, each in enumerate(value):
+        yield f"{path}: [{place}]", each
+
+
+def _write_targets(path: str, values: list[tuple[str, object]]) -> tuple[Note, ...]:
+    from purvelj.portal.targets import targets_of
+    from purvelj.places import Limits
+
+    notes = Notes()
+    targets = targets_of(values, Limits(altitude=0.0), notes)
+    rows = []
+    for target, limits in targets.items():
+        row = target.document()
+        if limits.airmass is not None:
+            row["airmass"] = limits.airmass
+        if limits.moon:
+            row["moon"] = limits.moon
+        rows.append(row)
+    write_text(path, "[" + ",\n ".join(compact(row) for row in rows) + "]\n")
+    return notes.all()
