@@ -15,11 +15,13 @@ from purvelj.moments import text_of
 from purvelj.spans import Span, Spans
 
 #: Inches: a row, what stands above and below them, and the least and greatest width.
-ROW, AROUND, LEAST_WIDTH, MOST_WIDTH = 0.34, 2.2, 11.0, 26.0
+ROW, AROUND, LEAST_WIDTH, MOST_WIDTH = 0.34, 2.2, 11.0, 30.0
 #: Inches an hour of the horizon, if the picture isn't too wide with it.
 HOUR = 0.2
-#: Points: the size of a request's number, and about how wide a digit of it is.
-NUMBER, DIGIT = 5.5, 3.6
+#: Points: the least and greatest size of a request's number.
+LEAST_NUMBER, MOST_NUMBER = 3.5, 5.5
+#: How wide a digit is, in parts of a text's size.
+DIGIT = 0.65
 BAR = 0.78
 
 
@@ -79,21 +81,26 @@ def _draw_bar(axes: Any, bar: Bar, style: Style, points: float) -> None:
             zorder=4 if bar.running else 3,
         )
     )
-    text, width = str(bar.request), bar.span.seconds * points
-    upright = width < DIGIT * len(text)
-    if width >= NUMBER:
-        axes.text(
-            _day(bar.span.start + bar.span.seconds / 2),
-            bar.row,
-            text,
-            fontsize=NUMBER,
-            rotation=90 if upright else 0,
-            color=style.text,
-            ha="center",
-            va="center",
-            zorder=5,
-            bbox={"facecolor": style.colour, "edgecolor": "none", "pad": 0.4} if style.pattern else None,
-        )
+    _draw_number(axes, bar, style, bar.span.seconds * points)
+
+
+def _draw_number(axes: Any, bar: Bar, style: Style, width: float) -> None:
+    """Writes a request's number on its bar, upright where it is narrow, and not at all where it is too narrow."""
+    text, size = str(bar.request), min(MOST_NUMBER, width)
+    if size < LEAST_NUMBER:
+        return
+    axes.text(
+        _day(bar.span.start + bar.span.seconds / 2),
+        bar.row,
+        text,
+        fontsize=size,
+        rotation=90 if width < DIGIT * size * len(text) else 0,
+        color=style.text,
+        ha="center",
+        va="center",
+        zorder=5,
+        bbox={"facecolor": style.colour, "edgecolor": "none", "pad": 0.4} if style.pattern else None,
+    )
 
 
 def _box(place: int, span: Span, height: float) -> tuple[tuple[float, float], float, float]:
@@ -103,7 +110,7 @@ def _box(place: int, span: Span, height: float) -> tuple[tuple[float, float], fl
 
 def _draw_axis(axes: Any, view: PlanView) -> None:
     axes.set_xlim(_day(view.horizon.start), _day(view.horizon.end))
-    axes.set_ylim(len(view.rows) - 0.5, -0.5)
+    axes.set_ylim(max(1, len(view.rows)) - 0.5, -0.5)
     axes.set_yticks(range(len(view.rows)), [row.name for row in view.rows], fontsize=8)
     locator = AutoDateLocator(minticks=6, maxticks=18)
     axes.xaxis.set_major_locator(locator)

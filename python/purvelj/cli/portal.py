@@ -8,6 +8,7 @@ from typing import Iterator
 
 from purvelj.cli.words import Commands, ranged
 from purvelj.documents import compact, read_json, write_text
+from purvelj.errors import DocumentError
 from purvelj.portal.convert import convert
 from purvelj.portal.notes import Note, Notes, PortalError, summary
 
@@ -40,6 +41,8 @@ def add_commands(commands: Commands) -> None:
 def run_portal(options: argparse.Namespace) -> int:
     """Runs ``portal``."""
     values = [each for path in options.documents for each in _groups(path)]
+    if not values:
+        raise DocumentError(", ".join(options.documents), "there is no request group in it")
     conversions = [convert(value, options.priority, options.fade, path) for path, value in values]
     notes = [note for conversion in conversions for note in conversion.notes]
     faults = any(conversion.group is None for conversion in conversions)

@@ -23,19 +23,21 @@ class Progress:
             TimeElapsedColumn(),
             TextColumn("{task.fields[gap]}"),
             console=Console(stderr=True),
-            disable=not shown,
             transient=True,
         )
+        self._shown = shown
         self._task = self._bar.add_task("listing starts", total=seconds, gap="")
 
     def __enter__(self) -> Progress:
-        self._bar.start()
+        if self._shown:
+            self._bar.start()
         return self
 
     def __exit__(
         self, kind: type[BaseException] | None, fault: BaseException | None, trace: TracebackType | None
     ) -> None:
-        self._bar.stop()
+        if self._shown:
+            self._bar.stop()
 
     def tell(self, step: Step) -> None:
         """Shows how far the search has come."""

@@ -86,7 +86,8 @@ class _Converter:
         requests = document.objects("requests")
         least, most = (1, 1) if operator == "SINGLE" else (2, MOST_REQUESTS)
         if operator and not least <= len(requests) <= most:
-            text = f"{len(requests)} requests, where the desk takes {least} to {most} in a {operator}"
+            wanted = str(least) if least == most else f"{least} to {most}"
+            text = f"{len(requests)} stand here, where the desk takes {wanted} in a {operator}"
             self._notes.fault("group-size", document.path_of("requests"), text)
         return [self._notes.attempt("document", lambda: self._request(each, operator)) for each in requests]
 

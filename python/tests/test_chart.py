@@ -1,0 +1,289 @@
+"""Pictures, by what they show and by the structure of their files."""
+
+from __future__ import annotations
+
+import json
+import re
+import struct
+import sys
+from collections import Counter
+from dataclasses import replace
+from itertools import combinations
+from pathlib import Path
+from random import Random
+from xml.etree import ElementTree
+
+import numpy as np
+import pytest
+
+from purvelj.chart import Story, draw_plan, draw_shares, plan_view, save, shares, story_of
+from purvelj.chart.colours import OTHER, PALETTE, styles
+from purvelj.chart.story import Named, Owner
+from purvelj.chart.views import Bar, Row, Share
+from purvelj.desk import Desk
+from purvelj.errors import DocumentError, FileError
+from purvelj.history import History, read_history
+from purvelj.model import Claim, Placement, Telescope
+from purvelj.replies import Exported
+from purvelj.spans import Span
+from script import LINES, REPLIES
+from snapshots import single, snapshot
+
+STANDIN = [sys.executable, str(Path(__file__).parent / "standin")]
+GROUP = json.loads(LINES[6])["group"]
+CAMERA = "1M0-SCICAM-SINISTRO"
+
+
+def session() -> History:
+    """Two proposals on two telescopes, of which one is closed at first; one request runs, one was reported."""
+    with Desk(STANDIN, timeout=30) as desk:
+        desk.replay(LINES[:3])
+        desk.telescope("coj", "domb", "1m0a", "1m0", [CAMERA])
+        desk.replay(LINES[3:7])
+        desk.grant("P2", "time_critical", 5000, CAMERA)
+        desk.submit({**GROUP, "proposal": "P2", "observation_type": "TIME_CRITICAL"})
+        desk.submit({**GROUP, "proposal": "P2", "observation_type": "TIME_CRITICAL", "priority": 3})
+        desk.close_telescope("coj", "domb", "1m0a", [(0, 600)])
+        desk.plan()
+        desk.clock(1)
+        desk.report(1, 100, 290)
+        desk.clock(350)
+        desk.plan()
+        desk.export()
+        desk.balances()
+        return desk.history
+
+
+@pytest.fixture(scope="module")
+def history() -> History:
+    return session()
+
+
+def test_a_history_with_its_script_tells_names_nights_and_what_runs(history: History) -> None:
+    view = plan_view(story_of(history))
+    assert view.rows == (
+        Row("coj doma 1m0a", (Span(600, 3600),), (Span(600, 3600),), ()),
+        Row("coj domb 1m0a", (Span(600, 3600),), (Span(600, 3600),), ()),
+    )
+    assert view.bars == (
+        Bar(0, Span(300, 600), 2, "P2", running=True),
+        Bar(0, Span(600, 900), 3, "P2"),
+    )
+    assert (view.horizon, view.now, view.proposals) == (Span(300, 4200), 350, ("P2",))
+
+
+def test_an_output_alone_tells_numbers(history: History) -> None:
+    story = story_of(read_history(history.output()))
+    view = plan_view(story)
+    assert [row.name for row in view.rows] == ["telescope 0, site 0", "telescope 1, site 0"]
+    assert view.bars == (Bar(0, Span(600, 900), 3, None),)
+    assert story.notes == ["request 2 is running, and how long isn't known without the lines that were sent"]
+
+
+def test_shares_are_of_the_grants(history: History) -> None:
+    assert shares(story_of(history)) == (
+        Share(("P1", "standard", CAMERA), 290, 0, 0, 710),
+        Share(("P2", "time_critical", CAMERA), 0, 600, 600, 4400),
+    )
+    alone = shares(story_of(read_history(history.output())))
+    assert alone == (
+        Share(("P1", "standard", CAMERA), None, 0, 0, 710),
+        Share(("P2", "time_critical", CAMERA), None, 600, 0, 4400),
+    )
+
+
+def test_closures_are_known_with_the_script() -> None:
+    with Desk(STANDIN, timeout=30) as desk:
+        desk.replay(LINES[:7])
+        desk.close_site("coj", [(0, 900), (1200, 5000)])
+        desk.reopen_site("coj", [(0, 300)])
+        desk.plan()
+        desk.export()
+        (row,) = plan_view(story_of(desk.history)).rows
+    assert row == Row(
+        "coj doma 1m0a",
+        (Span(0, 300), Span(900, 1200)),
+        (Span(0, 3600),),
+        (Span(300, 900), Span(1200, 3600)),
+    )
+
+
+def test_an_export_alone_is_a_view() -> None:
+    view = plan_view(story_of(read_history(REPLIES[-1])))
+    assert view.bars == (Bar(0, Span(0, 300), 1, None),)
+    assert (view.claim.value, view.version) == (50_000, 7)
+
+
+def test_what_has_nothing_to_draw() -> None:
+    story = story_of(read_history(REPLIES[0]))
+    with pytest.raises(DocumentError, match="no reply to an `export` line"):
+        plan_view(story)
+    with pytest.raises(DocumentError, match="no reply to a `balances` line"):
+        shares(story)
+
+
+def test_a_report_among_several_that_run_needs_the_script() -> None:
+    with Desk(STANDIN, timeout=30) as desk:
+        desk.replay(LINES[:3])
+        desk.telescope("coj", "domb", "1m0a", "1m0", [CAMERA])
+        desk.replay(LINES[3:7])
+        desk.submit({**GROUP, "requests": [{**GROUP["requests"][0], "windows": [{"start": 0, "end": 300}]}]})
+        desk.plan()
+        desk.clock(1)
+        desk.report(2, 100, 290)
+        history = desk.history
+    with_script, alone = story_of(history), story_of(read_history(history.output()))
+    assert (list(with_script.running), with_script.notes) == ([1], [])
+    assert (list(alone.running), len(alone.notes)) == ([], 1)
+
+
+def network(count: int) -> Story:
+    """So many placements on 32 telescopes in five nights, of 12 proposals, with one closed and three running."""
+    draw = Random(4)
+    first, night, day = 6_000_000, 96, 288
+    base = snapshot(slices=5 * day)
+    nights = tuple(Span((first + k * day) * 300, (first + k * day + night) * 300) for k in range(5))
+    placements: list[Placement] = []
+    groups = []
+    busy = Counter()
+    for number in range(1, count + 1):
+        row, k, slices = number % 32, number // 32 % 5, draw.randint(1, 12)
+        placements.append(Placement(number, row, first + k * day + busy[row, k]))
+        busy[row, k] += slices + draw.randint(0, 1)
+        one = single(
+            number, (nights[0].start, nights[-1].end), seconds=300 * slices, targets=(), telescopes=(row,)
+        )
+        groups.append(one)
+    telescopes = tuple(Telescope(row % 3, nights) for row in range(32))
+    shot = replace(base, first=first, telescopes=telescopes, skies=(), groups=tuple(groups))
+    story = Story(exported=exported(shot, tuple(placements), 50_000 * count))
+    story.telescopes.update({row: Named(f"s{row % 3}", f"dom{row}", "1m0a") for row in range(32)})
+    story.nights["s0"] = nights
+    story.closures[0] = nights[1:2]
+    for request in shot.requests:
+        key = (f"2026B-{draw.randint(1, 12):03}", "standard", "C")
+        story.owners[request.number] = Owner(request.number, key, request.seconds)
+    story.running.update({placement.request: placement for placement in placements[:3]})
+    return story
+
+
+def exported(shot, placements: tuple[Placement, ...], value: int) -> Exported:
+    claim = Claim(placements, (0,) * len(shot.requests), value, value + value // 100)
+    return Exported(caller=0, line=1, version=9, claim=claim, snapshot=shot)
+
+
+def ids(path: Path) -> Counter:
+    """The ids of a picture's parts, without their numbers."""
+    root = ElementTree.parse(path).getroot()
+    found = (each.get("id", "") for each in root.iter())
+    return Counter(re.sub(r"-\d+$", "", each) for each in found)
+
+
+def texts(path: Path) -> list[str]:
+    root = ElementTree.parse(path).getroot()
+    return ["".join(each.itertext()).strip() for each in root.iter("{http://www.w3.org/2000/svg}text")]
+
+
+def size(path: Path) -> tuple[int, int]:
+    """Width and height of a PNG."""
+    head = path.read_bytes()[:24]
+    assert head[:8] == b"\x89PNG\r\n\x1a\n"
+    return struct.unpack(">II", head[16:24])
+
+
+def test_a_large_plan_has_all_its_parts(tmp_path: Path) -> None:
+    view = plan_view(network(1000))
+    assert len(view.bars) == 1000
+    figure = draw_plan(view)
+    save(figure, tmp_path / "plan.svg")
+    found = ids(tmp_path / "plan.svg")
+    assert (found["placement"], found["running"]) == (997, 3)
+    assert (found["day"], found["closed"], found["value"], found["bound"]) == (32, 1, 1, 1)
+    assert found["night"] == sum(len(row.night or row.usable) for row in view.rows)
+    written = texts(tmp_path / "plan.svg")
+    numbers = [text for text in written if text.isdigit()]
+    assert len(numbers) > 750 and len(set(numbers)) == len(numbers)
+    assert {row.name for row in view.rows} <= set(written) and set(view.proposals) <= set(written)
+    assert any(f"value {view.claim.value:,}" in text and f"{view.claim.bound:,}" in text for text in written)
+    save(figure, tmp_path / "plan.png")
+    width, height = size(tmp_path / "plan.png")
+    assert 2000 < width < 3500 and 1200 < height < 2000
+
+
+def test_a_picture_is_the_same_file_each_time(tmp_path: Path) -> None:
+    view = plan_view(story_of(read_history(REPLIES[-1])))
+    for ending in ("svg", "png"):
+        for name in "ab":
+            save(draw_plan(view), tmp_path / f"{name}.{ending}")
+        assert (tmp_path / f"a.{ending}").read_bytes() == (tmp_path / f"b.{ending}").read_bytes()
+
+
+def test_shares_have_a_bar_for_each_part(tmp_path: Path, history: History) -> None:
+    save(draw_shares(shares(story_of(history))), tmp_path / "accounts.svg")
+    written = texts(tmp_path / "accounts.svg")
+    assert {"used", "planned or running", "held beside that", "left"} <= set(written)
+    assert {f"P1 standard {CAMERA}", f"P2 time_critical {CAMERA}"} <= set(written)
+    assert "0.1 of 0.3 h used or planned, 29 %" in written
+    save(draw_shares(shares(story_of(read_history(history.output())))), tmp_path / "alone.svg")
+    assert "used" not in texts(tmp_path / "alone.svg") and "0.2 h left" in texts(tmp_path / "alone.svg")
+
+
+def test_an_empty_plan_is_drawn(tmp_path: Path) -> None:
+    empty = snapshot(slices=4, telescopes=0)
+    for shot in (empty, replace(snapshot(slices=4), groups=())):
+        save(draw_plan(plan_view(Story(exported=exported(shot, (), 0)))), tmp_path / "empty.svg")
+        assert ids(tmp_path / "empty.svg")["placement"] == 0
+    save(draw_shares(()), tmp_path / "none.svg")
+
+
+def test_a_file_of_another_kind_or_nowhere(tmp_path: Path) -> None:
+    figure = draw_shares(())
+    with pytest.raises(FileError, match="ends in .svg or .png"):
+        save(figure, tmp_path / "plan.jpg")
+    with pytest.raises(FileError, match="can't be written: No such file"):
+        save(figure, tmp_path / "nowhere" / "plan.png")
+
+
+def test_there_are_styles_for_many_proposals() -> None:
+    styled = styles([str(number) for number in range(40)])
+    assert len({(each.colour, each.pattern) for each in list(styled.values())[:28]}) == 28
+    assert set(list(styled.values())[28:]) == {OTHER}
+
+
+#: How colours are seen without red, green and blue cones (Machado, Oliveira and Fernandes 2009, severity 1).
+SEEN = {
+    "protanopia": [
+        [0.152286, 1.052583, -0.204868],
+        [0.114503, 0.786281, 0.099216],
+        [-0.003882, -0.048116, 1.051998],
+    ],
+    "deuteranopia": [
+        [0.367322, 0.860646, -0.227968],
+        [0.280085, 0.672501, 0.047413],
+        [-0.011820, 0.042940, 0.968881],
+    ],
+    "tritanopia": [
+        [1.255528, -0.076749, -0.178779],
+        [-0.078411, 0.930809, 0.147602],
+        [0.004733, 0.691367, 0.303900],
+    ],
+    "all cones": [[1, 0, 0], [0, 1, 0], [0, 0, 1]],
+}
+
+
+@pytest.mark.parametrize("seen", SEEN)
+def test_colours_are_told_apart_by_the_colour_blind(seen: str) -> None:
+    for first, second in combinations(PALETTE, 2):
+        distance = np.linalg.norm(_lab(first, SEEN[seen]) - _lab(second, SEEN[seen]))
+        assert distance > 12, (first, second)
+
+
+def _lab(colour: str, matrix) -> np.ndarray:
+    """The colour in CIELAB, as it is seen."""
+    parts = np.array([int(colour[place : place + 2], 16) / 255 for place in (1, 3, 5)])
+    linear = np.where(parts <= 0.04045, parts / 12.92, ((parts + 0.055) / 1.055) ** 2.4)
+    linear = np.clip(np.array(matrix) @ linear, 0, 1)
+    xyz = np.array([[0.4124, 0.3576, 0.1805], [0.2126, 0.7152, 0.0722], [0.0193, 0.1192, 0.9505]]) @ linear
+    scaled = xyz / np.array([0.9505, 1.0, 1.089])
+    f = np.where(scaled > 0.008856, np.cbrt(scaled), 7.787 * scaled + 16 / 116)
+    return np.array([116 * f[1] - 16, 500 * (f[0] - f[1]), 200 * (f[1] - f[2])])
