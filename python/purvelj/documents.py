@@ -72,7 +72,8 @@ class Document:
     """A JSON object that is being read.
 
     Each call reads one member, and raises ``DocumentError`` with the member's path where it isn't
-    what it should be. A member that is ``null`` counts as absent.
+    what it should be. A member that is ``null`` counts as absent. The path of a whole text is what
+    names the text with a colon behind, as in ``export.json:``.
     """
 
     def __init__(self, value: object, path: str = "") -> None:
@@ -94,7 +95,9 @@ class Document:
 
     def path_of(self, name: str) -> str:
         """The path that names the member."""
-        return f"{self.path}.{name}" if self.path else name
+        if not self.path:
+            return name
+        return f"{self.path} {name}" if self.path.endswith(":") else f"{self.path}.{name}"
 
     def raw(self, name: str) -> object:
         """The member as it stands, which has to be there."""

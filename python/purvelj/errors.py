@@ -48,6 +48,7 @@ class DocumentError(PurveljError):
     """
 
     def __init__(self, path: str, text: str) -> None:
+        path = path.rstrip(":")
         super().__init__(f"{path}: {text}" if path else text)
         self.path = path
         self.text = text

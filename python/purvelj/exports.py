@@ -39,7 +39,7 @@ def read_export(path: str | Path) -> Export:
     ``FileError`` where the file can't be read or is no JSON, ``DocumentError`` where it has no export.
     """
     source = "standard input" if str(path) == "-" else str(path)
-    document = Document(_last_object(read_text(path), source), source)
+    document = Document(_last_object(read_text(path), source), f"{source}:")
     if not document.has("snapshot"):
         raise DocumentError(source, "there is no `snapshot`, so it isn't the reply to an `export` line")
     return Export(

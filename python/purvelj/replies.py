@@ -154,7 +154,7 @@ def read_reply(text: str, source: str = "reply") -> Reply:
 
     ``FileError`` where it is no JSON, ``DocumentError`` where it is no reply; ``source`` names it there.
     """
-    document = Document(parse(text, source), source)
+    document = Document(parse(text, source), f"{source}:")
     heads: _Heads = {
         "caller": document.whole("caller", 0, 7),
         "line": document.whole("line", 1, _MOST),

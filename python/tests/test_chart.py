@@ -69,7 +69,7 @@ def test_a_history_with_its_script_tells_names_nights_and_what_runs(history: His
         Bar(0, Span(300, 600), 2, "P2", running=True),
         Bar(0, Span(600, 900), 3, "P2"),
     )
-    assert (view.horizon, view.now, view.proposals) == (Span(300, 4200), 350, ("P2",))
+    assert (view.horizon, view.now, view.proposals) == (Span(300, 4200), 350, ("P1", "P2"))
 
 
 def test_an_output_alone_tells_numbers(history: History) -> None:

@@ -90,7 +90,7 @@ def test_portal(run) -> None:
     ran = run("portal", "m51.json", "--priority", "12", "--targets", "t.json", files={"m51.json": value})
     assert ran.status == 0
     assert ran.lines()[0]["group"]["priority"] == 12
-    assert ran.err.count("\n") == 1 and ran.err.startswith("purvelj: warning: constraints: m51.json.requests[0]")
+    assert ran.err.count("\n") == 1 and ran.err.startswith("purvelj: warning: constraints: m51.json: requests[0]")
     target = {"name": "M51", "ra": 202.4696, "dec": 47.1952, "airmass": 1.6, "moon": 30.0}
     assert json.loads(Path("t.json").read_text()) == [target]
     strict = run("portal", "m51.json", "--priority", "12", "--strict")
@@ -245,7 +245,7 @@ BAD = [
         6,
         "never visible from any of the sites in these days: Acrux, sigma Oct; --hidden goes on without them",
     ),
-    (("portal", "group.json", "--priority", "1"), 5, "fault: document: group.json.name: is missing"),
+    (("portal", "group.json", "--priority", "1"), 5, "fault: document: group.json: name: is missing"),
     (
         ("portal", "cutgroup.json", "--priority", "1"),
         3,
@@ -261,13 +261,13 @@ BAD = [
         4,
         "claim.json: there is no `snapshot`, so it isn't the reply to an `export` line",
     ),
-    (("tighten", "half.json"), 4, "half.json.claim: is missing"),
-    (("tighten", "odd.json"), 4, "odd.json.snapshot.groups[0].requests[0].seconds: 0 is out of 1 to 86400"),
-    (("tighten", "float.json"), 4, "float.json.snapshot.groups[0].requests[0].seconds: 300.0 isn't written as a"),
+    (("tighten", "half.json"), 4, "half.json: claim: is missing"),
+    (("tighten", "odd.json"), 4, "odd.json: snapshot.groups[0].requests[0].seconds: 0 is out of 1 to 86400"),
+    (("tighten", "float.json"), 4, "float.json: snapshot.groups[0].requests[0].seconds: 300.0 isn't written as a"),
     (
         ("tighten", "order.json"),
         4,
-        "order.json.snapshot.telescopes[0].usable: the spans [0, 1800] and [1800, 3600]",
+        "order.json: snapshot.telescopes[0].usable: the spans [0, 1800] and [1800, 3600]",
     ),
     (("tighten", "wrong.json"), 7, "the claim isn't certified for the snapshot: {"),
     (("tighten", "nan.json"), 3, "nan.json: not JSON: NaN is no JSON number"),
@@ -277,7 +277,7 @@ BAD = [
     (("chart", "export.json", "--accounts", "p.svg"), 4, "there is no reply to a `balances` line to draw shares"),
     (("chart", "export.json", "--plan", "p.gif"), 3, "p.gif: a picture's file ends in .svg or .png"),
     (("chart", "cut.json", "--plan", "p.svg"), 3, "cut.json, line 1: not JSON: it ends in the middle"),
-    (("chart", "claim.json", "--plan", "p.svg"), 4, "claim.json, line 1.caller: is missing"),
+    (("chart", "claim.json", "--plan", "p.svg"), 4, "claim.json, line 1: caller: is missing"),
     (
         ("replay", "script.jsonl", "--program", "no-such-program"),
         9,

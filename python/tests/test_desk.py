@@ -258,7 +258,7 @@ def test_a_reply_that_is_none() -> None:
         with pytest.raises(FileError, match="reply to line 1: not JSON"):
             desk.plan()
     with Desk(program('input(); print(\'{"caller":0,"line":1,"version":0,"ok":"sung"}\')'), timeout=20) as desk:
-        with pytest.raises(DocumentError, match="reply to line 1.ok: 'sung' is none of"):
+        with pytest.raises(DocumentError, match="reply to line 1: ok: 'sung' is none of"):
             desk.plan()
 
 

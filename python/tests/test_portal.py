@@ -347,10 +347,10 @@ def test_targets_have_the_strictest_limits() -> None:
     for request, constraints in zip(value["requests"], limits):
         request["configurations"][0]["constraints"] = constraints
     notes = Notes()
-    targets = targets_of([("a.json", value)], Limits(20.0), notes)
+    targets = targets_of([("a.json:", value)], Limits(20.0), notes)
     assert targets == {Target("M51", 202.4696, 47.1952): Limits(20.0, 1.5, 30.0)}
     assert [note.path for note in notes.all()] == [
-        f"a.json.requests[{place}].configurations[0].target" for place in (1, 2)
+        f"a.json: requests[{place}].configurations[0].target" for place in (1, 2)
     ]
 
 

@@ -14,12 +14,16 @@ from purvelj.chart.views import Bar, PlanView, Row
 from purvelj.moments import text_of
 from purvelj.spans import Span, Spans
 
-#: Inches: a row, what stands above and below them, and the least and greatest width.
-ROW, AROUND, LEAST_WIDTH, MOST_WIDTH = 0.34, 2.2, 11.0, 30.0
+#: Inches: a row, a line of the key, the strip of value and bound, and all that stands around them.
+ROW, KEY, BOUND, AROUND = 0.34, 0.2, 0.3, 1.4
+#: Inches: the least and greatest width.
+LEAST_WIDTH, MOST_WIDTH = 11.0, 30.0
 #: Inches an hour of the horizon, if the picture isn't too wide with it.
 HOUR = 0.2
 #: Points: the least and greatest size of a request's number.
 LEAST_NUMBER, MOST_NUMBER = 3.5, 5.5
+#: Points: a letter of the key, and the mark beside a name.
+LETTER, MARK = 5.0, 48.0
 #: How wide a digit is, in parts of a text's size.
 DIGIT = 0.65
 BAR = 0.78
@@ -27,17 +31,21 @@ BAR = 0.78
 
 def draw_plan(view: PlanView) -> Figure:
     """Draws a plan. Each placement has the id ``placement-N`` with its request's number."""
-    hours = view.horizon.seconds / 3600
-    width = min(MOST_WIDTH, max(LEAST_WIDTH, hours * HOUR))
-    figure = Figure(figsize=(width, AROUND + ROW * max(3, len(view.rows))), layout="constrained")
-    above, key, below = figure.subplots(3, 1, height_ratios=[ROW * max(3, len(view.rows)), 0.3, 0.35])
-    _draw_rows(above, view)
+    width = min(MOST_WIDTH, max(LEAST_WIDTH, HOUR * view.horizon.seconds / 3600))
     style = styles(view.proposals)
+    handles = _handles(view, style)
+    longest = max(len(handle.get_label()) for handle in handles)
+    columns = max(1, int(72 * 0.9 * width / (LETTER * longest + MARK)))
+    heights = [ROW * max(3, len(view.rows)), KEY * -(-len(handles) // columns), BOUND]
+    figure = Figure(figsize=(width, sum(heights) + AROUND), layout="constrained")
+    above, key, below = figure.subplots(3, 1, height_ratios=heights)
+    _draw_rows(above, view)
     points = 72 * 0.86 * width / view.horizon.seconds
     for bar in view.bars:
         _draw_bar(above, bar, style.get(bar.proposal or "", OTHER), points)
     _draw_axis(above, view)
-    _draw_legend(key, view, style)
+    key.axis("off")
+    key.legend(handles=handles, loc="center", ncols=columns, fontsize=8, frameon=False).set_in_layout(False)
     _draw_bound(below, view)
     return figure
 
@@ -127,10 +135,13 @@ def _draw_axis(axes: Any, view: PlanView) -> None:
         axes.axvline(_day(view.now), color=BLACK, linewidth=1.2, linestyle="dotted", gid="now", zorder=6)
 
 
-def _draw_legend(axes: Any, view: PlanView, style: dict[str, Style]) -> None:
+def _handles(view: PlanView, style: dict[str, Style]) -> list[Patch]:
+    """The marks of the key: of the proposals that are placed, and of what else is drawn."""
+    placed = {bar.proposal for bar in view.bars}
     handles = [
         Patch(facecolor=each.colour, hatch=each.pattern, edgecolor=BLACK, linewidth=0.4, label=name)
         for name, each in style.items()
+        if name in placed
     ]
     if any(bar.running for bar in view.bars):
         dashes = (0, (2, 1))
@@ -140,8 +151,7 @@ def _draw_legend(axes: Any, view: PlanView, style: dict[str, Style]) -> None:
     handles.append(Patch(facecolor=DAY, label="day" if known else "not usable"))
     if any(row.closed for row in view.rows):
         handles.append(Patch(facecolor=NIGHT, hatch="xxxx", edgecolor=GREY, linewidth=0, label="closed"))
-    axes.axis("off")
-    axes.legend(handles=handles, loc="center", ncols=min(10, len(handles)), fontsize=8, frameon=False)
+    return handles
 
 
 def _draw_bound(axes: Any, view: PlanView) -> None:

@@ -94,7 +94,7 @@ class Story:
         reply = exchange.reply
         if isinstance(reply, Refused):
             return
-        line = Document(exchange.command, f"line {reply.line}")
+        line = Document(exchange.command, f"line {reply.line}:")
         if isinstance(reply, Exported):
             self.exported = reply
         elif isinstance(reply, Balances):

@@ -37,7 +37,10 @@ class Bar:
 
 @dataclass(frozen=True)
 class PlanView:
-    """A plan: its telescopes, what is placed or running on them, and its value beside its bound."""
+    """A plan: its telescopes, what is placed or running on them, and its value beside its bound.
+
+    ``proposals`` are all that are known, placed or not, so that each keeps its colour from plan to plan.
+    """
 
     horizon: Span
     rows: tuple[Row, ...]
@@ -96,7 +99,7 @@ def plan_view(story: Story) -> PlanView:
         claim=claim,
         version=snapshot.version,
         now=story.now,
-        proposals=tuple(sorted({bar.proposal for bar in bars if bar.proposal is not None})),
+        proposals=tuple(sorted({owner.proposal for owner in story.owners.values()})),
     )
 
 

@@ -63,7 +63,7 @@ def _groups(path: str) -> Iterator[tuple[str, object]]:
     if isinstance(value, dict) and isinstance(value.get("results"), list):
         value = value["results"]
     if not isinstance(value, list):
-        yield path, value
+        yield f"{path}:", value
         return
     for place, each in enumerate(value):
         yield f"{path}: [{place}]", each

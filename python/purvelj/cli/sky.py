@@ -111,7 +111,7 @@ def _read_all(path: str, name: str, read: Callable[[Document], T]) -> list[T]:
     """The elements of a JSON list, or of the list that is the member with this name of an object."""
     value = read_json(path)
     if isinstance(value, dict):
-        value = Document(value, path).list(name)
+        value = Document(value, f"{path}:").list(name)
     items = elements(value, path, 1, 100_000)
     found = [read(Document(item, f"{path}: {name}[{place}]")) for place, item in enumerate(items)]
     if not found:
