@@ -12,14 +12,16 @@ from typing import Any, Iterator
 from campaign import CAMERAS, GRANTS, Campaign
 from purvelj import lines
 from purvelj.chart import draw_plan, draw_shares, plan_view, save, shares, story_of
-from purvelj.desk import Desk, Refusal
+from purvelj.desk import Desk, run_script
+from purvelj.documents import compact
 from purvelj.errors import PurveljError, Status
 from purvelj.lines import Line
 from purvelj.model import Claim
-from purvelj.moments import seconds_of
+from purvelj.moments import LAST, seconds_of
 from purvelj.pipes import DeskError
 from purvelj.portal import convert, summary, targets_of
 from purvelj.portal.notes import Note, Notes
+from purvelj.replies import Refused
 from purvelj.places import Limits, Site
 from purvelj.sky import Almanac
 from purvelj.tighten import tighten
@@ -32,10 +34,20 @@ OVERHEADS = {"front_ms": 90_000, "config_ms": 16_000, "readout_ms": 28_000, "cha
 NOT_BUILT = 39
 
 
+#: The most seconds that a reply may take, the time to plan included.
+TIMEOUT = 600.0
+
+
 class NotBuilt(DeskError):
     """The desk doesn't run a command yet."""
 
     status = Status.NOT_BUILT
+
+    def __init__(self, command: object) -> None:
+        super().__init__(
+            f"this desk doesn't run the command `{command}` yet (it is refused as {NOT_BUILT} NotBuilt), "
+            "so the example ends here; it goes on with a desk that does, or with another --program"
+        )
 
 
 def main() -> int:
@@ -64,10 +76,12 @@ def run(options: argparse.Namespace) -> None:
     """Sets a desk up, plans, tightens, lets five hours pass, plans again, and draws."""
     options.out.mkdir(parents=True, exist_ok=True)
     start = seconds_of(options.date, "--date")
-    with Desk(options.program) as desk:
+    script = list(set_up(options.date, options.days, start))
+    test_program(script, options.program)
+    with Desk(options.program, TIMEOUT) as desk:
         try:
-            for line in set_up(options.date, options.days, start):
-                send(desk, line)
+            for line in script:
+                desk.ask(line)
             publish_tightened(desk, options.seconds)
             picture(desk, options.out, "first")
             observe(desk, start + 5 * 3600)
@@ -108,17 +122,13 @@ def set_up(date: str, days: int, start: int) -> Iterator[Line]:
         yield conversion.line()
 
 
-def send(desk: Desk, line: Line) -> None:
-    """Sends a line; ``NotBuilt`` where the desk doesn't run its command yet."""
-    try:
-        desk.ask(line)
-    except Refusal as refusal:
-        if refusal.number != NOT_BUILT:
-            raise
-        raise NotBuilt(
-            f"this desk doesn't run the command `{line['do']}` yet (it is refused as {refusal.number} {refusal.name}), "
-            "so the example ends here; it goes on with a desk that does, or with another --program"
-        ) from None
+def test_program(script: list[Line], program: list[str] | None) -> None:
+    """Runs the script through the program at once; ``NotBuilt`` where a command isn't run yet."""
+    last = [lines.plan_line(), lines.export_line(), lines.balances_line(), lines.clock_line(LAST)]
+    history = run_script([compact(line) for line in [*script, *last]], program, TIMEOUT)
+    for exchange in history.exchanges:
+        if isinstance(exchange.reply, Refused) and exchange.reply.number == NOT_BUILT:
+            raise NotBuilt(exchange.command["do"])
 
 
 def publish_tightened(desk: Desk, seconds: float) -> None:

@@ -11,11 +11,11 @@ from typing import Iterable, Mapping, Sequence, TypeVar
 
 from purvelj import lines
 from purvelj.documents import compact, write_text
-from purvelj.history import Exchange, History
+from purvelj.history import Exchange, History, read_history
 from purvelj.lines import Line, Pairs
 from purvelj.model import Claim
 from purvelj.moments import Moment
-from purvelj.pipes import DeskError, LineProgram
+from purvelj.pipes import DeskEnded, DeskError, LineProgram, run_through
 from purvelj.replies import (
     Amended,
     Balance,
@@ -72,10 +72,30 @@ def default_program() -> list[str]:
     return [found, "session"]
 
 
+def run_script(
+    script: Sequence[str], program: Sequence[str] | None = None, timeout: float | None = None
+) -> History:
+    """Sends the lines of a script all at once to a session program, and gives what it replied.
+
+    This serves a program, too, that reads all its input before it replies. ``DeskEnded`` where it ends
+    with a status above 0, ``NoReply`` where it takes longer than ``timeout`` seconds.
+    """
+    command = default_program() if program is None else program
+    text = "".join(f"{line}\n" for line in script)
+    output, exit_status = run_through(command, text, timeout)
+    if exit_status:
+        raise DeskEnded(command, exit_status)
+    history = read_history(output, text)
+    if len(history.exchanges) != len(script):
+        raise DeskError(f"{len(script)} lines were sent, and {len(history.exchanges)} were replied to")
+    return history
+
+
 class Desk:
     """A session with a scheduler, a line and its replies at a time.
 
-    Use it in a ``with`` statement, which ends the program. Each command is a method that gives the
+    The program has to reply to each line before it reads the next. Use the desk in a ``with``
+    statement, which ends the program. Each command is a method that gives the
     typed reply, or raises ``Refusal``; ``DeskEnded`` where the program ended, ``NoReply`` where it
     took longer than ``timeout`` seconds, after which the desk is of no more use. A desk is for one
     thread.

@@ -64,7 +64,7 @@ def read_history(output: str, script: str | None = None, source: str = "output")
     pairs = [(text, read_reply(text, f"{source}, line {i}")) for i, text in enumerate(texts, start=1)]
     if len({reply.caller for _, reply in pairs}) > 1:
         raise DocumentError(source, "it has the replies to several callers")
-    sent = None if script is None else script.split("\n")
+    sent = None if script is None else script.removesuffix("\n").split("\n")
     exchanges = []
     for line, replied in groupby(pairs, key=lambda pair: pair[1].line):
         both = list(replied)

@@ -27,7 +27,7 @@ class DeskEnded(DeskError):
     """The session program ended while a reply was due; ``exit_status`` is negative for a signal."""
 
     def __init__(self, command: Sequence[str], exit_status: int) -> None:
-        super().__init__(f"{' '.join(command)} {_ending(exit_status)} before it replied")
+        super().__init__(f"{' '.join(command)} {_ending(exit_status)} before it replied to all lines")
         self.exit_status = exit_status
 
 
@@ -47,16 +47,7 @@ class LineProgram:
         self.command = tuple(command)
         self._timeout = timeout
         self._left = b""
-        try:
-            self._process = subprocess.Popen(
-                self.command,
-                stdin=subprocess.PIPE,
-                stdout=subprocess.PIPE,
-                bufsize=0,
-                start_new_session=True,
-            )
-        except OSError as fault:
-            raise DeskError(f"{self.command[0]} can't be started: {fault.strerror}") from None
+        self._process = _started(self.command)
         assert self._process.stdin and self._process.stdout
         self._input = self._process.stdin.fileno()
         self._output = self._process.stdout.fileno()
@@ -114,6 +105,30 @@ class LineProgram:
 
     def _ended(self) -> DeskEnded:
         return DeskEnded(self.command, self.close())
+
+
+def run_through(command: Sequence[str], text: str, timeout: float | None = None) -> tuple[str, int]:
+    """What a program writes, and the exit status that it ends with, where a text is its whole input.
+
+    ``NoReply`` where it takes longer than ``timeout`` seconds: it is ended then, with what it started.
+    """
+    process = _started(command)
+    try:
+        output, _ = process.communicate(text.encode("utf-8", "surrogatepass"), timeout)
+    except subprocess.TimeoutExpired:
+        raise NoReply(f"{' '.join(command)} didn't end within {timeout:g} s") from None
+    finally:
+        if process.poll() is None:
+            _end_group(process)
+    return output.decode("utf-8", "surrogatepass"), process.returncode
+
+
+def _started(command: Sequence[str]) -> subprocess.Popen[bytes]:
+    pipe = subprocess.PIPE
+    try:
+        return subprocess.Popen(command, stdin=pipe, stdout=pipe, bufsize=0, start_new_session=True)
+    except OSError as fault:
+        raise DeskError(f"{command[0]} can't be started: {fault.strerror}") from None
 
 
 def _stop(process: subprocess.Popen[bytes]) -> None:

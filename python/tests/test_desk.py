@@ -11,7 +11,7 @@ from pathlib import Path
 
 import pytest
 
-from purvelj.desk import Desk, Refusal, default_program
+from purvelj.desk import Desk, Refusal, default_program, run_script
 from purvelj.documents import compact
 from purvelj.errors import DocumentError, FileError
 from purvelj.history import read_history
@@ -188,7 +188,9 @@ def alive(process: int) -> bool:
 
 def test_a_program_that_ends_is_told_with_its_status() -> None:
     with Desk(program("import sys; sys.stdin.readline(); sys.exit(4)"), timeout=20) as desk:
-        with pytest.raises(DeskEnded, match=r"ended with status 4 \(it ran out of memory\) before it replied"):
+        with pytest.raises(
+            DeskEnded, match=r"ended with status 4 \(it ran out of memory\) before it replied to all lines"
+        ):
             desk.plan()
         with pytest.raises(DeskEnded, match="ended with status 4"):
             desk.plan()
@@ -267,6 +269,26 @@ def test_a_late_reply_is_not_taken_for_another_lines() -> None:
     with Desk(late, timeout=20) as desk:
         with pytest.raises(DeskError, match="a reply to line 7 came back to line 1"):
             desk.plan()
+
+
+READS_ALL = "import sys; text = sys.stdin.read(); exec(open(sys.argv[1]).read())"
+
+
+def test_a_script_runs_through_a_program_that_reads_all_first(tmp_path: Path) -> None:
+    (tmp_path / "reply.py").write_text(f"print({chr(10).join(REPLIES)!r})")
+    history = run_script(LINES, [*program(READS_ALL), str(tmp_path / "reply.py")], timeout=20)
+    assert (history.output().splitlines(), history.script().splitlines()) == (REPLIES, LINES)
+    with pytest.raises(DocumentError, match="it replies to line 9, and the script has 8 lines"):
+        run_script(LINES[:8], [*program(READS_ALL), str(tmp_path / "reply.py")], timeout=20)
+    with pytest.raises(DeskError, match="10 lines were sent, and 9 were replied to"):
+        run_script([*LINES, "[]"], [*program(READS_ALL), str(tmp_path / "reply.py")], timeout=20)
+
+
+def test_a_script_through_a_program_that_fails_or_goes_on() -> None:
+    with pytest.raises(DeskEnded, match="ended with status 5"):
+        run_script(LINES, program("import sys; sys.stdin.read(); sys.exit(5)"))
+    with pytest.raises(NoReply, match="didn't end within 0.3 s"):
+        run_script(LINES, program("import time; time.sleep(60)"), timeout=0.3)
 
 
 def test_the_program_is_chosen(monkeypatch: pytest.MonkeyPatch) -> None:
