@@ -34,10 +34,6 @@ OVERHEADS = {"front_ms": 90_000, "config_ms": 16_000, "readout_ms": 28_000, "cha
 NOT_BUILT = 39
 
 
-#: The most seconds that a reply may take, the time to plan included.
-TIMEOUT = 600.0
-
-
 class NotBuilt(DeskError):
     """The desk doesn't run a command yet."""
 
@@ -78,7 +74,7 @@ def run(options: argparse.Namespace) -> None:
     start = seconds_of(options.date, "--date")
     script = list(set_up(options.date, options.days, start))
     test_program(script, options.program)
-    with Desk(options.program, TIMEOUT) as desk:
+    with Desk(options.program) as desk:
         try:
             for line in script:
                 desk.ask(line)
@@ -125,7 +121,7 @@ def set_up(date: str, days: int, start: int) -> Iterator[Line]:
 def test_program(script: list[Line], program: list[str] | None) -> None:
     """Runs the script through the program at once; ``NotBuilt`` where a command isn't run yet."""
     last = [lines.plan_line(), lines.export_line(), lines.balances_line(), lines.clock_line(LAST)]
-    history = run_script([compact(line) for line in [*script, *last]], program, TIMEOUT)
+    history = run_script([compact(line) for line in [*script, *last]], program)
     for exchange in history.exchanges:
         if isinstance(exchange.reply, Refused) and exchange.reply.number == NOT_BUILT:
             raise NotBuilt(exchange.command["do"])

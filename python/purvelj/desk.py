@@ -38,6 +38,9 @@ from purvelj.replies import (
 
 R = TypeVar("R", bound=Reply)
 
+#: The most seconds that a reply may take, if nothing else is said: time to build a program, or to plan.
+TIMEOUT = 600.0
+
 
 class Refusal(DeskError):
     """The desk refused a line and is as before.
@@ -73,7 +76,7 @@ def default_program() -> list[str]:
 
 
 def run_script(
-    script: Sequence[str], program: Sequence[str] | None = None, timeout: float | None = None
+    script: Sequence[str], program: Sequence[str] | None = None, timeout: float | None = TIMEOUT
 ) -> History:
     """Sends the lines of a script all at once to a session program, and gives what it replied.
 
@@ -97,13 +100,13 @@ class Desk:
     The program has to reply to each line before it reads the next. Use the desk in a ``with``
     statement, which ends the program. Each command is a method that gives the
     typed reply, or raises ``Refusal``; ``DeskEnded`` where the program ended, ``NoReply`` where it
-    took longer than ``timeout`` seconds, after which the desk is of no more use. A desk is for one
+    took longer than ``timeout`` seconds (None is no limit), after which the desk is of no more use. A desk is for one
     thread.
 
     All that was sent is kept in ``history``; ``save`` writes it as a script, and ``replay`` sends one.
     """
 
-    def __init__(self, program: Sequence[str] | None = None, timeout: float | None = None) -> None:
+    def __init__(self, program: Sequence[str] | None = None, timeout: float | None = TIMEOUT) -> None:
         self._exchanges: list[Exchange] = []
         self._program = LineProgram(default_program() if program is None else program, timeout)
 

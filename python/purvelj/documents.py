@@ -48,15 +48,6 @@ def read_json(path: str | Path) -> Any:
     return parse(read_text(path), _source(path))
 
 
-def read_lines(path: str | Path) -> list[tuple[str, Any]]:
-    """The JSON values of a file that has one a line, each with the words that name its place."""
-    source = _source(path)
-    named = (
-        (f"{source}, line {number}", line) for number, line in enumerate(read_text(path).split("\n"), start=1)
-    )
-    return [(place, parse(line, place)) for place, line in named if line.strip()]
-
-
 def write_text(path: str | Path, text: str) -> None:
     """Writes a file, or standard output where the path is ``-``."""
     try:

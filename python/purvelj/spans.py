@@ -67,8 +67,3 @@ def minus(first: Spans, second: Spans) -> Spans:
 def covers(spans: Spans, span: Span) -> bool:
     """Whether every second of the span is in the set."""
     return any(piece.start <= span.start and span.end <= piece.end for piece in spans)
-
-
-def total(spans: Iterable[Span]) -> int:
-    """How many seconds the spans have together, where no two overlap."""
-    return sum(span.seconds for span in spans)

@@ -21,7 +21,10 @@ def add_commands(commands: Commands) -> None:
         help="the session program (default: $PURVELJ_PROGRAM, or netsched session)",
     )
     replay.add_argument(
-        "--timeout", type=ranged(float, 0, 1e6), metavar="SECONDS", help="the most that it may take"
+        "--timeout",
+        type=ranged(float, 0, 1e6),
+        metavar="SECONDS",
+        help="the most that it may take (default: no limit)",
     )
     replay.set_defaults(run=run_replay)
 

@@ -2,9 +2,9 @@
 
 Prices tell for each start how much a plan that has it can be worth at most. Starts that no plan better
 than the best so far can have are left out. Where few enough are left, one program is over all of them,
-and its plan is the best there is. Else three kinds of program are solved: over the starts that the
-relaxation uses; over runs, for each usable span of a telescope as a whole; and over parts of the
-horizon, one after another, with all else kept.
+and its solution, if there is time for it, is the best plan there is. Else three kinds of program are
+solved: over the starts that the relaxation uses; over runs, for each usable span of a telescope as a
+whole; and over parts of the horizon, one after another, with all else kept.
 """
 
 from __future__ import annotations

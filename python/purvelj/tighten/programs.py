@@ -188,7 +188,7 @@ def seconds_of_requests(snapshot: Snapshot) -> Ints:
 class Program:
     """Columns to be chosen so that what they are worth is greatest, within rows.
 
-    The last ``whole`` columns beside the starts, those of ``AND`` groups, are at most 1.
+    The first columns are those with a worth; the last ``ands`` are those of ``AND`` groups, at most 1.
     """
 
     worth: Floats
@@ -212,7 +212,6 @@ class Program:
             raise NoSolution("the time was over before HiGHS was asked")
         matrix, most, equal = self._stacked()
         scale = self._scale()
-        result = None
         for method in ("highs-ds", "highs-ipm") if exact else ("highs-ipm", "highs-ds"):
             result = linprog(
                 -scale * self._objective(),
@@ -224,10 +223,12 @@ class Program:
                 method=method,
                 options={"time_limit": seconds},
             )
-            if result.status in (DONE, OUT_OF_TIME):
+            if result.status == OUT_OF_TIME:
+                raise NoSolution(f"HiGHS gave no solution of the relaxation within {seconds:.0f} s")
+            if result.status == DONE:
                 break
-        if result is None or result.status != DONE:
-            raise NoSolution(f"HiGHS gave no solution of the relaxation within {seconds:.0f} s")
+        else:
+            raise NoSolution(f"HiGHS gave no solution of the relaxation: {result.message}")
         prices = np.empty(len(most))
         prices[equal] = -result.eqlin.marginals / scale
         prices[~equal] = -result.ineqlin.marginals / scale

@@ -26,8 +26,6 @@ NEAREST_AT_FIRST, NEAREST = 4, 2
 WAYS = (0.2, 0.5, 1.0)
 #: The search ends where the bound is nearer to the relaxation's value than this part of it.
 NEAR = 1e-5
-#: At most so many rounds of steps by one are made at the end.
-LAST_ROUNDS = 40
 
 
 class Search:
