@@ -6,6 +6,7 @@ use Rattle.plan_base.specs.declared.parts.GroupPart.{GroupPart}
 use Rattle.plan_base.specs.declared.parts.Op.TheVariants.{OneOf, And}
 use Rattle.plan_base.specs.declared.parts.Sky.{Sky}
 use Rattle.plan_base.specs.declared.claim.Placement.{Placement}
+use Rattle.plan_base.specs.Limits.{most_seconds, most_value}
 use Rattle.plan_base.specs.Requests.{IsKnown, group_of, seconds_of, request_value, fade_of, windows_of, telescopes_of, targets_of}
 use Rattle.plan_base.specs.Snapshot.{IsMoment}
 use Rattle.plan_base.specs.Starts.{site_of}
@@ -28,8 +29,8 @@ pub record IsRequestOf (s : Parts) (r : ℕ) (q : RequestPart) : Type 0 where
 -- the numbers of a request lie in their ranges, and its telescopes are among n
 pub record IsRequestInRanges (n : ℕ) (q : RequestPart) : Type 0 where
   pub some_seconds : 1 ≤ q.seconds
-  pub most_seconds : q.seconds ≤ 86400
-  pub most_value : q.value ≤ 288000000
+  pub most_seconds : q.seconds ≤ most_seconds
+  pub most_value : q.value ≤ most_value
   pub most_fade : q.fade ≤ 1000
   pub moments : All (λ w. IsMoment w.from.0) q.windows
   pub telescopes : All (λ t. t.0 < n) q.telescopes
@@ -69,4 +70,4 @@ HoldsOfGroup Q groups counts g = (x : GroupPart) × (slice_get groups g ≡ Some
 pub record AreQuotaSums (s : Parts) (plan : List Placement) (sums : List ℕ) : Type 0 where
   pub quotas : length sums ≡ length s.quotas
   pub each : (q : ℕ) → q < length s.quotas → slice_index_or sums q 0 ≡ quota_seconds s q (requests_of plan)
-  pub most : (q : ℕ) → slice_index_or sums q 0 ≤ length plan * 86400
+  pub most : (q : ℕ) → slice_index_or sums q 0 ≤ length plan * most_seconds

@@ -1,6 +1,7 @@
 // Seconds as slices, values that fade by the slice, and the larger of two.
 
 ghost use Rattle.std.specs.Prelude.{◌≡◌, ◌≤◌, ◌⊎◌, ◌≤ℤ◌, map, fold, min, All};
+ghost use Rattle.plan_base.specs.Limits.{most_value};
 ghost use Rattle.plan_base.specs.Snapshot.{IsMoment};
 ghost use Rattle.plan_base.specs.Starts.{slices_for, least_of, faded};
 
@@ -21,10 +22,10 @@ pub fn slices_for(len: u64, seconds: u64) -> u64
 /// What is left of a value after so many slices of delay, where it loses `fade` thousandths with each (0 to 1,000):
 /// never below 1.
 pub fn faded(value: u64, fade: u64, delay: u64) -> u64
-    requires value { value ≤ 288000000 }
+    requires value { value ≤ most_value }
     requires fade { fade ≤ 1000 }
     ensures value { result ≡ faded value fade delay }
-    ensures most { result ≤ 288000000 }
+    ensures most { result ≤ most_value }
 {
     value
         .saturating_sub(value * fade * delay.min(1000) / 1000)
