@@ -1,4 +1,4 @@
-// Small snapshots, and their bests.
+// Small snapshots, and their bests. What is made is boxed, so that no proof looks into it.
 
 ghost use Rattle.std.specs.Prelude.{◌≡◌, ◌↔◌, IsTrue, true, All};
 ghost use Rattle.plan_base.specs.Verdict.{IsPriceInRange};
@@ -55,20 +55,23 @@ fn targets(alloc: Global, target: Option<u16>) -> Result<ListOf<TargetNo>, Alloc
     }
 }
 
-fn request(alloc: Global, number: u32, wish: &Wish) -> Result<RequestPart, AllocError> {
-    Ok(RequestPart {
-        request: RequestNo(number),
-        seconds: wish.seconds,
-        value: wish.value,
-        windows: spans(alloc, wish.windows.as_slice())?,
-        telescopes: only(alloc, TelescopeNo(0))?,
-        targets: targets(alloc, wish.target)?,
-        fade: wish.fade,
-    })
+fn request(alloc: Global, number: u32, wish: &Wish) -> Result<Box<RequestPart>, AllocError> {
+    Ok(Box::new(
+        alloc,
+        RequestPart {
+            request: RequestNo(number),
+            seconds: wish.seconds,
+            value: wish.value,
+            windows: spans(alloc, wish.windows.as_slice())?,
+            telescopes: only(alloc, TelescopeNo(0))?,
+            targets: targets(alloc, wish.target)?,
+            fade: wish.fade,
+        },
+    )?)
 }
 
 /// The groups of the wishes, numbered from 1 on, with the requests of the same numbers.
-fn groups(alloc: Global, wishes: &[Wish]) -> Result<ListOf<GroupPart>, AllocError> {
+fn groups(alloc: Global, wishes: &[Wish]) -> Result<Box<ListOf<GroupPart>>, AllocError> {
     let mut groups = ListOf::new(alloc);
     let mut number = 0u32;
     for wish in wishes {
@@ -76,15 +79,15 @@ fn groups(alloc: Global, wishes: &[Wish]) -> Result<ListOf<GroupPart>, AllocErro
         groups.push(GroupPart {
             group: GroupNo(number),
             op: Op::Single,
-            requests: only(alloc, request(alloc, number, wish)?)?,
+            requests: only(alloc, Box::into_inner(request(alloc, number, wish)?))?,
             quota: None,
         })?;
     }
-    Ok(groups)
+    Ok(Box::new(alloc, groups)?)
 }
 
 /// Skies of targets 1 and 2 at site 0.
-fn skies(alloc: Global) -> Result<ListOf<Sky>, AllocError> {
+fn skies(alloc: Global) -> Result<Box<ListOf<Sky>>, AllocError> {
     let mut skies = ListOf::new(alloc);
     skies.push(Sky {
         target: TargetNo(1),
@@ -96,32 +99,35 @@ fn skies(alloc: Global) -> Result<ListOf<Sky>, AllocError> {
         site: SiteNo(0),
         spans: spans(alloc, [(0, 600), (900, 3_600)].as_slice())?,
     })?;
-    Ok(skies)
+    Ok(Box::new(alloc, skies)?)
 }
 
 /// Twelve slices of 300 seconds from slice 0 on, telescope 0 with these usable spans, and a request for each wish.
-fn parts(alloc: Global, usable: &[(u64, u64)], wishes: &[Wish]) -> Result<Parts, AllocError> {
+fn parts(alloc: Global, usable: &[(u64, u64)], wishes: &[Wish]) -> Result<Box<Parts>, AllocError> {
     let telescope = TelescopePart {
         site: SiteNo(0),
         usable: spans(alloc, usable)?,
     };
-    Ok(Parts {
-        version: 0,
-        len: 300,
-        first: SliceNo(0),
-        slices: 12,
-        telescopes: only(alloc, telescope)?,
-        skies: skies(alloc)?,
-        groups: groups(alloc, wishes)?,
-        quotas: ListOf::new(alloc),
-    })
+    Ok(Box::new(
+        alloc,
+        Parts {
+            version: 0,
+            len: 300,
+            first: SliceNo(0),
+            slices: 12,
+            telescopes: only(alloc, telescope)?,
+            skies: Box::into_inner(skies(alloc)?),
+            groups: Box::into_inner(groups(alloc, wishes)?),
+            quotas: ListOf::new(alloc),
+        },
+    )?)
 }
 
-fn snapshot(alloc: Global, parts: Parts) -> Result<Snapshot, Fail> {
+fn snapshot(alloc: Global, parts: Box<Parts>) -> Result<Box<Snapshot>, Fail> {
     if !parts.is_in_ranges() {
         return Err(Fail::new("a number is out of its range"));
     }
-    Ok(Snapshot::build(alloc, parts)?)
+    Ok(Box::new(alloc, Snapshot::build(alloc, Box::into_inner(parts))?)?)
 }
 
 fn is_in_range(price: i64) -> bool

@@ -30,8 +30,11 @@ fn group(alloc: Global, text: &str) -> Result<GroupDoc, GroupFault> {
     read_group(alloc, &doc)
 }
 
-/// The fault of a document in which a piece was replaced, if it has one.
-fn fault_with(alloc: Global, text: &str, old: &str, new: &str) -> Result<Option<GroupFault>, Fail> {
+/// What is answered to a document in which a piece was replaced: that it is read, or the fault.
+fn answer_with(alloc: Global, text: &str, old: &str, new: &str) -> Result<String, Fail> {
     let changed = text.replacen(alloc, old, new, 1)?;
-    Ok(group(alloc, changed.as_str()).err())
+    match group(alloc, changed.as_str()) {
+        Ok(_) => Ok(String::from_str(alloc, "read")?),
+        Err(fault) => Ok(format!(in alloc; "{fault}")?),
+    }
 }

@@ -38,33 +38,39 @@ fn quota_prices(alloc: Global, price: Option<u32>) -> Result<QuotaPrices, AllocE
 }
 
 /// The one group of a pair.
-fn pair_group(alloc: Global, pair: &Pair) -> Result<GroupPart, AllocError> {
+fn pair_group(alloc: Global, pair: &Pair) -> Result<Box<GroupPart>, AllocError> {
     let mut requests = ListOf::new(alloc);
-    requests.push(request(alloc, 1, &SHORT)?)?;
-    requests.push(request(alloc, 2, &SHORT)?)?;
-    Ok(GroupPart {
-        group: GroupNo(1),
-        op: pair.op,
-        requests,
-        quota: pair.quota.map(|_| 0),
-    })
+    requests.push(Box::into_inner(request(alloc, 1, &SHORT)?))?;
+    requests.push(Box::into_inner(request(alloc, 2, &SHORT)?))?;
+    Ok(Box::new(
+        alloc,
+        GroupPart {
+            group: GroupNo(1),
+            op: pair.op,
+            requests,
+            quota: pair.quota.map(|_| 0),
+        },
+    )?)
 }
 
-fn pair_parts(alloc: Global, pair: &Pair) -> Result<Parts, AllocError> {
+fn pair_parts(alloc: Global, pair: &Pair) -> Result<Box<Parts>, AllocError> {
     let telescope = TelescopePart {
         site: SiteNo(0),
         usable: spans(alloc, ALL_DAY.as_slice())?,
     };
-    Ok(Parts {
-        version: 0,
-        len: 300,
-        first: SliceNo(0),
-        slices: 12,
-        telescopes: only(alloc, telescope)?,
-        skies: ListOf::new(alloc),
-        groups: only(alloc, pair_group(alloc, pair)?)?,
-        quotas: quotas(alloc, pair.quota)?,
-    })
+    Ok(Box::new(
+        alloc,
+        Parts {
+            version: 0,
+            len: 300,
+            first: SliceNo(0),
+            slices: 12,
+            telescopes: only(alloc, telescope)?,
+            skies: ListOf::new(alloc),
+            groups: only(alloc, Box::into_inner(pair_group(alloc, pair)?))?,
+            quotas: quotas(alloc, pair.quota)?,
+        },
+    )?)
 }
 
 fn is_small(price: u32) -> bool

@@ -1,4 +1,4 @@
-// Small desks, and claims on them that are certified.
+// Small desks, and claims on them that are certified. What is made is boxed, so that no proof looks into it.
 
 use super::only;
 use plan_base::{
@@ -145,7 +145,7 @@ fn telescope_numbers(alloc: Global, count: u16) -> Result<ListOf<TelescopeNo>, A
     Ok(numbers)
 }
 
-fn telescopes(alloc: Global, desk: &Desk) -> Result<ListOf<TelescopePart>, AllocError> {
+fn telescopes(alloc: Global, desk: &Desk) -> Result<Box<ListOf<TelescopePart>>, AllocError> {
     let mut telescopes = ListOf::new(alloc);
     for _ in 0..desk.telescopes {
         telescopes.push(TelescopePart {
@@ -153,7 +153,7 @@ fn telescopes(alloc: Global, desk: &Desk) -> Result<ListOf<TelescopePart>, Alloc
             usable: only(alloc, span(desk.opens, HORIZON))?,
         })?;
     }
-    Ok(telescopes)
+    Ok(Box::new(alloc, telescopes)?)
 }
 
 fn request(alloc: Global, desk: &Desk, number: u32, end: u64) -> Result<RequestPart, AllocError> {
@@ -169,39 +169,50 @@ fn request(alloc: Global, desk: &Desk, number: u32, end: u64) -> Result<RequestP
 }
 
 /// A group with a request for each window, numbered like the group and on.
-fn group(alloc: Global, desk: &Desk, number: u32, ends: &[u64]) -> Result<GroupPart, AllocError> {
+fn group(
+    alloc: Global,
+    desk: &Desk,
+    number: u32,
+    ends: &[u64],
+) -> Result<Box<GroupPart>, AllocError> {
     let mut requests = ListOf::new(alloc);
     let mut next = number;
     for end in ends {
         requests.push(request(alloc, desk, next, *end)?)?;
         next = next.saturating_add(1);
     }
-    Ok(GroupPart {
-        group: GroupNo(number),
-        op: desk.op,
-        requests,
-        quota: match desk.quota {
-            Some(_) => Some(0),
-            None => None,
+    Ok(Box::new(
+        alloc,
+        GroupPart {
+            group: GroupNo(number),
+            op: desk.op,
+            requests,
+            quota: match desk.quota {
+                Some(_) => Some(0),
+                None => None,
+            },
         },
-    })
+    )?)
 }
 
 /// A group for each window, numbered from 1 on.
-fn singles(alloc: Global, desk: &Desk) -> Result<ListOf<GroupPart>, AllocError> {
+fn singles(alloc: Global, desk: &Desk) -> Result<Box<ListOf<GroupPart>>, AllocError> {
     let mut groups = ListOf::new(alloc);
     let mut number = 1u32;
     for end in desk.ends {
-        groups.push(group(alloc, desk, number, [*end].as_slice())?)?;
+        groups.push(Box::into_inner(group(alloc, desk, number, [*end].as_slice())?))?;
         number = number.saturating_add(1);
     }
-    Ok(groups)
+    Ok(Box::new(alloc, groups)?)
 }
 
-fn groups(alloc: Global, desk: &Desk) -> Result<ListOf<GroupPart>, AllocError> {
+fn groups(alloc: Global, desk: &Desk) -> Result<Box<ListOf<GroupPart>>, AllocError> {
     match desk.op {
         Op::Single => singles(alloc, desk),
-        Op::Many | Op::OneOf | Op::And => only(alloc, group(alloc, desk, 1, desk.ends)?),
+        Op::Many | Op::OneOf | Op::And => {
+            let group = group(alloc, desk, 1, desk.ends)?;
+            Ok(Box::new(alloc, only(alloc, Box::into_inner(group))?)?)
+        }
     }
 }
 
@@ -212,33 +223,39 @@ fn quotas(alloc: Global, desk: &Desk) -> Result<ListOf<u64>, AllocError> {
     }
 }
 
-fn parts(alloc: Global, desk: &Desk) -> Result<Parts, AllocError> {
+fn parts(alloc: Global, desk: &Desk) -> Result<Box<Parts>, AllocError> {
     let sky = Sky {
         target: TargetNo(0),
         site: SiteNo(0),
         spans: only(alloc, span(0, HORIZON))?,
     };
-    Ok(Parts {
-        version: 7,
-        len: 300,
-        first: SliceNo(0),
-        slices: 12,
-        telescopes: telescopes(alloc, desk)?,
-        skies: only(alloc, sky)?,
-        groups: groups(alloc, desk)?,
-        quotas: quotas(alloc, desk)?,
-    })
+    Ok(Box::new(
+        alloc,
+        Parts {
+            version: 7,
+            len: 300,
+            first: SliceNo(0),
+            slices: 12,
+            telescopes: Box::into_inner(telescopes(alloc, desk)?),
+            skies: only(alloc, sky)?,
+            groups: Box::into_inner(groups(alloc, desk)?),
+            quotas: quotas(alloc, desk)?,
+        },
+    )?)
 }
 
-pub(super) fn snapshot(alloc: Global, desk: &Desk) -> Result<Snapshot, Fail> {
+pub(super) fn snapshot(alloc: Global, desk: &Desk) -> Result<Box<Snapshot>, Fail> {
     let parts = parts(alloc, desk)?;
     if !parts.is_in_ranges() {
         return Err(Fail::new("a number is out of its range"));
     }
-    Ok(Snapshot::build(alloc, parts)?)
+    Ok(Box::new(alloc, Snapshot::build(alloc, Box::into_inner(parts))?)?)
 }
 
-fn placements(alloc: Global, placed: &[(u32, u16, u32)]) -> Result<ListOf<Placement>, AllocError> {
+fn placements(
+    alloc: Global,
+    placed: &[(u32, u16, u32)],
+) -> Result<Box<ListOf<Placement>>, AllocError> {
     let mut placements = ListOf::new(alloc);
     for (request, telescope, slice) in placed {
         placements.push(Placement {
@@ -247,17 +264,20 @@ fn placements(alloc: Global, placed: &[(u32, u16, u32)]) -> Result<ListOf<Placem
             slice: SliceNo(*slice),
         })?;
     }
-    Ok(placements)
+    Ok(Box::new(alloc, placements)?)
 }
 
-pub(super) fn claim(alloc: Global, case: &Case) -> Result<Claim, AllocError> {
+pub(super) fn claim(alloc: Global, case: &Case) -> Result<Box<Claim>, AllocError> {
     let prices = ListOf::from_vec(Vec::from_slice(alloc, case.prices)?);
     let quota_prices = ListOf::from_vec(Vec::from_slice(alloc, case.quota_prices)?);
-    Ok(Claim {
-        placements: placements(alloc, case.placements)?,
-        prices: Prices(prices),
-        quota_prices: QuotaPrices(quota_prices),
-        value: case.value,
-        bound: case.bound,
-    })
+    Ok(Box::new(
+        alloc,
+        Claim {
+            placements: Box::into_inner(placements(alloc, case.placements)?),
+            prices: Prices(prices),
+            quota_prices: QuotaPrices(quota_prices),
+            value: case.value,
+            bound: case.bound,
+        },
+    )?)
 }

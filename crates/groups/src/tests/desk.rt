@@ -1,4 +1,5 @@
-// The snapshots of the tests: two telescopes that can be used at any time, and requests that may start in any slice.
+// The snapshots of the tests: two telescopes that can be used at any time, and requests that may start in any slice. What
+// the tests make is boxed, so that no proof looks into it.
 
 ghost use Rattle.std.specs.Prelude.{◌≡◌, ◌+◌, ◌*◌, ◌≤◌, ◌↔◌, [], IsTrue, Contains};
 ghost use Rattle.plan_base.specs.Starts.{slices_for, IsPossibleStart};
@@ -35,46 +36,48 @@ pub(super) fn snapshot_of(
     alloc: Global,
     asked: &[Asked],
     quotas: &[u64],
-) -> Result<Snapshot, Fail> {
+) -> Result<Box<Snapshot>, Fail> {
     let parts = parts_of(alloc, asked, quotas)?;
     assert!(rt; parts.is_in_ranges());
-    Ok(Snapshot::build(alloc, parts)?)
+    let snapshot = Snapshot::build(alloc, Box::into_inner(parts))?;
+    Ok(Box::new(alloc, snapshot)?)
 }
 
-fn parts_of(alloc: Global, asked: &[Asked], quotas: &[u64]) -> Result<Parts, AllocError> {
-    Ok(Parts {
+fn parts_of(alloc: Global, asked: &[Asked], quotas: &[u64]) -> Result<Box<Parts>, AllocError> {
+    let parts = Parts {
         version: 0,
         len: LEN,
         first: SliceNo(FIRST),
         slices: SLICES,
-        telescopes: telescopes(alloc)?,
+        telescopes: Box::into_inner(telescopes(alloc)?),
         skies: ListOf::new(alloc),
-        groups: groups_of(alloc, asked)?,
+        groups: Box::into_inner(groups_of(alloc, asked)?),
         quotas: ListOf::from_vec(Vec::from_slice(alloc, quotas)?),
-    })
+    };
+    Ok(Box::new(alloc, parts)?)
 }
 
-fn telescopes(alloc: Global) -> Result<ListOf<TelescopePart>, AllocError> {
+fn telescopes(alloc: Global) -> Result<Box<ListOf<TelescopePart>>, AllocError> {
     let mut telescopes = ListOf::new(alloc);
     for _ in 0..2 {
         telescopes.push(TelescopePart {
             site: SiteNo(0),
-            usable: whole_horizon(alloc)?,
+            usable: Box::into_inner(whole_horizon(alloc)?),
         })?;
     }
-    Ok(telescopes)
+    Ok(Box::new(alloc, telescopes)?)
 }
 
-fn whole_horizon(alloc: Global) -> Result<ListOf<Span>, AllocError> {
+fn whole_horizon(alloc: Global) -> Result<Box<ListOf<Span>>, AllocError> {
     let mut spans = ListOf::new(alloc);
     spans.push(Span {
         from: Sec(u64::from(FIRST * LEN)),
         to: Sec(u64::from((FIRST + SLICES) * LEN)),
     })?;
-    Ok(spans)
+    Ok(Box::new(alloc, spans)?)
 }
 
-fn groups_of(alloc: Global, asked: &[Asked]) -> Result<ListOf<GroupPart>, AllocError> {
+fn groups_of(alloc: Global, asked: &[Asked]) -> Result<Box<ListOf<GroupPart>>, AllocError> {
     let mut groups = ListOf::new(alloc);
     let mut group = 0u32;
     let mut request = 1u32;
@@ -83,11 +86,11 @@ fn groups_of(alloc: Global, asked: &[Asked]) -> Result<ListOf<GroupPart>, AllocE
         groups.push(GroupPart {
             group: GroupNo(group),
             op: one.op,
-            requests: requests_of(alloc, &mut request, one.seconds)?,
+            requests: Box::into_inner(requests_of(alloc, &mut request, one.seconds)?),
             quota: one.quota,
         })?;
     }
-    Ok(groups)
+    Ok(Box::new(alloc, groups)?)
 }
 
 /// The requests of a group, with the next numbers.
@@ -95,28 +98,29 @@ fn requests_of(
     alloc: Global,
     next: &mut u32,
     seconds: &[u32],
-) -> Result<ListOf<RequestPart>, AllocError> {
+) -> Result<Box<ListOf<RequestPart>>, AllocError> {
     let mut requests = ListOf::new(alloc);
     for seconds in seconds {
-        requests.push(request(alloc, *next, *seconds)?)?;
+        requests.push(Box::into_inner(request(alloc, *next, *seconds)?))?;
         *next = next.saturating_add(2);
     }
-    Ok(requests)
+    Ok(Box::new(alloc, requests)?)
 }
 
-fn request(alloc: Global, number: u32, seconds: u32) -> Result<RequestPart, AllocError> {
+fn request(alloc: Global, number: u32, seconds: u32) -> Result<Box<RequestPart>, AllocError> {
     let mut telescopes = ListOf::new(alloc);
     telescopes.push(TelescopeNo(0))?;
     telescopes.push(TelescopeNo(1))?;
-    Ok(RequestPart {
+    let request = RequestPart {
         request: RequestNo(number),
         seconds,
         value: 1,
-        windows: whole_horizon(alloc)?,
+        windows: Box::into_inner(whole_horizon(alloc)?),
         telescopes,
         targets: ListOf::new(alloc),
         fade: 0,
-    })
+    };
+    Ok(Box::new(alloc, request)?)
 }
 
 /// Whether a placement is a possible start of a request without targets; false where it is none.

@@ -24,7 +24,7 @@ struct Row<'a> {
 }
 
 /// A group that names no quota, two that name the first and one that names the second.
-fn snapshot(rt: &impl Abort, alloc: Global) -> Result<Snapshot, Fail> {
+fn snapshot(rt: &impl Abort, alloc: Global) -> Result<Box<Snapshot>, Fail> {
     let groups = [
         Asked {
             op: Op::Single,

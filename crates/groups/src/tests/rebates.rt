@@ -23,7 +23,7 @@ struct Row<'a> {
 }
 
 /// A group of this kind between two groups of one request each.
-fn group_of(rt: &impl Abort, alloc: Global, op: Op, count: usize) -> Result<Snapshot, Fail> {
+fn group_of(rt: &impl Abort, alloc: Global, op: Op, count: usize) -> Result<Box<Snapshot>, Fail> {
     let seconds = vec![in alloc; 300; count]?;
     let neighbour = Asked {
         op: Op::Single,
@@ -39,14 +39,14 @@ fn group_of(rt: &impl Abort, alloc: Global, op: Op, count: usize) -> Result<Snap
 }
 
 /// The prices of a group between two neighbours of the greatest price.
-fn prices_of(alloc: Global, group: &[i64]) -> Result<Prices, AllocError> {
+fn prices_of(alloc: Global, group: &[i64]) -> Result<Box<Prices>, AllocError> {
     let mut prices = ListOf::new(alloc);
     prices.push(MOST)?;
     for price in group {
         prices.push(*price)?;
     }
     prices.push(MOST)?;
-    Ok(Prices(prices))
+    Ok(Box::new(alloc, Prices(prices))?)
 }
 
 fn are_in_range(prices: &[i64]) -> bool

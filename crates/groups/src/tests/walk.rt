@@ -178,7 +178,7 @@ fn lowest_open_and(plan: &[Placement]) -> Option<GroupNo> {
 }
 
 /// The snapshot of the groups and requests.
-fn snapshot(rt: &impl Abort, alloc: Global) -> Result<Snapshot, Fail> {
+fn snapshot(rt: &impl Abort, alloc: Global) -> Result<Box<Snapshot>, Fail> {
     let seconds = [
         [300].as_slice(),
         &[600, 301, 1],

@@ -1,4 +1,5 @@
-// The snapshots of the tests: twelve slices of 300 seconds, and requests of 300 seconds with a value of 50,000.
+// The snapshots of the tests: twelve slices of 300 seconds, and requests of 300 seconds with a value of 50,000. What is
+// made is boxed, so that no proof looks into it.
 
 use plan_base::{
     GroupNo, GroupPart, ListOf, Op, Parts, RequestNo, RequestPart, Sec, SiteNo, SliceNo, Snapshot,
@@ -42,26 +43,33 @@ pub(super) const ONE: Desk = Desk {
 };
 
 /// The snapshot of a desk. Groups and requests are numbered from 1 on.
-pub(super) fn snapshot_of(rt: &impl Abort, alloc: Global, desk: &Desk) -> Result<Snapshot, Fail> {
+pub(super) fn snapshot_of(
+    rt: &impl Abort,
+    alloc: Global,
+    desk: &Desk,
+) -> Result<Box<Snapshot>, Fail> {
     let parts = parts_of(alloc, desk)?;
     assert!(rt; parts.is_in_ranges());
-    Ok(Snapshot::build(alloc, parts)?)
+    Ok(Box::new(alloc, Snapshot::build(alloc, Box::into_inner(parts))?)?)
 }
 
-fn parts_of(alloc: Global, desk: &Desk) -> Result<Parts, AllocError> {
-    Ok(Parts {
-        version: 0,
-        len: 300,
-        first: SliceNo(0),
-        slices: 12,
-        telescopes: telescopes_of(alloc, desk)?,
-        skies: ListOf::new(alloc),
-        groups: groups_of(alloc, desk)?,
-        quotas: quotas_of(alloc, desk)?,
-    })
+fn parts_of(alloc: Global, desk: &Desk) -> Result<Box<Parts>, AllocError> {
+    Ok(Box::new(
+        alloc,
+        Parts {
+            version: 0,
+            len: 300,
+            first: SliceNo(0),
+            slices: 12,
+            telescopes: Box::into_inner(telescopes_of(alloc, desk)?),
+            skies: ListOf::new(alloc),
+            groups: Box::into_inner(groups_of(alloc, desk)?),
+            quotas: quotas_of(alloc, desk)?,
+        },
+    )?)
 }
 
-fn telescopes_of(alloc: Global, desk: &Desk) -> Result<ListOf<TelescopePart>, AllocError> {
+fn telescopes_of(alloc: Global, desk: &Desk) -> Result<Box<ListOf<TelescopePart>>, AllocError> {
     let mut telescopes = ListOf::new(alloc);
     for _ in 0..desk.telescopes {
         telescopes.push(TelescopePart {
@@ -69,7 +77,7 @@ fn telescopes_of(alloc: Global, desk: &Desk) -> Result<ListOf<TelescopePart>, Al
             usable: span(alloc, desk.usable)?,
         })?;
     }
-    Ok(telescopes)
+    Ok(Box::new(alloc, telescopes)?)
 }
 
 fn span(alloc: Global, ends: (u64, u64)) -> Result<ListOf<Span>, AllocError> {
@@ -89,7 +97,7 @@ fn quotas_of(alloc: Global, desk: &Desk) -> Result<ListOf<u64>, AllocError> {
     Ok(quotas)
 }
 
-fn groups_of(alloc: Global, desk: &Desk) -> Result<ListOf<GroupPart>, AllocError> {
+fn groups_of(alloc: Global, desk: &Desk) -> Result<Box<ListOf<GroupPart>>, AllocError> {
     let mut groups = ListOf::new(alloc);
     let mut number = 0u32;
     let mut request = 0u32;
@@ -98,11 +106,11 @@ fn groups_of(alloc: Global, desk: &Desk) -> Result<ListOf<GroupPart>, AllocError
         groups.push(GroupPart {
             group: GroupNo(number),
             op: *op,
-            requests: requests_of(alloc, desk, &mut request, *count)?,
+            requests: Box::into_inner(requests_of(alloc, desk, &mut request, *count)?),
             quota: desk.quota.map(|_| 0),
         })?;
     }
-    Ok(groups)
+    Ok(Box::new(alloc, groups)?)
 }
 
 /// So many requests, with the numbers after the last one.
@@ -111,27 +119,30 @@ fn requests_of(
     desk: &Desk,
     last: &mut u32,
     count: usize,
-) -> Result<ListOf<RequestPart>, AllocError> {
+) -> Result<Box<ListOf<RequestPart>>, AllocError> {
     let mut requests = ListOf::new(alloc);
     for _ in 0..count {
         *last = last.saturating_add(1);
-        requests.push(request(alloc, desk, *last)?)?;
+        requests.push(Box::into_inner(request(alloc, desk, *last)?))?;
     }
-    Ok(requests)
+    Ok(Box::new(alloc, requests)?)
 }
 
-fn request(alloc: Global, desk: &Desk, number: u32) -> Result<RequestPart, AllocError> {
+fn request(alloc: Global, desk: &Desk, number: u32) -> Result<Box<RequestPart>, AllocError> {
     let mut telescopes = ListOf::new(alloc);
     for telescope in 0..desk.telescopes {
         telescopes.push(TelescopeNo(telescope))?;
     }
-    Ok(RequestPart {
-        request: RequestNo(number),
-        seconds: 300,
-        value: VALUE,
-        windows: span(alloc, desk.window)?,
-        telescopes,
-        targets: ListOf::new(alloc),
-        fade: desk.fade,
-    })
+    Ok(Box::new(
+        alloc,
+        RequestPart {
+            request: RequestNo(number),
+            seconds: 300,
+            value: VALUE,
+            windows: span(alloc, desk.window)?,
+            telescopes,
+            targets: ListOf::new(alloc),
+            fade: desk.fade,
+        },
+    )?)
 }

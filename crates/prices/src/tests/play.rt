@@ -79,12 +79,18 @@ fn assert_next(
     Ok(())
 }
 
-fn prices_of(alloc: Global, prices: &[i64]) -> Result<Prices, Fail> {
-    Ok(Prices(ListOf::from_vec(Vec::from_slice(alloc, prices)?)))
+fn prices_of(alloc: Global, prices: &[i64]) -> Result<Box<Prices>, Fail> {
+    Ok(Box::new(
+        alloc,
+        Prices(ListOf::from_vec(Vec::from_slice(alloc, prices)?)),
+    )?)
 }
 
-fn quota_prices_of(alloc: Global, prices: &[u32]) -> Result<QuotaPrices, Fail> {
-    Ok(QuotaPrices(ListOf::from_vec(Vec::from_slice(alloc, prices)?)))
+fn quota_prices_of(alloc: Global, prices: &[u32]) -> Result<Box<QuotaPrices>, Fail> {
+    Ok(Box::new(
+        alloc,
+        QuotaPrices(ListOf::from_vec(Vec::from_slice(alloc, prices)?)),
+    )?)
 }
 
 /// The net prices of all requests.

@@ -1,9 +1,6 @@
 // Lists with too few and too many elements, and how many requests each operator has.
 
-use super::{LEAST, fault_with};
-use crate::GroupFault;
-use plan_base::Op;
-use plan_json::{JsonFault, Member};
+use super::{LEAST, answer_with};
 use std::alloc::Global;
 use std::test::Fail;
 
@@ -31,134 +28,74 @@ fn times(alloc: Global, piece: &str, count: usize) -> Result<String, Fail> {
     Ok(text)
 }
 
-/// The fault of the least group with an element so many times in place of once, if it has one.
-fn fault_of_list(alloc: Global, piece: &str, count: usize) -> Result<Option<GroupFault>, Fail> {
+/// What is answered to the least group with an element so many times in place of once.
+fn answer_to_list(alloc: Global, piece: &str, count: usize) -> Result<String, Fail> {
     let elements = times(alloc, piece, count)?;
-    fault_with(alloc, LEAST, piece, elements.as_str())
+    answer_with(alloc, LEAST, piece, elements.as_str())
 }
 
-const MANY_WINDOWS: GroupFault = GroupFault::Json(JsonFault::OutOfRange {
-    member: Member::Windows,
-});
-
-const MANY_EXPOSURES: GroupFault = GroupFault::Json(JsonFault::OutOfRange {
-    member: Member::InstrumentConfigs,
-});
-
-const MANY_CONFIGURATIONS: GroupFault = GroupFault::Json(JsonFault::OutOfRange {
-    member: Member::Configurations,
-});
-
-/// An element, how many there are, and the fault, if there is one.
-const LISTS: [(&str, usize, Option<GroupFault>); 7] = [
-    (WINDOW, 0, Some(MANY_WINDOWS)),
-    (WINDOW, 32, None),
-    (WINDOW, 33, Some(MANY_WINDOWS)),
-    (EXPOSURE, 16, None),
-    (EXPOSURE, 17, Some(MANY_EXPOSURES)),
-    (CONFIGURATION, 16, None),
-    (CONFIGURATION, 17, Some(MANY_CONFIGURATIONS)),
+/// An element, how many there are, and the answer.
+const LISTS: [(&str, usize, &str); 7] = [
+    (WINDOW, 0, "the member `windows` is out of range"),
+    (WINDOW, 32, "read"),
+    (WINDOW, 33, "the member `windows` is out of range"),
+    (EXPOSURE, 16, "read"),
+    (
+        EXPOSURE,
+        17,
+        "the member `instrument_configs` is out of range",
+    ),
+    (CONFIGURATION, 16, "read"),
+    (
+        CONFIGURATION,
+        17,
+        "the member `configurations` is out of range",
+    ),
 ];
 
 #[test]
 fn lists_have_counts(rt: HostRuntime) -> Result<(), Fail> {
     for (piece, count, wanted) in LISTS.iter() {
-        let found = fault_of_list(rt.alloc(), piece, *count)?;
-        assert_eq!(rt; found, *wanted, "{count}");
+        let found = answer_to_list(rt.alloc(), piece, *count)?;
+        assert!(rt; found.as_str() == *wanted, "{count}: {found}");
     }
     Ok(())
 }
 
-/// The fault of a group with this operator and so many of these in place of its request, if it has one.
-fn fault_of_group(
+/// What is answered to a group with this operator and so many of these in place of its request.
+fn answer_to_group(
     alloc: Global,
     operator: &str,
     piece: &str,
     count: usize,
-) -> Result<Option<GroupFault>, Fail> {
+) -> Result<String, Fail> {
     let elements = times(alloc, piece, count)?;
     let text = LEAST.replacen(alloc, "SINGLE", operator, 1)?;
-    fault_with(alloc, text.as_str(), REQUEST, elements.as_str())
+    answer_with(alloc, text.as_str(), REQUEST, elements.as_str())
 }
 
-const NO_OBJECT: GroupFault = GroupFault::Json(JsonFault::WrongKind {
-    member: Member::Requests,
-});
-
-const TOO_MANY: GroupFault = GroupFault::Json(JsonFault::OutOfRange {
-    member: Member::Requests,
-});
-
-/// An operator, how many elements its group has, which they are, and the fault. `5` is no request, but their number is
+/// An operator, how many elements its group has, which they are, and the answer. `5` is no request, but their number is
 /// tested before.
-const GROUPS: [(&str, usize, &str, Option<GroupFault>); 12] = [
-    ("SINGLE", 1, "5", Some(NO_OBJECT)),
-    ("SINGLE", 1025, "5", Some(TOO_MANY)),
-    (
-        "SINGLE",
-        0,
-        "5",
-        Some(GroupFault::BadShape {
-            operator: Op::Single,
-            count: 0,
-        }),
-    ),
-    (
-        "SINGLE",
-        1024,
-        "5",
-        Some(GroupFault::BadShape {
-            operator: Op::Single,
-            count: 1024,
-        }),
-    ),
-    (
-        "MANY",
-        1,
-        "5",
-        Some(GroupFault::BadShape {
-            operator: Op::Many,
-            count: 1,
-        }),
-    ),
-    (
-        "MANY",
-        33,
-        "5",
-        Some(GroupFault::BadShape {
-            operator: Op::Many,
-            count: 33,
-        }),
-    ),
-    (
-        "ONEOF",
-        1,
-        "5",
-        Some(GroupFault::BadShape {
-            operator: Op::OneOf,
-            count: 1,
-        }),
-    ),
-    (
-        "AND",
-        33,
-        "5",
-        Some(GroupFault::BadShape {
-            operator: Op::And,
-            count: 33,
-        }),
-    ),
-    ("MANY", 2, REQUEST, None),
-    ("MANY", 32, REQUEST, None),
-    ("ONEOF", 2, REQUEST, None),
-    ("AND", 32, REQUEST, None),
+const GROUPS: [(&str, usize, &str, &str); 12] = [
+    ("SINGLE", 1, "5", "the member `requests` is of another kind"),
+    ("SINGLE", 1025, "5", "the member `requests` is out of range"),
+    ("SINGLE", 0, "5", "0 requests are no Single"),
+    ("SINGLE", 1024, "5", "1024 requests are no Single"),
+    ("MANY", 1, "5", "1 requests are no Many"),
+    ("MANY", 33, "5", "33 requests are no Many"),
+    ("ONEOF", 1, "5", "1 requests are no OneOf"),
+    ("AND", 33, "5", "33 requests are no And"),
+    ("MANY", 2, REQUEST, "read"),
+    ("MANY", 32, REQUEST, "read"),
+    ("ONEOF", 2, REQUEST, "read"),
+    ("AND", 32, REQUEST, "read"),
 ];
 
 #[test]
 fn operators_have_numbers_of_requests(rt: HostRuntime) -> Result<(), Fail> {
     for (operator, count, piece, wanted) in GROUPS.iter() {
-        let found = fault_of_group(rt.alloc(), operator, piece, *count)?;
-        assert_eq!(rt; found, *wanted, "{count} in {operator}");
+        let found = answer_to_group(rt.alloc(), operator, piece, *count)?;
+        assert!(rt; found.as_str() == *wanted, "{count} in {operator}: {found}");
     }
     Ok(())
 }

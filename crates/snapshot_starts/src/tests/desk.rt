@@ -80,7 +80,7 @@ fn copied<T: Copy + Drop>(alloc: Global, items: &[T]) -> Result<ListOf<T>, Alloc
     Ok(ListOf::from_vec(Vec::from_slice(alloc, items)?))
 }
 
-fn telescopes_of(alloc: Global, dishes: &[Dish]) -> Result<ListOf<TelescopePart>, AllocError> {
+fn telescopes_of(alloc: Global, dishes: &[Dish]) -> Result<Box<ListOf<TelescopePart>>, AllocError> {
     let mut telescopes = ListOf::new(alloc);
     for dish in dishes {
         telescopes.push(TelescopePart {
@@ -88,10 +88,10 @@ fn telescopes_of(alloc: Global, dishes: &[Dish]) -> Result<ListOf<TelescopePart>
             usable: copied(alloc, dish.usable)?,
         })?;
     }
-    Ok(telescopes)
+    Ok(Box::new(alloc, telescopes)?)
 }
 
-fn skies_of(alloc: Global, views: &[View]) -> Result<ListOf<Sky>, AllocError> {
+fn skies_of(alloc: Global, views: &[View]) -> Result<Box<ListOf<Sky>>, AllocError> {
     let mut skies = ListOf::new(alloc);
     for view in views {
         skies.push(Sky {
@@ -100,10 +100,10 @@ fn skies_of(alloc: Global, views: &[View]) -> Result<ListOf<Sky>, AllocError> {
             spans: copied(alloc, view.spans)?,
         })?;
     }
-    Ok(skies)
+    Ok(Box::new(alloc, skies)?)
 }
 
-fn group_of(alloc: Global, number: u32, wish: &Wish) -> Result<GroupPart, AllocError> {
+fn group_of(alloc: Global, number: u32, wish: &Wish) -> Result<Box<GroupPart>, AllocError> {
     let mut requests = ListOf::new(alloc);
     requests.push(RequestPart {
         request: RequestNo(number),
@@ -114,40 +114,46 @@ fn group_of(alloc: Global, number: u32, wish: &Wish) -> Result<GroupPart, AllocE
         targets: copied(alloc, wish.targets)?,
         fade: 0,
     })?;
-    Ok(GroupPart {
-        group: GroupNo(number),
-        op: Op::Single,
-        requests,
-        quota: None,
-    })
+    Ok(Box::new(
+        alloc,
+        GroupPart {
+            group: GroupNo(number),
+            op: Op::Single,
+            requests,
+            quota: None,
+        },
+    )?)
 }
 
-fn groups_of(alloc: Global, wishes: &[Wish]) -> Result<ListOf<GroupPart>, AllocError> {
+fn groups_of(alloc: Global, wishes: &[Wish]) -> Result<Box<ListOf<GroupPart>>, AllocError> {
     let mut groups = ListOf::new(alloc);
     let mut number = 0u32;
     for wish in wishes {
         number = number.saturating_add(1);
-        groups.push(group_of(alloc, number, wish)?)?;
+        groups.push(Box::into_inner(group_of(alloc, number, wish)?))?;
     }
-    Ok(groups)
+    Ok(Box::new(alloc, groups)?)
 }
 
-fn parts_of(alloc: Global, desk: &Desk) -> Result<Parts, AllocError> {
-    Ok(Parts {
-        version: 0,
-        len: desk.len,
-        first: SliceNo(desk.first),
-        slices: desk.slices,
-        telescopes: telescopes_of(alloc, desk.dishes)?,
-        skies: skies_of(alloc, desk.views)?,
-        groups: groups_of(alloc, desk.wishes)?,
-        quotas: ListOf::new(alloc),
-    })
+fn parts_of(alloc: Global, desk: &Desk) -> Result<Box<Parts>, AllocError> {
+    Ok(Box::new(
+        alloc,
+        Parts {
+            version: 0,
+            len: desk.len,
+            first: SliceNo(desk.first),
+            slices: desk.slices,
+            telescopes: Box::into_inner(telescopes_of(alloc, desk.dishes)?),
+            skies: Box::into_inner(skies_of(alloc, desk.views)?),
+            groups: Box::into_inner(groups_of(alloc, desk.wishes)?),
+            quotas: ListOf::new(alloc),
+        },
+    )?)
 }
 
 /// The snapshot of a desk.
-pub fn snapshot_of(rt: &impl Abort, alloc: Global, desk: &Desk) -> Result<Snapshot, Fail> {
+pub fn snapshot_of(rt: &impl Abort, alloc: Global, desk: &Desk) -> Result<Box<Snapshot>, Fail> {
     let parts = parts_of(alloc, desk)?;
     assert!(rt; parts.is_in_ranges());
-    Ok(Snapshot::build(alloc, parts)?)
+    Ok(Box::new(alloc, Snapshot::build(alloc, Box::into_inner(parts))?)?)
 }

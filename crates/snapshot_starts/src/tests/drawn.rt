@@ -22,7 +22,7 @@ struct Tally {
 /// A snapshot with its starts, of which `met` were met.
 #[derive(Drop)]
 struct Comparison {
-    snapshot: Snapshot,
+    snapshot: Box<Snapshot>,
     starts: Starts,
     met: usize,
 }
@@ -83,7 +83,7 @@ fn compare_requests(rt: &impl Abort, comparison: &mut Comparison, tally: &mut Ta
 fn compare_snapshot<R: Threads + Sync + Abort>(
     rt: &R,
     alloc: Global,
-    snapshot: Snapshot,
+    snapshot: Box<Snapshot>,
     tally: &mut Tally,
 ) -> Result<(), Fail> {
     let starts = starts(rt, alloc, &snapshot)?;

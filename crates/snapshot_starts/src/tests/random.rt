@@ -106,7 +106,7 @@ impl Draws {
         &mut self,
         alloc: Global,
         count: u16,
-    ) -> Result<ListOf<TelescopePart>, AllocError> {
+    ) -> Result<Box<ListOf<TelescopePart>>, AllocError> {
         let mut telescopes = ListOf::new(alloc);
         for _ in 0..count {
             telescopes.push(TelescopePart {
@@ -114,11 +114,11 @@ impl Draws {
                 usable: self.apart(alloc)?,
             })?;
         }
-        Ok(telescopes)
+        Ok(Box::new(alloc, telescopes)?)
     }
 
     /// Skies of some targets at some sites.
-    fn skies(&mut self, alloc: Global) -> Result<ListOf<Sky>, AllocError> {
+    fn skies(&mut self, alloc: Global) -> Result<Box<ListOf<Sky>>, AllocError> {
         let mut skies = ListOf::new(alloc);
         for pair in 0..TARGETS.saturating_mul(SITES) {
             if 0 < self.below(5) {
@@ -129,7 +129,7 @@ impl Draws {
                 })?;
             }
         }
-        Ok(skies)
+        Ok(Box::new(alloc, skies)?)
     }
 
     /// Some of so many telescopes, in rising order.
@@ -158,7 +158,7 @@ impl Draws {
         alloc: Global,
         number: u32,
         telescopes: u16,
-    ) -> Result<ListOf<RequestPart>, AllocError> {
+    ) -> Result<Box<ListOf<RequestPart>>, AllocError> {
         let mut requests = ListOf::new(alloc);
         let mut next = number;
         for _ in 0..self.up_to(2) {
@@ -174,42 +174,53 @@ impl Draws {
                 fade: 0,
             })?;
         }
-        Ok(requests)
+        Ok(Box::new(alloc, requests)?)
     }
 
-    fn groups(&mut self, alloc: Global, telescopes: u16) -> Result<ListOf<GroupPart>, AllocError> {
+    fn groups(
+        &mut self,
+        alloc: Global,
+        telescopes: u16,
+    ) -> Result<Box<ListOf<GroupPart>>, AllocError> {
         let mut groups = ListOf::new(alloc);
         for place in 0..self.up_to(GROUPS) {
             let number = u32::from(place);
             groups.push(GroupPart {
                 group: GroupNo(number),
                 op: Op::Many,
-                requests: self.requests(alloc, number.saturating_mul(4), telescopes)?,
+                requests: Box::into_inner(self.requests(
+                    alloc,
+                    number.saturating_mul(4),
+                    telescopes,
+                )?),
                 quota: None,
             })?;
         }
-        Ok(groups)
+        Ok(Box::new(alloc, groups)?)
     }
 
-    fn parts(&mut self, alloc: Global) -> Result<Parts, AllocError> {
+    fn parts(&mut self, alloc: Global) -> Result<Box<Parts>, AllocError> {
         self.len = u32::from(self.below(8).saturating_add(60));
         let count = self.up_to(3);
-        Ok(Parts {
-            version: 0,
-            len: self.len,
-            first: SliceNo(u32::from(self.below(4))),
-            slices: u32::from(self.up_to(12)),
-            telescopes: self.telescopes(alloc, count)?,
-            skies: self.skies(alloc)?,
-            groups: self.groups(alloc, count)?,
-            quotas: ListOf::new(alloc),
-        })
+        Ok(Box::new(
+            alloc,
+            Parts {
+                version: 0,
+                len: self.len,
+                first: SliceNo(u32::from(self.below(4))),
+                slices: u32::from(self.up_to(12)),
+                telescopes: Box::into_inner(self.telescopes(alloc, count)?),
+                skies: Box::into_inner(self.skies(alloc)?),
+                groups: Box::into_inner(self.groups(alloc, count)?),
+                quotas: ListOf::new(alloc),
+            },
+        )?)
     }
 
     /// The next snapshot. Its request numbers lie below 12, its telescopes' below 3, and its horizon ends by slice 15.
-    pub fn snapshot(&mut self, rt: &impl Abort, alloc: Global) -> Result<Snapshot, Fail> {
+    pub fn snapshot(&mut self, rt: &impl Abort, alloc: Global) -> Result<Box<Snapshot>, Fail> {
         let parts = self.parts(alloc)?;
         assert!(rt; parts.is_in_ranges());
-        Ok(Snapshot::build(alloc, parts)?)
+        Ok(Box::new(alloc, Snapshot::build(alloc, Box::into_inner(parts))?)?)
     }
 }
