@@ -1,4 +1,5 @@
 -- How long a request takes on an instrument.
+use Rattle.plan_base.specs.Limits.{most_seconds}
 use Rattle.std.specs.Prelude.{ℕ, ◌+◌, ◌*◌, ◌≤◌, nat_le, List, sum_by, Result, Ok, Err, if◌then◌else◌}
 use Rattle.std.specs.Int.{div_ceil}
 use Rattle.request_model.specs.declared.request.Exposure.{Exposure}
@@ -26,7 +27,7 @@ request_seconds instrument configurations = div_ceil (request_ms instrument conf
 -- the duration of a request: it takes a day at most
 abbrev pub duration : Instrument → List ConfigDoc → Result ℕ TimeFault
 duration instrument configurations =
-    if nat_le (request_seconds instrument configurations) 86400
+    if nat_le (request_seconds instrument configurations) most_seconds
     then Ok (request_seconds instrument configurations)
     else Err (TooLong (request_seconds instrument configurations))
 

@@ -1,6 +1,7 @@
 // The windows of a cadence.
 
 ghost use Rattle.std.specs.Prelude.{◌≡◌, ◌≢◌, ◌+◌, ◌<◌, ◌≤◌, ◌^◌, length, true, IfOk, IfErr, Ok, Err};
+ghost use Rattle.plan_base.specs.Limits.{most_seconds};
 ghost use Rattle.plan_json.specs.Ranges.{IsBetween};
 ghost use Rattle.request_model.specs.Ranges.{IsCadence};
 ghost use Rattle.request_times.specs.declared.fault.TimeFault.TheVariants.{NoMemory};
@@ -21,7 +22,7 @@ const MOST_CENTRES: u64 = 256;
 /// window is left; and for want of memory, where there are windows to make.
 pub fn expand_cadence(alloc: Global, cadence: Cadence, seconds: u32) -> Result<Vec<Span>, TimeFault>
     requires range { IsCadence cadence }
-    requires seconds { seconds ≤ 86400 }
+    requires seconds { seconds ≤ most_seconds }
     ensures value { IfOk result (λ windows. expansion cadence seconds ≡ Ok windows.items) }
     ensures fault { IfErr result (λ e. e ≢ NoMemory → expansion cadence seconds ≡ Err e) }
     ensures memory { IfErr result (λ e. e ≡ NoMemory → (is_cadence cadence ≡ true) × (centre_count cadence ≤ 256)) }
@@ -65,7 +66,7 @@ fn windows_of(
     count: u32,
 ) -> Result<Vec<Span>, AllocError>
     requires range { IsCadence cadence }
-    requires seconds { seconds ≤ 86400 }
+    requires seconds { seconds ≤ most_seconds }
     ensures value { IfOk result (λ windows. windows.items ≡ windows_of cadence seconds count) }
     ensures few { IfOk result (λ windows. length windows.items ≤ count) }
 {

@@ -1,35 +1,19 @@
 // How long requests take.
 
-ghost use Rattle.std.specs.Prelude.{◌≡◌, length, All, IfOk};
+ghost use Rattle.std.specs.Prelude.{◌↔◌, length, IsTrue, All, IfOk};
 ghost use Rattle.plan_json.specs.Ranges.{IsBetween, IsText};
 ghost use Rattle.request_model.specs.Ranges.{IsExposure, IsConfiguration, AreConfigurations};
 ghost use Rattle.request_times.specs.Duration.{IsOverhead};
 
-use crate::{Instrument, TimeFault, seconds_of};
+use crate::{Instrument, seconds_of};
 use plan_base::{ListOf, Name};
 use request_model::{ConfigDoc, Exposure, Location, RequestDoc, When};
 use std::alloc::{AllocError, Global};
-use std::process::Abort;
 use std::test::Fail;
 
-/// Exposures of one length.
-#[derive(Clone, Copy)]
-struct Kind {
-    count: u32,
-    ms: u32,
-    ghost some: { IsBetween 1 10000 count },
-    ghost long: { IsBetween 1 86400000 ms },
-}
-
-/// So many configurations of the same exposures, and how long they take.
-#[derive(Clone, Copy)]
-struct Row<'a> {
-    configurations: u32,
-    kinds: &'a [Kind],
-    duration: Result<u32, TimeFault>,
-    ghost some: { IsBetween 1 16 configurations },
-    ghost some_kinds: { IsBetween 1 16 (length kinds.now) },
-}
+/// An instrument, how many configurations a request has, the count and the milliseconds of each one's exposures, and the
+/// seconds or the fault.
+type Row = (Instrument, u32, &'static [(u32, u32)], &'static str);
 
 const NONE: Instrument = Instrument {
     front_ms: 0,
@@ -46,63 +30,76 @@ const USUAL: Instrument = Instrument {
 };
 
 const DAYS: Instrument = Instrument {
-    front_ms: 86_400_000,
-    config_ms: 86_400_000,
-    readout_ms: 86_400_000,
-    change_ms: 86_400_000,
+    front_ms: DAY,
+    config_ms: DAY,
+    readout_ms: DAY,
+    change_ms: DAY,
 };
 
 /// A day, in milliseconds.
 const DAY: u32 = 86_400_000;
 
-fn exposed(count: u32, ms: u32) -> Kind
-    requires some { IsBetween 1 10000 count }
-    requires long { IsBetween 1 86400000 ms }
+const ROWS: [Row; 15] = [
+    // Milliseconds are rounded up once.
+    (NONE, 1, &[(1, 1)], "1"),
+    (NONE, 1, &[(1, 1_000)], "1"),
+    (NONE, 1, &[(1, 1_001)], "2"),
+    (NONE, 1, &[(3, 500)], "2"),
+    (NONE, 2, &[(1, 500)], "1"),
+    (NONE, 3, &[(1, 300), (2, 100)], "2"),
+    // Overheads are added.
+    (USUAL, 1, &[(3, 30_000)], "282"),
+    (USUAL, 1, &[(3, 30_500)], "284"),
+    (USUAL, 2, &[(3, 30_000)], "474"),
+    (USUAL, 1, &[(3, 30_000), (1, 12_000)], "324"),
+    // A day is the longest.
+    (NONE, 1, &[(1, DAY)], "86400"),
+    (
+        NONE,
+        1,
+        &[(1, DAY), (1, 1)],
+        "the request takes 86401 seconds, more than a day",
+    ),
+    (NONE, 16, &[(10_000, 540)], "86400"),
+    (
+        NONE,
+        16,
+        &[(10_000, DAY); 16],
+        "the request takes 221184000000 seconds, more than a day",
+    ),
+    (
+        DAYS,
+        16,
+        &[(10_000, DAY); 16],
+        "the request takes 442391587200 seconds, more than a day",
+    ),
+];
+
+/// Whether each overhead is at most a day.
+fn is_overhead(instrument: Instrument) -> bool
+    ensures { IsTrue result ↔ IsOverhead instrument }
 {
-    Kind { count, ms }
+    instrument.front_ms <= DAY
+        && instrument.config_ms <= DAY
+        && instrument.readout_ms <= DAY
+        && instrument.change_ms <= DAY
 }
 
-fn asked(configurations: u32, kinds: &[Kind], duration: Result<u32, TimeFault>) -> Row
-    requires some { IsBetween 1 16 configurations }
-    requires some_kinds { IsBetween 1 16 (length kinds.now) }
+fn exposure(count: u32, ms: u32) -> Result<Exposure, Fail>
+    ensures { IfOk result IsExposure }
 {
-    Row {
-        configurations,
-        kinds,
-        duration,
+    if count < 1 || 10_000 < count || ms < 1 || DAY < ms {
+        return Err(Fail::new("an exposure is out of its range"));
     }
+    Ok(Exposure { ms, count })
 }
 
-fn exposures(alloc: Global, kinds: &[Kind]) -> Result<ListOf<Exposure>, AllocError>
-    ensures count { IfOk result (λ list. length list ≡ length kinds.now) }
-    ensures range { IfOk result (λ list. All IsExposure list) }
+fn exposures(alloc: Global, kinds: &[(u32, u32)]) -> Result<ListOf<Exposure>, Fail>
+    ensures { IfOk result (All IsExposure) }
 {
     let mut list = ListOf::new(alloc);
-    for kind in kinds {
-        list.push(Exposure {
-            ms: kind.ms,
-            count: kind.count,
-        })?;
-    }
-    Ok(list)
-}
-
-fn configuration(alloc: Global, kinds: &[Kind]) -> Result<ConfigDoc, Fail>
-    requires { IsBetween 1 16 (length kinds.now) }
-    ensures { IfOk result IsConfiguration }
-{
-    Ok(ConfigDoc {
-        target: name(alloc)?,
-        exposures: exposures(alloc, kinds)?,
-    })
-}
-
-fn configurations(alloc: Global, row: &Row) -> Result<ListOf<ConfigDoc>, Fail>
-    ensures { IfOk result AreConfigurations }
-{
-    let mut list = ListOf::new(alloc);
-    for _ in 0..row.configurations {
-        list.push(configuration(alloc, row.kinds)?)?;
+    for (count, ms) in kinds {
+        list.push(exposure(*count, *ms)?)?;
     }
     Ok(list)
 }
@@ -116,10 +113,38 @@ fn name(alloc: Global) -> Result<Name, Fail>
     Ok(name)
 }
 
-fn request(alloc: Global, row: &Row) -> Result<RequestDoc, Fail>
+fn configuration(alloc: Global, kinds: &[(u32, u32)]) -> Result<ConfigDoc, Fail>
+    ensures { IfOk result IsConfiguration }
+{
+    let exposures = exposures(alloc, kinds)?;
+    if exposures.is_empty() || 16 < exposures.len() {
+        return Err(Fail::new("there are too few or too many exposures"));
+    }
+    Ok(ConfigDoc {
+        target: name(alloc)?,
+        exposures,
+    })
+}
+
+fn configurations(
+    alloc: Global,
+    count: u32,
+    kinds: &[(u32, u32)],
+) -> Result<ListOf<ConfigDoc>, Fail>
+    ensures { IfOk result (All IsConfiguration) }
+{
+    let mut list = ListOf::new(alloc);
+    for _ in 0..count {
+        list.push(configuration(alloc, kinds)?)?;
+    }
+    Ok(list)
+}
+
+fn request(alloc: Global, configurations: ListOf<ConfigDoc>) -> Result<Box<RequestDoc>, Fail>
+    requires { AreConfigurations configurations }
     ensures { IfOk result (λ request. AreConfigurations request.configurations) }
 {
-    Ok(RequestDoc {
+    let request = RequestDoc {
         location: Location {
             class: name(alloc)?,
             site: None,
@@ -128,92 +153,32 @@ fn request(alloc: Global, row: &Row) -> Result<RequestDoc, Fail>
         },
         when: When::Windows(ListOf::new(alloc)),
         instrument: name(alloc)?,
-        configurations: configurations(alloc, row)?,
+        configurations,
         threshold: 90,
         fade: 0,
-    })
+    };
+    Ok(Box::new(alloc, request)?)
 }
 
-/// Asserts how long the requests take on the instrument.
-fn assert_durations(
-    rt: &impl Abort,
-    alloc: Global,
-    instrument: Instrument,
-    rows: &[Row],
-) -> Result<(), Fail>
-    requires { IsOverhead instrument }
-{
-    for row in rows {
-        let request = request(alloc, row)?;
-        assert_eq!(rt; seconds_of(&request, instrument), row.duration);
+/// The seconds or the fault of a row.
+fn answer(alloc: Global, row: &Row) -> Result<String, Fail> {
+    let (instrument, count, kinds, _) = *row;
+    let configurations = configurations(alloc, count, kinds)?;
+    if configurations.is_empty() || 16 < configurations.len() || !is_overhead(instrument) {
+        return Err(Fail::new("a number is out of its range"));
+    }
+    let request = request(alloc, configurations)?;
+    match seconds_of(&request, instrument) {
+        Ok(seconds) => Ok(format!(in alloc; "{seconds}")?),
+        Err(fault) => Ok(format!(in alloc; "{fault}")?),
+    }
+}
+
+#[test]
+fn requests_have_durations(rt: HostRuntime) -> Result<(), Fail> {
+    for row in ROWS.iter() {
+        let found = answer(rt.alloc(), row)?;
+        assert!(rt; found.as_str() == row.3, "{found} in place of {}", row.3);
     }
     Ok(())
-}
-
-#[test]
-fn milliseconds_are_rounded_up_once(rt: HostRuntime) -> Result<(), Fail> {
-    assert_durations(
-        &rt,
-        rt.alloc(),
-        NONE,
-        &[
-            asked(1, &[exposed(1, 1)], Ok(1)),
-            asked(1, &[exposed(1, 1000)], Ok(1)),
-            asked(1, &[exposed(1, 1001)], Ok(2)),
-            asked(1, &[exposed(3, 500)], Ok(2)),
-            asked(2, &[exposed(1, 500)], Ok(1)),
-            asked(3, &[exposed(1, 300), exposed(2, 100)], Ok(2)),
-        ],
-    )
-}
-
-#[test]
-fn overheads_are_added(rt: HostRuntime) -> Result<(), Fail> {
-    assert_durations(
-        &rt,
-        rt.alloc(),
-        USUAL,
-        &[
-            asked(1, &[exposed(3, 30_000)], Ok(282)),
-            asked(1, &[exposed(3, 30_500)], Ok(284)),
-            asked(2, &[exposed(3, 30_000)], Ok(474)),
-            asked(1, &[exposed(3, 30_000), exposed(1, 12_000)], Ok(324)),
-        ],
-    )
-}
-
-#[test]
-fn a_day_is_the_longest(rt: HostRuntime) -> Result<(), Fail> {
-    let full = [exposed(10_000, DAY); 16];
-    assert_durations(
-        &rt,
-        rt.alloc(),
-        NONE,
-        &[
-            asked(1, &[exposed(1, DAY)], Ok(86_400)),
-            asked(
-                1,
-                &[exposed(1, DAY), exposed(1, 1)],
-                Err(TimeFault::TooLong { seconds: 86_401 }),
-            ),
-            asked(16, &[exposed(10_000, 540)], Ok(86_400)),
-            asked(
-                16,
-                &full,
-                Err(TimeFault::TooLong {
-                    seconds: 221_184_000_000,
-                }),
-            ),
-        ],
-    )
-}
-
-#[test]
-fn the_longest_documents_are_added_up(rt: HostRuntime) -> Result<(), Fail> {
-    let full = [exposed(10_000, DAY); 16];
-    let longest = TimeFault::TooLong {
-        seconds: 442_391_587_200,
-    };
-    let rows = [asked(16, &full, Err(longest))];
-    assert_durations(&rt, rt.alloc(), DAYS, &rows)
 }
