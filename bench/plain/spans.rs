@@ -10,7 +10,7 @@ pub struct Span {
 }
 
 /// A set of whole numbers: spans in order, none empty, no two of them touching.
-#[derive(Default)]
+#[derive(Clone, Default)]
 pub struct Spans {
     pub items: Vec<Span>,
 }
