@@ -14,3 +14,4 @@ pub mod Reader
 pub mod Next
 pub mod Reading
 pub mod Adapters
+pub mod Exit

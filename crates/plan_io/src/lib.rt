@@ -1,4 +1,5 @@
-//! Bytes, lines and gates: where bytes come from and go to, the lines that they hold, and what a thread passes.
+//! Bytes, lines and gates: where bytes come from and go to, the lines that they hold, what a thread passes, and how a run
+//! that reads and writes them begins and ends.
 #![tactic(auto)]
 
 mod adapters;
@@ -9,9 +10,11 @@ mod gate;
 mod held;
 mod lines;
 mod memory;
+mod program;
 mod room;
 mod sink;
 mod source;
+mod status;
 mod steady;
 mod whole;
 
@@ -20,8 +23,10 @@ pub use byte_list::ByteList;
 pub use gate::{Gate, NoGate, Point};
 pub use lines::{LineAnswer, Lines, ScriptLine};
 pub use memory::{MemSink, MemSource};
+pub use program::{exit_code, program_words};
 pub use sink::{PutAnswer, Sink, WriteAnswer, put};
 pub use source::{ReadAnswer, Source};
+pub use status::Status;
 pub use steady::{SteadySink, SteadySource};
 pub use whole::{WholeAnswer, read_whole};
 

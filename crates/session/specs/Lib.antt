@@ -1,5 +1,4 @@
 pub mod Words
-pub mod Exit
 pub mod Refusals
 pub mod Numbers
 pub mod Claims

@@ -23,8 +23,8 @@ use Rattle.session.specs.declared.entry.Reply.{Reply}
 use Rattle.session.specs.declared.entry.Reply.TheVariants.{Taken, Published}
 use Rattle.session.specs.declared.entry.What.{What}
 use Rattle.session.specs.declared.entry.What.TheVariants.{Line, Take, Publish}
-use Rattle.session.specs.declared.status.Status.{Status}
-use Rattle.session.specs.declared.status.Status.TheVariants.{Done, Words, ReadFault, WriteFault, NoMemory, InputOver, NoDocument, No, NoCaller}
+use Rattle.plan_io.specs.declared.status.Status.{Status}
+use Rattle.plan_io.specs.declared.status.Status.TheVariants.{Done, Words, ReadFault, WriteFault, NoMemory, InputOver, NoDocument, No, NoCaller}
 use Rattle.session.specs.StateSeen.{StateSeen}
 use Rattle.session.specs.Step.{published, IsPlanning, IsStepReply, after_line}
 use Rattle.session.specs.DeskSnapshot.{IsSnapshotOf}

@@ -13,7 +13,6 @@ mod reason;
 mod run;
 mod snapshot;
 mod state;
-mod status;
 mod text;
 mod words;
 
@@ -22,7 +21,6 @@ pub use entry::{EventEntry, Refusal, Reply, What};
 pub use laws::{one_reply, versions_count};
 pub use run::run_session;
 pub use state::State;
-pub use status::Status;
 pub use text::write_entry;
 
 #[cfg(test)]

@@ -13,10 +13,9 @@ use crate::cut::{count_lines, cut_line};
 use crate::entry::{EventEntry, Refusal, Reply, What};
 use crate::plan::desk_claim;
 use crate::state::State;
-use crate::status::Status;
 use crate::text::write_entry;
 use crate::words::is_session;
-use plan_io::{PutAnswer, Sink, Source, WholeAnswer, put, read_whole};
+use plan_io::{PutAnswer, Sink, Source, Status, WholeAnswer, put, read_whole};
 use std::alloc::{AllocError, Global};
 use std::thread::Threads;
 

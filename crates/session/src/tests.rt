@@ -1,7 +1,7 @@
 //! Sessions over a source and a sink in memory: faults in mid-stream, and the limit of bytes at its edge. What whole sessions
 //! write stands in the files of cases/session, at the top of the repository.
 use super::*;
-use plan_io::{MemSink, MemSource};
+use plan_io::{MemSink, MemSource, Status};
 use std::alloc::{AllocError, Global};
 use std::test::Fail;
 use std::thread::Threads;

@@ -1,7 +1,7 @@
 -- How a program's run ends, as its exit status.
 use Rattle.std.specs.Prelude.{ℕ}
-use Rattle.session.specs.declared.status.Status.{Status}
-use Rattle.session.specs.declared.status.Status.TheVariants.{Done, Words, ReadFault, WriteFault, NoMemory, InputOver, NoDocument, No, NoCaller}
+use Rattle.plan_io.specs.declared.status.Status.{Status}
+use Rattle.plan_io.specs.declared.status.Status.TheVariants.{Done, Words, ReadFault, WriteFault, NoMemory, InputOver, NoDocument, No, NoCaller}
 
 -- the number of a status, which is the exit status
 abbrev pub status_number : Status → ℕ

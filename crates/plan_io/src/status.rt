@@ -1,6 +1,6 @@
 //! How a program's run ends.
 ghost use Rattle.std.specs.Prelude.{◌≡◌};
-ghost use Rattle.session.specs.Exit.{status_number};
+ghost use Rattle.plan_io.specs.Exit.{status_number};
 
 /// How a run ended. The number of a status is the program's exit status.
 #[derive(Clone, Copy, Debug, PartialEq, Eq)]
@@ -15,7 +15,7 @@ pub enum Status {
     WriteFault = 3,
     /// There was no memory left.
     NoMemory = 4,
-    /// The input has more bytes or more lines than a session takes.
+    /// The input has more bytes or more lines than it may have.
     InputOver = 5,
     /// The document that was to be checked was refused.
     NoDocument = 6,

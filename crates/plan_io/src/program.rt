@@ -1,0 +1,35 @@
+//! What a program is given, and what it ends with.
+ghost use Rattle.std.specs.Prelude.{◌≡◌};
+ghost use Rattle.std.specs.Process.{exit_status};
+ghost use Rattle.plan_io.specs.Exit.{status_number};
+
+use crate::status::Status;
+use std::env;
+use std::io::ErrorKind;
+use std::process::ExitCode;
+use std::rt::Env;
+
+/// The words after the program's name, or the status where there is no list of them: [`Status::Words`] where one isn't
+/// UTF-8, [`Status::NoMemory`] for want of memory.
+pub fn program_words<R: Env + AllocGlobal>(rt: &R) -> Result<Vec<String>, Status> {
+    let args = match env::args(rt) {
+        Ok(args) => args,
+        Err(error) => {
+            if error.kind() == ErrorKind::OutOfMemory {
+                return Err(Status::NoMemory);
+            }
+            return Err(Status::Words);
+        }
+    };
+    match args.skip(1).collect(rt.alloc()) {
+        Ok(words) => Ok(words),
+        Err(_) => Err(Status::NoMemory),
+    }
+}
+
+/// How the program ends: with the number of its status.
+pub fn exit_code(status: Status) -> ExitCode
+    ensures { exit_status result ≡ status_number status }
+{
+    ExitCode::from(status.number())
+}
