@@ -1,0 +1,6 @@
+pub mod Numbers
+pub mod InRange
+pub mod BackClaim
+pub mod BackSnapshot
+pub mod Inverse
+pub mod Distinct

@@ -1,0 +1,10 @@
+use Rattle.std.proofs.lemmas.Result.{IfOk-weaker}
+use Rattle.plan_doc.proofs.BackSnapshot.{claim_bytes_back}
+use Rattle.plan_doc.proofs.write.claim.write_claim.Goals as goal
+
+pub returns-clause-reads_back : goal.returns-clause-reads_back
+returns-clause-reads_back c =
+    IfOk-weaker c.json_text.result _ _ (λ bytes read in_range. claim_bytes_back bytes.items c.args.claim.now read in_range) c.json_text.ensures.reads_back
+
+pub returns-clause-exact : goal.returns-clause-exact
+returns-clause-exact c = IfOk-weaker c.json_text.result _ _ (λ bytes written. written.exact) c.json_text.ensures.written

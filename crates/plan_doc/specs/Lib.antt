@@ -1,0 +1,11 @@
+pub mod Fault
+pub mod Elements
+pub mod Claim
+pub mod Snapshot
+pub mod Publication
+pub mod Written
+pub mod Ranges
+pub mod Laws
+pub mod Reason
+pub mod Refusal
+pub mod Check

@@ -1,0 +1,80 @@
+-- Which claims and snapshots have a document: their numbers and counts are in the ranges in which they are read.
+use Rattle.std.specs.Prelude.{ℕ, ◌^◌, ◌≤◌, ℤ, neg_ℤ, ◌≤ℤ◌, List, length, All, IfSome}
+use Rattle.plan_base.specs.declared.number.TelescopeNo.{TelescopeNo}
+use Rattle.plan_base.specs.declared.number.TargetNo.{TargetNo}
+use Rattle.plan_base.specs.declared.span.Span.{Span}
+use Rattle.plan_base.specs.declared.claim.Placement.{Placement}
+use Rattle.plan_base.specs.declared.claim.Claim.{Claim}
+use Rattle.plan_base.specs.declared.parts.TelescopePart.{TelescopePart}
+use Rattle.plan_base.specs.declared.parts.Sky.{Sky}
+use Rattle.plan_base.specs.declared.parts.RequestPart.{RequestPart}
+use Rattle.plan_base.specs.declared.parts.GroupPart.{GroupPart}
+use Rattle.plan_base.specs.declared.parts.Parts.{Parts}
+use Rattle.plan_base.specs.Limits.{most_moment, most_seconds, most_value, most_slices}
+use Rattle.plan_json.specs.Ranges.{IsBetween}
+use Rattle.plan_doc.specs.Claim.{highest_price}
+use Rattle.plan_doc.specs.Snapshot.{most_items}
+
+-- ---- claims
+
+pub record IsPlacement (p : Placement) : Type 0 where
+  pub request : p.request.0 ≤ 4294967295
+  pub telescope : p.telescope.0 ≤ 65535
+  pub slice : p.slice.0 ≤ 4294967295
+
+-- a price that is read
+pub record IsPrice (z : ℤ) : Type 0 where
+  pub low : neg_ℤ highest_price ≤ℤ z
+  pub high : z ≤ℤ highest_price
+
+-- a list of at most n elements, of each of which this holds
+pub record AreUpTo {T : Type 0} (n : ℕ) (P : T → Type 0) (xs : List T) : Type 0 where
+  pub count : length xs ≤ n
+  pub each : All P xs
+
+pub record IsClaim (c : Claim) : Type 0 where
+  pub placements : AreUpTo 4096 IsPlacement c.placements
+  pub prices : AreUpTo 4096 IsPrice c.prices.0
+  pub quota_prices : AreUpTo 1024 (λ u. u ≤ 1000000000) c.quota_prices.0
+  pub value : c.value ≤ 10 ^ 12
+  pub bound : c.bound ≤ 10 ^ 17
+
+-- ---- snapshots
+
+pub record HasMoments (w : Span) : Type 0 where
+  pub first : w.from.0 ≤ most_moment
+  pub last : w.to.0 ≤ most_moment
+
+pub record IsTelescope (t : TelescopePart) : Type 0 where
+  pub site : t.site.0 ≤ 65535
+  pub usable : AreUpTo most_items HasMoments t.usable
+
+pub record IsSky (y : Sky) : Type 0 where
+  pub target : y.target.0 ≤ 65535
+  pub site : y.site.0 ≤ 65535
+  pub spans : AreUpTo most_items HasMoments y.spans
+
+pub record IsRequest (q : RequestPart) : Type 0 where
+  pub request : q.request.0 ≤ 4294967295
+  pub seconds : IsBetween 1 most_seconds q.seconds
+  pub value : IsBetween 1 most_value q.value
+  pub windows : AreUpTo most_items HasMoments q.windows
+  pub telescopes : AreUpTo most_items (λ (t : TelescopeNo). t.0 ≤ 65535) q.telescopes
+  pub targets : AreUpTo most_items (λ (t : TargetNo). t.0 ≤ 65535) q.targets
+  pub fade : q.fade ≤ 1000
+
+pub record IsGroup (x : GroupPart) : Type 0 where
+  pub group : x.group.0 ≤ 4294967295
+  pub requests : AreUpTo most_items IsRequest x.requests
+  pub quota : IfSome x.quota (λ q. q ≤ 65535)
+
+-- the parts of a snapshot whose numbers and counts a document allows
+pub record AreParts (s : Parts) : Type 0 where
+  pub version : s.version ≤ 524288
+  pub len : IsBetween 60 3600 s.len
+  pub first : s.first.0 ≤ 4223371680
+  pub slices : IsBetween 1 most_slices s.slices
+  pub telescopes : AreUpTo most_items IsTelescope s.telescopes
+  pub skies : AreUpTo most_items IsSky s.skies
+  pub groups : AreUpTo most_items IsGroup s.groups
+  pub quotas : AreUpTo most_items (λ q. q ≤ 10 ^ 12) s.quotas

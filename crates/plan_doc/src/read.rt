@@ -1,0 +1,13 @@
+// Documents read as claims and snapshots.
+
+mod claim;
+mod element;
+mod group;
+mod number;
+mod publication;
+mod sky;
+mod snapshot;
+
+pub use claim::read_claim;
+pub use publication::read_publication;
+pub use snapshot::read_snapshot;

@@ -1,0 +1,116 @@
+// The parts of claims and snapshots, as they are written.
+
+ghost use Rattle.std.specs.Prelude.{◌≡◌, option_map};
+ghost use Rattle.plan_json.specs.Values.{whole, list_of};
+ghost use Rattle.plan_doc.specs.Written.{placement_data, unless_empty, numbers_given, telescope_data, sky_data, telescope_number_data, target_number_data, fade_above_0, request_data, group_data};
+
+use plan_base::{
+    GroupPart, ListOf, Placement, RequestPart, Sky, TargetNo, TelescopeNo, TelescopePart,
+};
+use plan_json::{Each, Form, Json, object};
+use std::alloc::AllocError;
+
+/// Each part in the one form that it has in a document.
+#[derive(Drop)]
+pub(crate) struct InDocument;
+
+impl Form<Placement> for InDocument {
+    ghost value_of = { λ _. placement_data };
+
+    ghost levels = { 1 };
+
+    #[inline]
+    fn write_value(&self, placement: &Placement, out: &mut Vec<u8>) -> Result<(), AllocError> {
+        (
+            placement.request.0,
+            placement.telescope.0,
+            placement.slice.0,
+        )
+            .write(out)
+    }
+}
+
+impl Form<TelescopeNo> for InDocument {
+    ghost value_of = { λ _. telescope_number_data };
+
+    ghost levels = { 0 };
+
+    #[inline]
+    fn write_value(&self, telescope: &TelescopeNo, out: &mut Vec<u8>) -> Result<(), AllocError> {
+        telescope.0.write(out)
+    }
+}
+
+impl Form<TargetNo> for InDocument {
+    ghost value_of = { λ _. target_number_data };
+
+    ghost levels = { 0 };
+
+    #[inline]
+    fn write_value(&self, target: &TargetNo, out: &mut Vec<u8>) -> Result<(), AllocError> {
+        target.0.write(out)
+    }
+}
+
+impl Form<TelescopePart> for InDocument {
+    ghost value_of = { λ _. telescope_data };
+
+    ghost levels = { 3 };
+
+    fn write_value(&self, telescope: &TelescopePart, out: &mut Vec<u8>) -> Result<(), AllocError> {
+        object!("site": telescope.site.0, "usable": &telescope.usable).write(out)
+    }
+}
+
+impl Form<Sky> for InDocument {
+    ghost value_of = { λ _. sky_data };
+
+    ghost levels = { 3 };
+
+    fn write_value(&self, sky: &Sky, out: &mut Vec<u8>) -> Result<(), AllocError> {
+        object!("site": sky.site.0, "spans": &sky.spans, "target": sky.target.0).write(out)
+    }
+}
+
+/// A fade above 0.
+fn fade_above_0(fade: u16) -> Option<u16>
+    ensures { result ≡ fade_above_0 fade }
+{
+    if fade > 0 { Some(fade) } else { None }
+}
+
+impl Form<RequestPart> for InDocument {
+    ghost value_of = { λ _. request_data };
+
+    ghost levels = { 3 };
+
+    fn write_value(&self, request: &RequestPart, out: &mut Vec<u8>) -> Result<(), AllocError> {
+        let fade = fade_above_0(request.fade);
+        object!(
+            "fade"?: &fade,
+            "request": request.request.0,
+            "seconds": request.seconds,
+            "targets": Each { form: InDocument, items: &request.targets },
+            "telescopes": Each { form: InDocument, items: &request.telescopes },
+            "value": request.value,
+            "windows": &request.windows,
+        )
+        .write(out)
+    }
+}
+
+impl Form<GroupPart> for InDocument {
+    ghost value_of = { λ _. group_data };
+
+    ghost levels = { 5 };
+
+    fn write_value(&self, group: &GroupPart, out: &mut Vec<u8>) -> Result<(), AllocError> {
+        object!(
+            "group": group.group.0,
+            "operator": group.op,
+            "quota"?: &group.quota,
+            "requests": Each { form: InDocument, items: &group.requests },
+        )
+        .write(out)
+    }
+}
