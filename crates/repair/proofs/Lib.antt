@@ -1,0 +1,10 @@
+pub mod Marked
+pub mod Drafting
+pub mod Nearest
+pub mod Pairs
+pub mod Ranking
+pub mod Trying
+pub mod Visiting
+pub mod Made
+pub mod Entered
+pub mod Grouping
