@@ -8,3 +8,8 @@ pub mod Visiting
 pub mod Made
 pub mod Entered
 pub mod Grouping
+pub mod Adding
+pub mod Noting
+pub mod Valued
+pub mod Sorting
+pub mod Repaired

@@ -5,3 +5,7 @@ pub mod Drafts
 pub mod Orders
 pub mod Trials
 pub mod Steps
+pub mod Worths
+pub mod Firsts
+pub mod Repairs
+pub mod Repairing

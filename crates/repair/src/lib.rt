@@ -5,12 +5,18 @@ mod draft;
 mod entry;
 mod fill;
 mod find;
+mod firsts;
 mod greedy_plan;
 mod marks;
 mod order;
+mod ranked;
+mod repairer;
 #[cfg(test)]
 mod tests;
 mod trials;
 mod visit;
+mod wholes;
+mod worth;
 
 pub use greedy_plan::greedy;
+pub use repairer::Repairer;

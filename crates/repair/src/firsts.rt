@@ -1,0 +1,34 @@
+// The first start of each request.
+
+ghost use Rattle.std.specs.Prelude.{◌≡◌, length, All};
+ghost use Rattle.plan_base.specs.Requests.{listed, IsKnown};
+ghost use Rattle.repair.specs.Firsts.{AreFirsts};
+
+use plan_base::{Placement, Snapshot};
+
+/// Notes for each request, by its place, the first of these starts that is one of its own.
+pub(crate) fn note_firsts(
+    snapshot: &Snapshot,
+    starts: &[Placement],
+    firsts: &mut Vec<Option<Placement>>,
+)
+    requires count { length firsts.old.items ≡ length (listed snapshot.now) }
+    requires known { All (λ p. IsKnown snapshot.now p.request.0) starts.now }
+    ensures { AreFirsts snapshot.now starts.now firsts.new.items }
+{
+    forget_all(firsts);
+    for index in (0..starts.len()).rev() {
+        let start = starts[index];
+        let place = snapshot.known_place(start.request);
+        firsts[place] = Some(start);
+    }
+}
+
+fn forget_all(firsts: &mut Vec<Option<Placement>>)
+    ensures count { length firsts.new.items ≡ length firsts.old.items }
+    ensures none { All (λ first. first ≡ None) firsts.new.items }
+{
+    for place in 0..firsts.len() {
+        firsts[place] = None;
+    }
+}
