@@ -13,3 +13,4 @@ pub mod Noting
 pub mod Valued
 pub mod Sorting
 pub mod Repaired
+pub mod Slots

@@ -39,9 +39,9 @@ impl<'a> Model for Draft<'a> {
 
 /// The slots of a placement on a telescope: the first, and the one after the last.
 #[derive(Clone, Copy, Debug)]
-struct Slots {
-    from: usize,
-    to: usize,
+pub(crate) struct Slots {
+    pub from: usize,
+    pub to: usize,
 }
 
 impl<'a> Draft<'a> {
@@ -175,7 +175,7 @@ fn last_of(placed: &[Placement]) -> Placement
 }
 
 /// The slots that a possible start occupies.
-fn slots_of(snapshot: &Snapshot, start: Placement) -> Slots
+pub(crate) fn slots_of(snapshot: &Snapshot, start: Placement) -> Slots
     requires { IsPossibleStart snapshot.now start }
     ensures from { result.from ≡ first_slot snapshot.now start }
     ensures to { result.to ≡ end_slot snapshot.now start }

@@ -1,12 +1,13 @@
 // Plans of small desks, worked out by hand.
 
 use plan_base::{
-    GroupNo, GroupPart, ListOf, Op, Parts, RequestNo, RequestPart, Sec, SiteNo, SliceNo, Snapshot,
-    Span, TelescopeNo, TelescopePart,
+    GroupNo, GroupPart, ListOf, Op, Parts, Placement, RequestNo, RequestPart, Sec, SiteNo, SliceNo,
+    Snapshot, Span, TelescopeNo, TelescopePart,
 };
 use std::alloc::{AllocError, Global};
 use std::test::Fail;
 
+mod repairs;
 mod rows;
 
 /// How long a slice of the desks is, in seconds.
@@ -24,6 +25,31 @@ struct Wish {
     fade: u16,
     from: u64,
     to: u64,
+}
+
+/// A request whose value doesn't fade.
+fn make_wish(group: u32, slices: u32, value: u32, from: u64, to: u64) -> Wish {
+    Wish {
+        group,
+        slices,
+        value,
+        fade: 0,
+        from,
+        to,
+    }
+}
+
+/// The placements as request, telescope and slice.
+fn listed(alloc: Global, plan: &[Placement]) -> Result<Vec<(u32, u16, u32)>, Fail> {
+    let mut list = Vec::new(alloc);
+    for placement in plan {
+        list.push((
+            placement.request.0,
+            placement.telescope.0,
+            placement.slice.0,
+        ))?;
+    }
+    Ok(list)
 }
 
 fn one<T: Drop>(alloc: Global, item: T) -> Result<ListOf<T>, AllocError> {

@@ -1,37 +1,13 @@
 // Greedy plans of small desks.
 
-use super::{Wish, snapshot};
+use super::{listed, make_wish, snapshot};
 use crate::greedy;
-use plan_base::{Op, Placement, Snapshot};
+use plan_base::{Op, Snapshot};
 use snapshot_starts::starts;
 use std::alloc::Global;
 use std::process::Abort;
 use std::test::Fail;
 use std::thread::Threads;
-
-const fn wish(group: u32, slices: u32, value: u32, from: u64, to: u64) -> Wish {
-    Wish {
-        group,
-        slices,
-        value,
-        fade: 0,
-        from,
-        to,
-    }
-}
-
-/// The placements as request, telescope and slice.
-fn listed(alloc: Global, plan: &[Placement]) -> Result<Vec<(u32, u16, u32)>, Fail> {
-    let mut list = Vec::new(alloc);
-    for placement in plan {
-        list.push((
-            placement.request.0,
-            placement.telescope.0,
-            placement.slice.0,
-        ))?;
-    }
-    Ok(list)
-}
 
 fn assert_greedy<R: Threads + Sync + Abort>(
     rt: &R,
@@ -49,7 +25,7 @@ fn assert_greedy<R: Threads + Sync + Abort>(
 #[test]
 fn oneof_is_placed_once_on_the_lowest_telescope(rt: HostRuntime) -> Result<(), Fail> {
     let alloc = rt.alloc();
-    let wishes = [wish(1, 1, 50_000, 0, 1), wish(1, 1, 50_000, 0, 1)];
+    let wishes = [make_wish(1, 1, 50_000, 0, 1), make_wish(1, 1, 50_000, 0, 1)];
     let snapshot = snapshot(alloc, 2, &[Op::OneOf], &wishes, None)?;
     assert_greedy(&rt, alloc, &snapshot, &[(1, 0, 0)])
 }
@@ -57,7 +33,10 @@ fn oneof_is_placed_once_on_the_lowest_telescope(rt: HostRuntime) -> Result<(), F
 #[test]
 fn greater_value_of_a_oneof_goes_first(rt: HostRuntime) -> Result<(), Fail> {
     let alloc = rt.alloc();
-    let wishes = [wish(1, 1, 50_000, 0, 12), wish(1, 1, 60_000, 0, 12)];
+    let wishes = [
+        make_wish(1, 1, 50_000, 0, 12),
+        make_wish(1, 1, 60_000, 0, 12),
+    ];
     let snapshot = snapshot(alloc, 1, &[Op::OneOf], &wishes, None)?;
     assert_greedy(&rt, alloc, &snapshot, &[(2, 0, 0)])
 }
@@ -66,10 +45,10 @@ fn greater_value_of_a_oneof_goes_first(rt: HostRuntime) -> Result<(), Fail> {
 fn and_with_a_member_without_a_start_leaves_nothing(rt: HostRuntime) -> Result<(), Fail> {
     let alloc = rt.alloc();
     let wishes = [
-        wish(1, 1, 50_000, 0, 12),
-        wish(1, 2, 50_000, 0, 12),
-        wish(1, 3, 50_000, 0, 4),
-        wish(2, 1, 10, 0, 12),
+        make_wish(1, 1, 50_000, 0, 12),
+        make_wish(1, 2, 50_000, 0, 12),
+        make_wish(1, 3, 50_000, 0, 4),
+        make_wish(2, 1, 10, 0, 12),
     ];
     let snapshot = snapshot(alloc, 1, &[Op::And, Op::Single], &wishes, None)?;
     assert_greedy(&rt, alloc, &snapshot, &[(4, 0, 0)])
@@ -78,7 +57,7 @@ fn and_with_a_member_without_a_start_leaves_nothing(rt: HostRuntime) -> Result<(
 #[test]
 fn quota_is_kept(rt: HostRuntime) -> Result<(), Fail> {
     let alloc = rt.alloc();
-    let wishes = [wish(1, 1, 10, 0, 12), wish(2, 1, 20, 0, 12)];
+    let wishes = [make_wish(1, 1, 10, 0, 12), make_wish(2, 1, 20, 0, 12)];
     let snapshot = snapshot(alloc, 1, &[Op::Single, Op::Single], &wishes, Some(300))?;
     assert_greedy(&rt, alloc, &snapshot, &[(2, 0, 0)])
 }
@@ -87,12 +66,12 @@ fn quota_is_kept(rt: HostRuntime) -> Result<(), Fail> {
 fn gaps_are_found(rt: HostRuntime) -> Result<(), Fail> {
     let alloc = rt.alloc();
     let wishes = [
-        wish(1, 2, 90_000, 1, 3),
-        wish(1, 3, 80_000, 4, 7),
-        wish(1, 2, 70_000, 0, 12),
-        wish(1, 1, 70_000, 0, 12),
-        wish(1, 1, 70_000, 0, 12),
-        wish(1, 1, 70_000, 0, 12),
+        make_wish(1, 2, 90_000, 1, 3),
+        make_wish(1, 3, 80_000, 4, 7),
+        make_wish(1, 2, 70_000, 0, 12),
+        make_wish(1, 1, 70_000, 0, 12),
+        make_wish(1, 1, 70_000, 0, 12),
+        make_wish(1, 1, 70_000, 0, 12),
     ];
     let snapshot = snapshot(alloc, 1, &[Op::Many], &wishes, None)?;
     assert_greedy(
