@@ -1,22 +1,19 @@
 -- ANDs that are added whole, and starts that are added one by one.
-use Rattle.std.proofs.Common.{◌≡◌, ◌≢◌, ℕ, zero, suc, ◌+◌, ◌<◌, ◌≤◌, ◌⊎◌, inl, inr, Bool, true, false, not, ◌==◌, List, [], ◌∷◌, ◌++◌, length, map, take, drop, slice_index_or, Option, Some, None, find, All, AllPairs, Contains, refl, sym, ◌∙◌, ap, subst, arith}
-use Rattle.std.specs.Prelude.{HoldsAt}
+use Rattle.std.proofs.Common.{◌≡◌, ◌≢◌, ℕ, suc, ◌+◌, ◌<◌, ◌≤◌, ◌⊎◌, inl, inr, true, false, ◌==◌, List, [], ◌∷◌, ◌++◌, length, map, take, drop, slice_index_or, Option, Some, None, find, All, AllPairs, Contains, refl, sym, ◌∙◌, ap, subst, arith}
 use Rattle.std.specs.List.{enumerate_from}
 use Rattle.std.proofs.lemmas.List.{drop_more, drop_all, length_push, take-append-le, take_more, take_all, map_push, append-nil, append_assoc, map-append, length-map, get_or-map}
 use Rattle.std.proofs.lemmas.List.FromFn.{get_or-enumerate_from}
-use Rattle.std.proofs.lemmas.List.Elements.{All-nil, All-cons, All-head, All-tail, All-contains, All-filter, filter_passes, Contains-get_or, Contains-append_left, Contains-append_right, Contains-append_cases, Contains-push_cases}
+use Rattle.std.proofs.lemmas.List.Elements.{All-nil, All-cons, All-head, All-tail, Contains-append_left, Contains-append_right, Contains-append_cases, Contains-push_cases}
 use Rattle.plan_base.specs.declared.parts.Parts.{Parts}
 use Rattle.plan_base.specs.declared.parts.GroupPart.{GroupPart}
-use Rattle.plan_base.specs.declared.parts.Op.{Op}
 use Rattle.plan_base.specs.declared.parts.Op.TheVariants.{Single, And}
 use Rattle.plan_base.specs.declared.claim.Placement.{Placement}
-use Rattle.plan_base.specs.Requests.{seconds_of, quota_of, group_of, IsOf, IsKind, members, AllOrNone}
+use Rattle.plan_base.specs.Requests.{group_of, IsOf, IsKind, members, AllOrNone}
 use Rattle.plan_base.specs.Snapshot.{IsOrderly}
 use Rattle.plan_base.specs.Starts.{IsPossibleStart, ShareSlice}
-use Rattle.plan_base.specs.Feasible.{requests_of, AreOfOneOneOf, quota_seconds, quota_at, IsAndWhole, IsFeasible}
+use Rattle.plan_base.specs.Feasible.{requests_of, AreOfOneOneOf, quota_seconds, quota_at, IsFeasible}
 use Rattle.plan_base.specs.FeasibleSoFar.{IsFeasibleSoFar}
-use Rattle.plan_base.specs.Repaired.{first_starts, CanAddWhole, AddsWholes, group_places, is_and, AddsEach}
-use Rattle.plan_base.specs.Round.{op_at}
+use Rattle.plan_base.specs.Repaired.{first_starts, AddsWholes, group_places, AddsEach}
 use Rattle.plan_base.proofs.Adding.{feasible_from_whole, so_far_from_feasible, requests_push, pairs_of_first, quota_seconds_push}
 use Rattle.plan_base.proofs.Members.{is_of_member, member_is_of}
 use Rattle.groups.proofs.Keeping.{found_placement}

@@ -1,10 +1,10 @@
 -- What a plan that is being built keeps, as placements come and go.
-use Rattle.std.proofs.Common.{◌≡◌, ◌≢◌, ℕ, ◌+◌, ◌-◌, ◌*◌, ◌^◌, ◌<◌, ◌≤◌, ◌⊎◌, inl, inr, min, Bool, true, false, cond, not, ◌&&◌, ◌==◌, nat_le, nat_lt, List, [], ◌∷◌, ◌++◌, length, map, take, filter, slice_index_or, All, AllPairs, Contains, refl, sym, ◌∙◌, ap, subst, arith}
+use Rattle.std.proofs.Common.{◌≡◌, ◌≢◌, ℕ, ◌+◌, ◌-◌, ◌*◌, ◌^◌, ◌<◌, ◌≤◌, inl, inr, min, Bool, true, cond, not, ◌&&◌, ◌==◌, nat_le, nat_lt, List, [], ◌∷◌, ◌++◌, length, map, take, filter, slice_index_or, All, AllPairs, refl, sym, ◌∙◌, ap, subst, arith}
 use Rattle.std.specs.Prelude.{HoldsAt}
 use Rattle.std.proofs.lemmas.Nat.{mul-le}
 use Rattle.std.proofs.lemmas.Bool.Decides.{eqb_tells}
 use Rattle.std.proofs.lemmas.List.{length-map, take_more, take_all, append-nil}
-use Rattle.std.proofs.lemmas.List.Elements.{All-map, filter-append, Contains-get_or}
+use Rattle.std.proofs.lemmas.List.Elements.{All-map, filter-append}
 use Rattle.plan_base.specs.declared.parts.Parts.{Parts}
 use Rattle.plan_base.specs.declared.fault.Counted.TheVariants.{Telescopes, Requests}
 use Rattle.plan_base.specs.declared.claim.Placement.{Placement}
@@ -25,7 +25,7 @@ use Rattle.groups.proofs.Told.{slots_below}
 use Rattle.snapshot_starts.specs.declared.run.Run.{Run}
 use Rattle.snapshot_starts.specs.Runs.{start_at}
 use Rattle.repair.specs.Marks.{IsClear, IsFirstClear, AreMarks}
-use Rattle.repair.specs.Apart.{IsApart, HasSlice, IsPossibleRun, HasNoApart, IsFirstApart}
+use Rattle.repair.specs.Apart.{HasSlice, IsPossibleRun, HasNoApart, IsFirstApart}
 use Rattle.repair.specs.Drafts.{IsDraft}
 use Rattle.repair.proofs.Marked.{marks_more, marks_less, apart_when_clear, clear_when_apart}
 

@@ -1,5 +1,5 @@
 -- The runs of a request's possible starts.
-use Rattle.std.proofs.Common.{◌≡◌, ℕ, ◌+◌, ◌<◌, ◌≤◌, Bool, true, ◌==◌, List, slice_index_or, All, Contains, sym, ap, subst, arith}
+use Rattle.std.proofs.Common.{◌≡◌, ℕ, ◌<◌, true, ◌==◌, List, slice_index_or, Contains, sym, subst, arith}
 use Rattle.std.proofs.lemmas.Bool.{eqb-true, eq-eqb}
 use Rattle.std.proofs.lemmas.List.Elements.{All-contains, All-filter, filter_passes}
 use Rattle.plan_base.specs.declared.parts.Parts.{Parts}
@@ -7,9 +7,8 @@ use Rattle.plan_base.specs.declared.claim.Placement.{Placement}
 use Rattle.plan_base.specs.Starts.{IsPossibleStart}
 use Rattle.plan_base.proofs.Lists.{contains_filter}
 use Rattle.snapshot_starts.specs.declared.run.Run.{Run}
-use Rattle.snapshot_starts.specs.Runs.{start_at, starts_of, AreRuns, AreAllStarts, starts_with}
+use Rattle.snapshot_starts.specs.Runs.{start_at, AreRuns, AreAllStarts, starts_with}
 use Rattle.snapshot_starts.proofs.InRuns.{from_starts}
-use Rattle.repair.specs.Apart.{IsPossibleRun}
 use Rattle.repair.specs.Entries.{AreRunsFor}
 
 pub runs_for : (s : Parts) (starts : List Placement) (r : ℕ) (runs : List Run) → AreAllStarts s starts → AreRuns (starts_with starts r) runs → AreRunsFor s r runs

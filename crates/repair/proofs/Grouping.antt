@@ -1,5 +1,5 @@
 -- What a visit may take for granted of the requests of a group.
-use Rattle.std.proofs.Common.{◌≡◌, ◌≢◌, ℕ, zero, suc, ◌<◌, ◌≤◌, List, [], ◌∷◌, length, map, slice_index_or, All, AllPairs, Contains, None, sym, ◌∙◌, ap, subst, arith}
+use Rattle.std.proofs.Common.{◌≡◌, ◌≢◌, ℕ, ◌<◌, List, [], length, slice_index_or, All, AllPairs, Contains, None, sym, ◌∙◌, ap, subst, arith}
 use Rattle.std.proofs.lemmas.List.{length-map, get_or-map}
 use Rattle.std.proofs.lemmas.List.Elements.{All-contains, Contains-get_or}
 use Rattle.plan_base.specs.declared.parts.Parts.{Parts}
@@ -11,7 +11,6 @@ use Rattle.plan_base.specs.Requests.{IsOf, IsKind, members_of, members}
 use Rattle.plan_base.specs.Snapshot.{IsOrderly}
 use Rattle.plan_base.specs.Feasible.{requests_of, AreOfOneOneOf}
 use Rattle.plan_base.specs.Saturated.{HasNonePlaced}
-use Rattle.plan_base.specs.Fill.{IsMemberOrder}
 use Rattle.plan_base.proofs.Members.{is_of_member, member_is_of, members_rise}
 use Rattle.repair.specs.declared.entry.Entry.{Entry}
 use Rattle.repair.specs.Entries.{numbers_of}

@@ -1,6 +1,5 @@
 -- What is made of a snapshot's groups: the order of a pass, and the order in which a group's requests are tried.
 use Rattle.std.proofs.Common.{◌≡◌, ◌≢◌, ℕ, zero, suc, ◌+◌, ◌<◌, ◌≤◌, ◌⊎◌, inl, inr, List, [], ◌∷◌, ◌++◌, length, map, take, slice_index_or, All, AllPairs, Contains, refl, sym, ◌∙◌, ap, subst, arith}
-use Rattle.std.specs.Prelude.{HoldsAt}
 use Rattle.std.proofs.lemmas.List.{length-map, get_or-map, get_or_default, get_or_append_left, get_or_push, length_push, map_push, take_more}
 use Rattle.std.proofs.lemmas.List.Elements.{All-nil, All-cons, All-head, All-tail, All-map, All-contains, Contains-get_or, Contains-append_left, Contains-append_right}
 use Rattle.plan_base.specs.declared.parts.Parts.{Parts}
@@ -11,10 +10,9 @@ use Rattle.plan_base.specs.declared.parts.Op.TheVariants.{Single, Many, OneOf, A
 use Rattle.plan_base.specs.Requests.{Listed, listed_from, listed, IsKnown, request_value, IsOf, IsKind, members_of, members}
 use Rattle.plan_base.specs.Snapshot.{IsOrderly, most_requests}
 use Rattle.plan_base.specs.Fill.{worth_of_group, IsFillOrder, IsMemberOrder}
-use Rattle.plan_base.proofs.Known.{IsListedAs, known_or_is}
+use Rattle.plan_base.proofs.Known.{known_or_is}
 use Rattle.plan_base.proofs.Lists.{contains_map, AllPairs-map}
 use Rattle.plan_base.proofs.Members.{listed_known, listed_as, is_of_member, member_is_of, members_rise}
-use Rattle.plan_base.proofs.GroupRebates.{all_from_map}
 use Rattle.plan_base.proofs.Orders.{one_order}
 use Rattle.repair.specs.declared.entry.Entry.{Entry}
 use Rattle.repair.specs.declared.trials.Trial.{Trial}

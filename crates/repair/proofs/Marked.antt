@@ -1,7 +1,7 @@
 -- The marks of a plan, with one placement more or less, and what they tell of starts.
-use Rattle.std.proofs.Common.{◌≡◌, ◌≢◌, ℕ, ◌+◌, ◌-◌, ◌*◌, ◌<◌, ◌≤◌, ◌⊎◌, inl, inr, Bool, true, false, cond, ◌&&◌, nat_le, nat_lt, List, [], ◌∷◌, ◌++◌, length, replicate, slice_index_or, All, Contains, refl, sym, ◌∙◌, ap, subst, arith}
+use Rattle.std.proofs.Common.{◌≡◌, ℕ, ◌<◌, ◌≤◌, ◌⊎◌, inl, inr, Bool, true, false, cond, ◌&&◌, nat_le, nat_lt, List, [], ◌∷◌, ◌++◌, length, slice_index_or, Contains, sym, ◌∙◌, ap, subst, arith}
 use Rattle.std.proofs.lemmas.Bool.Decides.{nat_tests}
-use Rattle.std.proofs.lemmas.List.Elements.{All-nil, All-push, All-contains, Contains-append_left, Contains-push, Contains-push_cases, Contains-get_or}
+use Rattle.std.proofs.lemmas.List.Elements.{All-push, All-contains, Contains-append_left, Contains-push, Contains-push_cases, Contains-get_or}
 use Rattle.plan_base.specs.declared.parts.Parts.{Parts}
 use Rattle.plan_base.specs.declared.claim.Placement.{Placement}
 use Rattle.plan_base.specs.Snapshot.{IsOrderly}
@@ -11,7 +11,7 @@ use Rattle.plan_base.proofs.Adding.{pairs_before_last}
 use Rattle.plan_base.proofs.Sizes.{start_size_above}
 use Rattle.groups.specs.Footprints.{first_slot, end_slot}
 use Rattle.groups.proofs.Rooms.{slot_shared, shared_slot}
-use Rattle.repair.specs.Marks.{IsMarked, IsClear, AreSkips, TakesSlot, AreMarks}
+use Rattle.repair.specs.Marks.{IsClear, AreSkips, TakesSlot, AreMarks}
 use Rattle.repair.specs.Apart.{IsApart}
 
 -- the slot is one of those, or isn't

@@ -1,5 +1,5 @@
 -- The steps of a run make the repaired plan.
-use Rattle.std.proofs.Common.{◌≡◌, List, [], Option, sym, ◌∙◌, ap, subst}
+use Rattle.std.proofs.Common.{◌≡◌, List, [], Option, sym, ◌∙◌, subst}
 use Rattle.plan_base.specs.declared.parts.Parts.{Parts}
 use Rattle.plan_base.specs.declared.claim.Placement.{Placement}
 use Rattle.plan_base.specs.Fill.{IsFilled}

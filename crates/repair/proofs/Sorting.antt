@@ -1,5 +1,5 @@
 -- Ranked starts, sorted, are in the order in which they are tried.
-use Rattle.std.proofs.Common.{◌≡◌, ◌≢◌, ℕ, ◌+◌, ◌*◌, ◌<◌, ◌≤◌, ◌⊎◌, inl, inr, Bool, true, false, cond, not, List, [], ◌∷◌, ◌++◌, length, map, filter, take, slice_index_or, All, AllPairs, IsPermutation, None, Ordering, Less, Equal, refl, sym, ◌∙◌, ap, subst, arith}
+use Rattle.std.proofs.Common.{◌≡◌, ◌≢◌, ℕ, ◌+◌, ◌*◌, ◌<◌, ◌≤◌, ◌⊎◌, inl, inr, Bool, true, false, cond, not, List, [], ◌∷◌, ◌++◌, length, map, take, slice_index_or, All, AllPairs, IsPermutation, None, Ordering, Less, Equal, refl, sym, ◌∙◌, ap, subst, arith}
 use Rattle.std.specs.Cmp.{nat_cmp_is}
 use Rattle.std.specs.Ordering.{is_lt, nat_cmp, ordering_then}
 use Rattle.std.proofs.lemmas.Bool.{cases_eq, cases_lt}
@@ -17,14 +17,14 @@ use Rattle.plan_base.specs.declared.number.TelescopeNo.{TelescopeNo}
 use Rattle.plan_base.specs.declared.claim.Placement.{Placement}
 use Rattle.plan_base.specs.Requests.{group_of, IsKind}
 use Rattle.plan_base.specs.Snapshot.{IsOrderly}
-use Rattle.plan_base.specs.Starts.{IsPossibleStart, ShareSlice, size_of, worth_at, IsListedBefore}
+use Rattle.plan_base.specs.Starts.{IsPossibleStart, ShareSlice, size_of, worth_at}
 use Rattle.plan_base.specs.Feasible.{IsDisjoint}
 use Rattle.plan_base.specs.Repaired.{is_and, outside_ands, IsTriedBefore}
 use Rattle.plan_base.specs.Round.{op_at}
 use Rattle.plan_base.proofs.Known.{telescope_known, group_known}
 use Rattle.plan_base.proofs.Lists.{AllPairs-map, length_below}
 use Rattle.plan_base.proofs.Sizes.{start_size_above}
-use Rattle.groups.specs.Footprints.{first_slot, end_slot}
+use Rattle.groups.specs.Footprints.{first_slot}
 use Rattle.groups.proofs.Rooms.{slot_shared}
 use Rattle.groups.proofs.Told.{slots_below}
 use Rattle.repair.specs.declared.ranked.Ranked.{Ranked}

@@ -1,8 +1,8 @@
 -- What is free, and what can be added.
-use Rattle.std.proofs.Common.{◌≡◌, ◌≢◌, ℕ, ◌+◌, ◌<◌, ◌≤◌, ◌⊎◌, inl, inr, Bool, true, false, cond, ◌==◌, List, [], ◌∷◌, ◌++◌, length, slice_index_or, Option, Some, None, All, Contains, refl, sym, ◌∙◌, ap, subst, arith}
+use Rattle.std.proofs.Common.{◌≡◌, ◌≢◌, ℕ, ◌+◌, ◌<◌, ◌≤◌, inl, inr, Bool, true, false, cond, ◌==◌, List, [], ◌∷◌, ◌++◌, length, slice_index_or, Option, Some, None, All, Contains, refl, sym, ◌∙◌, ap, subst, arith}
 use Rattle.std.proofs.lemmas.Bool.{eqb-true}
 use Rattle.std.proofs.lemmas.Bool.Decides.{eqb_tells}
-use Rattle.std.proofs.lemmas.List.{get_or_default, length_push, get_or_append_left}
+use Rattle.std.proofs.lemmas.List.{get_or_default, length_push}
 use Rattle.std.proofs.lemmas.List.Elements.{All-contains, All-weaker, Contains-get_or}
 use Rattle.plan_base.specs.declared.parts.Parts.{Parts}
 use Rattle.plan_base.specs.declared.parts.Op.{Op}
@@ -15,7 +15,7 @@ use Rattle.plan_base.specs.Feasible.{requests_of, AreOfOneOneOf, is_quota, quota
 use Rattle.plan_base.specs.FeasibleSoFar.{IsFeasibleSoFar}
 use Rattle.plan_base.specs.Saturated.{IsFree, HasNoFree, HasNonePlaced, IsEarliestFree}
 use Rattle.plan_base.proofs.Adding.{FitsPlan, so_far_push, fits_from_push, seconds_towards}
-use Rattle.plan_base.proofs.Known.{quota_known, group_known}
+use Rattle.plan_base.proofs.Known.{quota_known}
 use Rattle.plan_base.proofs.Members.{member_is_of}
 use Rattle.plan_base.proofs.Rebates.{one_kind}
 use Rattle.plan_base.proofs.Tables.{share_symmetric}

@@ -1,7 +1,7 @@
 -- What a visit of a group of each kind does.
 use Rattle.std.proofs.Common.{true, false, ◌≡◌, ◌≢◌, ℕ, zero, suc, ◌+◌, ◌<◌, ◌≤◌, ◌⊎◌, inl, inr, List, [], ◌∷◌, ◌++◌, length, drop, take, slice_index_or, All, AllPairs, Contains, add-one, refl, sym, ◌∙◌, ap, subst, arith}
 use Rattle.std.proofs.lemmas.List.{drop_more, drop_all, length_push, take-append-le, length-map, get_or-map}
-use Rattle.std.proofs.lemmas.List.Elements.{All-contains, All-map, All-drop, All-head, All-tail, Contains-push_cases, Contains-get_or}
+use Rattle.std.proofs.lemmas.List.Elements.{All-head, All-tail, Contains-push_cases}
 use Rattle.plan_base.specs.declared.parts.Parts.{Parts}
 use Rattle.plan_base.specs.declared.parts.Op.{Op}
 use Rattle.plan_base.specs.declared.parts.Op.TheVariants.{Single, Many, OneOf, And}
@@ -9,7 +9,7 @@ use Rattle.plan_base.specs.declared.claim.Placement.{Placement}
 use Rattle.plan_base.specs.Requests.{IsKind, members}
 use Rattle.plan_base.specs.Feasible.{requests_of}
 use Rattle.plan_base.specs.Saturated.{HasNoFree, HasNonePlaced, IsEarliestFree, TakesEach}
-use Rattle.plan_base.specs.Fill.{TriesOne, TriesEach, TriesUntilOne, TakesAllOrNone, IsMemberOrder, IsFillOrder, VisitsGroup, VisitsEach, IsPass, IsFilled}
+use Rattle.plan_base.specs.Fill.{TriesOne, TriesEach, TriesUntilOne, TakesAllOrNone, IsMemberOrder, VisitsGroup, VisitsEach, IsPass, IsFilled}
 use Rattle.plan_base.proofs.Adding.{requests_push}
 use Rattle.plan_base.proofs.OneFill.{one_earliest}
 use Rattle.plan_base.proofs.Orders.{pairs_tail}

@@ -1,7 +1,7 @@
 -- What requests are worth, and how they fade.
 use Rattle.std.specs.Prelude.{◌≡◌, ℕ, ◌<◌, List, length, HoldsAt}
 use Rattle.plan_base.specs.declared.parts.Parts.{Parts}
-use Rattle.plan_base.specs.Requests.{Listed, listed, request_value, fade_of}
+use Rattle.plan_base.specs.Requests.{listed, request_value, fade_of}
 use Rattle.plan_base.specs.Starts.{earliest_slice}
 use Rattle.repair.specs.declared.worth.Offer.{Offer}
 

@@ -1,5 +1,4 @@
-use Rattle.std.proofs.Common.{◌≡◌, ◌+◌, ◌-◌, ◌*◌, ◌∙◌, ap, arith}
-use Rattle.plan_base.specs.Requests.{seconds_of}
+use Rattle.std.proofs.Common.{◌+◌, ◌-◌, ◌*◌, ◌∙◌, ap}
 use Rattle.groups.proofs.Footed.{seconds_here, to_here}
 use Rattle.repair.proofs.draft.slots_of.Goals as goal
 

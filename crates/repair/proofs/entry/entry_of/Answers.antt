@@ -1,8 +1,7 @@
-use Rattle.std.proofs.Common.{◌≡◌, ◌∙◌, List, sym, ap, subst}
+use Rattle.std.proofs.Common.{◌∙◌, sym, ap, subst}
 use Rattle.plan_base.specs.declared.parts.Parts.{Parts}
 use Rattle.plan_base.specs.Starts.{slices_for}
 use Rattle.groups.proofs.Footed.{seconds_here}
-use Rattle.snapshot_starts.specs.declared.run.Run.{Run}
 use Rattle.snapshot_starts.specs.Runs.{AreRuns, starts_with}
 use Rattle.repair.proofs.Entered.{runs_for}
 use Rattle.repair.proofs.entry.entry_of.Goals as goal

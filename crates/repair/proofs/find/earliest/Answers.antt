@@ -1,4 +1,4 @@
-use Rattle.std.proofs.Common.{◌≤◌, List, length, sym, subst, arith, ap}
+use Rattle.std.proofs.Common.{◌≤◌, List, length, subst, arith}
 use Rattle.snapshot_starts.specs.declared.run.Run.{Run}
 use Rattle.repair.proofs.Nearest.{run_more, size_of_run, earliest_of_all}
 use Rattle.repair.proofs.find.earliest.Goals as goal

@@ -1,5 +1,4 @@
-use Rattle.std.proofs.Common.{◌+◌, refl, sym, subst, arith}
-use Rattle.std.proofs.lemmas.List.{get_or_default}
+use Rattle.std.proofs.Common.{◌+◌, refl, sym, subst}
 use Rattle.repair.specs.Orders.{AreRanksOf}
 use Rattle.repair.proofs.Ranking.{ranks_more}
 use Rattle.repair.proofs.order.ranks_of.Goals as goal

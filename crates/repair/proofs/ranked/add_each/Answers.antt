@@ -1,4 +1,4 @@
-use Rattle.std.proofs.Common.{◌≡◌, ◌∙◌, length, map, subst, arith}
+use Rattle.std.proofs.Common.{◌∙◌, map, subst, arith}
 use Rattle.plan_base.specs.declared.parts.Parts.{Parts}
 use Rattle.plan_base.specs.Feasible.{IsFeasible}
 use Rattle.repair.specs.Repairs.{start_of}

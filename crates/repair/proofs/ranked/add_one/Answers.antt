@@ -1,4 +1,4 @@
-use Rattle.std.proofs.Common.{◌≡◌, inl, sym, ap, subst}
+use Rattle.std.proofs.Common.{inl, sym, ap, subst}
 use Rattle.plan_base.specs.Feasible.{IsFeasible}
 use Rattle.groups.specs.Building.{Building}
 use Rattle.repair.proofs.Adding.{feasible_more}

@@ -1,8 +1,7 @@
-use Rattle.std.proofs.Common.{◌≡◌, List, map, slice_index_or, sym, ◌∙◌, ap, arith}
+use Rattle.std.proofs.Common.{◌≡◌, List, slice_index_or, sym, ◌∙◌, ap}
 use Rattle.plan_base.specs.declared.parts.Parts.{Parts}
 use Rattle.plan_base.specs.declared.parts.GroupPart.{GroupPart}
 use Rattle.plan_base.specs.declared.parts.Op.TheVariants.{Single}
-use Rattle.plan_base.specs.Requests.{group_of}
 use Rattle.plan_base.specs.Repaired.{is_and}
 use Rattle.plan_base.specs.Round.{op_at}
 use Rattle.std.proofs.lemmas.List.{get_or-map}

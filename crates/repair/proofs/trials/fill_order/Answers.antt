@@ -4,7 +4,7 @@ use Rattle.plan_base.specs.declared.parts.Parts.{Parts}
 use Rattle.plan_base.specs.declared.parts.GroupPart.{GroupPart}
 use Rattle.plan_base.specs.Fill.{worth_of_group, IsFillOrder}
 use Rattle.repair.specs.Orders.{IsFallingOrder}
-use Rattle.repair.proofs.Made.{values_in_groups, few_in_groups, fill_from_falling}
+use Rattle.repair.proofs.Made.{values_in_groups, fill_from_falling}
 use Rattle.repair.proofs.trials.fill_order.Goals as goal
 
 pub group_worths-requires-clause-values : goal.group_worths-requires-clause-values

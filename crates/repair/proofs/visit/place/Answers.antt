@@ -1,4 +1,4 @@
-use Rattle.std.proofs.Common.{true, false, refl, sym, ◌∙◌}
+use Rattle.std.proofs.Common.{refl, sym, ◌∙◌}
 use Rattle.repair.proofs.Trying.{none_free, earliest_free, none_free_within}
 use Rattle.repair.proofs.visit.place.Goals as goal
 

@@ -1,4 +1,4 @@
-use Rattle.std.proofs.Common.{◌≡◌, ◌<◌, ◌≤◌, ℕ, true, false, List, All, Contains, length, take, drop, refl, sym, ◌∙◌, ap, subst, arith}
+use Rattle.std.proofs.Common.{◌≡◌, ℕ, true, false, List, All, length, refl, sym, ◌∙◌, ap, subst, arith}
 use Rattle.plan_base.specs.declared.parts.Parts.{Parts}
 use Rattle.plan_base.specs.declared.claim.Placement.{Placement}
 use Rattle.plan_base.specs.Feasible.{requests_of, AreOfOneOneOf}
@@ -6,7 +6,7 @@ use Rattle.plan_base.specs.Fill.{TakesAllOrNone}
 use Rattle.groups.specs.Building.{Building}
 use Rattle.std.proofs.lemmas.List.{take_all}
 use Rattle.repair.specs.Entries.{numbers_of}
-use Rattle.repair.specs.Steps.{AddsSome, Places}
+use Rattle.repair.specs.Steps.{Places}
 use Rattle.repair.proofs.Visiting.{left_over, at_entry, once_left, next_unplaced, taken_none, taken_more, taken_all, taken_not}
 use Rattle.repair.proofs.visit.take_all.Goals as goal
 

@@ -1,9 +1,7 @@
-use Rattle.std.proofs.Common.{◌≡◌, ℕ, true, false, List, All, drop, sym, ◌∙◌, ap, subst, arith}
+use Rattle.std.proofs.Common.{ℕ, All, sym, ◌∙◌, subst, arith}
 use Rattle.plan_base.specs.declared.parts.Parts.{Parts}
-use Rattle.plan_base.specs.declared.claim.Placement.{Placement}
 use Rattle.plan_base.specs.Feasible.{requests_of, AreOfOneOneOf}
 use Rattle.plan_base.specs.Fill.{TriesOne}
-use Rattle.repair.specs.Steps.{AddsSome}
 use Rattle.repair.proofs.Trying.{adds_then_more, adds_then_none}
 use Rattle.repair.proofs.Visiting.{at_entry, tries_more, tries_all}
 use Rattle.repair.proofs.visit.try_each.Goals as goal

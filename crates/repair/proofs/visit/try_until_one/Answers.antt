@@ -1,4 +1,4 @@
-use Rattle.std.proofs.Common.{◌≡◌, ℕ, true, false, List, All, Contains, drop, sym, ◌∙◌, ap, subst, arith}
+use Rattle.std.proofs.Common.{true, false, List, All, Contains, sym, ◌∙◌, subst, arith}
 use Rattle.plan_base.specs.declared.parts.Parts.{Parts}
 use Rattle.plan_base.specs.declared.claim.Placement.{Placement}
 use Rattle.plan_base.specs.Feasible.{requests_of, AreOfOneOneOf}

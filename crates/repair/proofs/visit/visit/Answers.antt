@@ -1,8 +1,5 @@
-use Rattle.std.proofs.Common.{◌≡◌, ◌≢◌, ℕ, List, inl, inr, All, sym, ◌∙◌, ap, subst}
-use Rattle.plan_base.specs.declared.parts.Parts.{Parts}
-use Rattle.plan_base.specs.declared.parts.Op.{Op}
-use Rattle.plan_base.specs.declared.parts.Op.TheVariants.{Single, Many, OneOf, And}
-use Rattle.plan_base.specs.Requests.{members, IsKind}
+use Rattle.std.proofs.Common.{◌≢◌, inl, inr, ◌∙◌, ap}
+use Rattle.plan_base.specs.declared.parts.Op.TheVariants.{OneOf, And}
 use Rattle.repair.specs.Entries.{numbers_of}
 use Rattle.repair.proofs.Grouping.{outside_all}
 use Rattle.repair.proofs.Visiting.{visit_alone}

@@ -1,4 +1,4 @@
-use Rattle.std.proofs.Common.{◌≡◌, false, true, sym, ◌∙◌, ap}
+use Rattle.std.proofs.Common.{sym, ◌∙◌}
 use Rattle.plan_base.specs.declared.parts.Op.TheVariants.{And}
 use Rattle.repair.proofs.Grouping.{outside_all, unplaced_all, once_members, some_entries, of_members}
 use Rattle.repair.proofs.Visiting.{visit_served, visit_absent}

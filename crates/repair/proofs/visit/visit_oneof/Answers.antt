@@ -1,4 +1,4 @@
-use Rattle.std.proofs.Common.{◌≡◌, false, true, sym, ◌∙◌, ap}
+use Rattle.std.proofs.Common.{sym, ◌∙◌}
 use Rattle.plan_base.specs.declared.parts.Op.TheVariants.{OneOf}
 use Rattle.repair.proofs.Grouping.{alone_untouched, unplaced_all}
 use Rattle.repair.proofs.Visiting.{visit_served, visit_untouched}

@@ -1,11 +1,10 @@
-use Rattle.std.proofs.Common.{◌≡◌, ◌<◌, ◌≤◌, true, false, inr, List, length, refl, sym, ◌∙◌, ap, subst, arith}
-use Rattle.std.proofs.lemmas.List.{take_all, get_or_default}
+use Rattle.std.proofs.Common.{◌≡◌, true, false, inr, List, length, refl, sym, ◌∙◌, ap, subst, arith}
+use Rattle.std.proofs.lemmas.List.{take_all}
 use Rattle.plan_base.specs.declared.parts.Parts.{Parts}
 use Rattle.plan_base.specs.declared.claim.Placement.{Placement}
 use Rattle.plan_base.specs.Starts.{IsPossibleStart}
 use Rattle.plan_base.specs.FeasibleSoFar.{IsFeasibleSoFar}
 use Rattle.groups.specs.Building.{Building}
-use Rattle.repair.specs.declared.entry.Entry.{Entry}
 use Rattle.repair.specs.Entries.{IsEntry, numbers_of}
 use Rattle.repair.specs.Repairs.{AddsFirst, AddsAllOrNone}
 use Rattle.repair.proofs.Adding.{added_none, added_more, added_all, added_not, grown_none, grown_more, grown_all}

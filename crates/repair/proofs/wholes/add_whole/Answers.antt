@@ -1,6 +1,6 @@
-use Rattle.std.proofs.Common.{◌≡◌, ◌≢◌, inl, inr, sym, ◌∙◌, ap, subst}
+use Rattle.std.proofs.Common.{◌≡◌, ◌≢◌, inl, inr, ◌∙◌, ap, subst}
 use Rattle.plan_base.specs.declared.parts.Op.{Op}
-use Rattle.plan_base.specs.declared.parts.Op.TheVariants.{Single, Many, OneOf, And}
+use Rattle.plan_base.specs.declared.parts.Op.TheVariants.{OneOf, And}
 use Rattle.plan_base.specs.Requests.{IsKind}
 use Rattle.plan_base.proofs.Rebates.{one_kind}
 use Rattle.repair.specs.Entries.{numbers_of}

@@ -1,7 +1,7 @@
-use Rattle.std.proofs.Common.{◌≡◌, List, length, sym, ◌∙◌, ap, subst, arith}
+use Rattle.std.proofs.Common.{sym, ◌∙◌, subst, arith}
 use Rattle.plan_base.specs.declared.parts.Parts.{Parts}
 use Rattle.plan_base.specs.Feasible.{IsFeasible}
-use Rattle.repair.specs.Firsts.{AreFirsts, AreOwn}
+use Rattle.repair.specs.Firsts.{AreFirsts}
 use Rattle.repair.specs.Repairs.{AddsWhole}
 use Rattle.repair.proofs.Adding.{wholes_more, wholes_all}
 use Rattle.repair.proofs.wholes.add_wholes.Goals as goal

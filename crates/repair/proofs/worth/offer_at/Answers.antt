@@ -1,4 +1,4 @@
-use Rattle.std.proofs.Common.{◌≡◌, List, All, map, refl, sym, ap, subst, ◌∙◌}
+use Rattle.std.proofs.Common.{List, All, map, refl, sym, ap, subst, ◌∙◌}
 use Rattle.plan_base.specs.declared.parts.Parts.{Parts}
 use Rattle.plan_base.specs.declared.span.Span.{Span}
 use Rattle.plan_base.specs.Snapshot.{IsMoment}

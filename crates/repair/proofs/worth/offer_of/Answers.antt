@@ -1,4 +1,4 @@
-use Rattle.std.proofs.Common.{length, sym, ap, arith}
+use Rattle.std.proofs.Common.{arith}
 use Rattle.std.proofs.lemmas.List.{get_or_default}
 use Rattle.repair.proofs.Valued.{offer_known}
 use Rattle.repair.proofs.worth.offer_of.Goals as goal

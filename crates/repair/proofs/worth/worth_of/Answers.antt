@@ -1,7 +1,6 @@
-use Rattle.std.proofs.Common.{◌≡◌, ◌≤◌, ◌-◌, ◌∙◌, ap, arith}
+use Rattle.std.proofs.Common.{◌≤◌, arith}
 use Rattle.plan_base.specs.Requests.{request_value, fade_of}
 use Rattle.plan_base.proofs.Known.{known_has, value_at_most}
-use Rattle.repair.proofs.Valued.{worth_by}
 use Rattle.repair.proofs.worth.worth_of.Goals as goal
 
 pub faded-requires-clause-value : goal.faded-requires-clause-value

@@ -1,6 +1,5 @@
 use Rattle.std.proofs.Common.{◌≡◌, ◌*◌, ◌∙◌, sym, ap, subst, arith, ℕ, List, length}
 use Rattle.plan_base.specs.declared.parts.Parts.{Parts}
-use Rattle.plan_base.specs.declared.claim.Placement.{Placement}
 use Rattle.groups.specs.Building.{Building}
 use Rattle.repair.specs.Marks.{AreMarks}
 use Rattle.repair.proofs.Marked.{marks_skip}

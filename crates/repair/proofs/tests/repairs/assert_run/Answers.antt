@@ -1,4 +1,4 @@
-use Rattle.std.proofs.Common.{All, sym, subst}
+use Rattle.std.proofs.Common.{sym, subst}
 use Rattle.plan_base.specs.declared.parts.Parts.{Parts}
 use Rattle.plan_base.specs.Feasible.{IsDisjoint}
 use Rattle.repair.proofs.tests.repairs.assert_run.Goals as goal
