@@ -1,0 +1,126 @@
+// What a line asks the desk to do.
+
+use allocations::Key;
+use plan_base::{Claim, GroupNo, ListOf, Name, RequestNo, Sec, Span};
+use request_model::GroupDoc;
+use site_model::Scope;
+
+/// What a line asks for, by the word of its member `do`, with the members that stand after it. Texts have 1 to 128
+/// bytes; a list of spans has at most 512, each with its first second before its end.
+#[derive(Debug, Drop)]
+pub enum Command {
+    /// `open`: the desk is opened.
+    Open {
+        /// The moment at which it opens.
+        now: Sec,
+        /// How long a slice is, 60 to 3,600 seconds.
+        slice: u32,
+        /// How many slices the horizon has, 1 to 1,440.
+        horizon: u32,
+        /// All windows of all requests lie in it.
+        semester: Span,
+        /// How many sequences of rounds a plan takes, 1 to 8.
+        lanes: u32,
+        /// How many rounds a lane has, 1 to 256.
+        rounds: u32,
+        /// How many threads plan, 1 to 8.
+        workers: u32,
+        /// The most seconds of one proposal in a plan, 1 to 100,000,000, where there is such a limit.
+        quota: Option<u64>,
+    },
+    /// `instrument`: an instrument type is registered, with what it takes beside exposures in milliseconds, 0 to
+    /// 86,400,000 each.
+    Instrument {
+        /// The member `type`.
+        name: Name,
+        /// Before all else, once a request.
+        front_ms: u32,
+        /// Before each configuration.
+        config_ms: u32,
+        /// After each exposure.
+        readout_ms: u32,
+        /// Once for each instrument configuration.
+        change_ms: u32,
+    },
+    /// `telescope`: a telescope is registered.
+    Telescope {
+        site: Name,
+        enclosure: Name,
+        telescope: Name,
+        /// The class of its aperture, such as `1m0`.
+        class: Name,
+        /// The instrument types that it carries, 1 to 16.
+        instruments: ListOf<Name>,
+    },
+    /// `night`: when it is night at a site.
+    Night {
+        site: Name,
+        spans: ListOf<Span>,
+    },
+    /// `visibility`: when a target can be observed from a site.
+    Visibility {
+        target: Name,
+        site: Name,
+        spans: ListOf<Span>,
+    },
+    /// `close`: telescopes are closed.
+    Close {
+        /// The telescope of the members `site`, `enclosure` and `telescope` where `telescope` is there, else the site.
+        scope: Scope,
+        spans: ListOf<Span>,
+    },
+    /// `reopen`: closures are taken back.
+    Reopen {
+        /// As that of `close`.
+        scope: Scope,
+        spans: ListOf<Span>,
+    },
+    /// `grant`: a time account gets seconds.
+    Grant {
+        /// The members `proposal`, `account` and `instrument_type`; the last is empty for the account `ipp`.
+        key: Key,
+        /// 1 to 1,000,000,000.
+        seconds: u64,
+    },
+    /// `submit`: a request group is submitted.
+    Submit {
+        group: GroupDoc,
+    },
+    /// `amend`: a group is withdrawn and another submitted in its place.
+    Amend {
+        group_number: GroupNo,
+        group: GroupDoc,
+    },
+    /// `withdraw`: a group is withdrawn.
+    Withdraw {
+        group_number: GroupNo,
+    },
+    /// `clock`: time has come so far.
+    Clock {
+        at: Sec,
+    },
+    /// `report`: an observation has ended.
+    Report {
+        request: RequestNo,
+        /// How much of it was taken, 0 to 100.
+        percent: u8,
+        /// The seconds that it took, 0 to 86,400.
+        used: u64,
+    },
+    /// `plan`: a plan is sought and published.
+    Plan,
+    /// `publish`: a claim that was made elsewhere is published, if it is certified.
+    Publish {
+        /// The version of the desk that it is meant for, 0 to 524,288.
+        version: u64,
+        claim: Claim,
+    },
+    /// `export`: the last publication is shown.
+    Export,
+    /// `balances`: all time accounts are shown.
+    Balances,
+    /// `show`: a group is shown.
+    Show {
+        group_number: GroupNo,
+    },
+}

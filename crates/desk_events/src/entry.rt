@@ -1,0 +1,27 @@
+// The entries of a history.
+
+use crate::reply::Reply;
+
+/// Which part of its line an entry is.
+#[derive(Clone, Copy, Debug, PartialEq, Eq)]
+pub enum What {
+    /// All of it.
+    Line,
+    /// The snapshot of a plan is taken.
+    Take,
+    /// The plan that was sought for that snapshot is published.
+    Publish,
+}
+
+/// One entry of a history.
+#[derive(Debug, Drop)]
+pub struct EventEntry {
+    /// Who sent the line, 0 to 7.
+    pub caller: u8,
+    /// The line's place in the caller's script, from 1.
+    pub line: u32,
+    pub what: What,
+    /// How many entries before it changed the desk.
+    pub version: u64,
+    pub reply: Reply,
+}

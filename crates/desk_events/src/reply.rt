@@ -1,0 +1,133 @@
+// What the desk replies to a line.
+
+use crate::refusal::Refusal;
+use crate::state::RequestState;
+use allocations::Key;
+use plan_base::{Claim, GroupNo, ListOf, RequestNo, Snapshot, TelescopeNo};
+use request_model::GroupDoc;
+
+/// What a group's ipp account gets back, written as `[group,seconds]`.
+#[derive(Clone, Copy, Debug, PartialEq, Eq)]
+pub struct GroupRefund {
+    pub group: GroupNo,
+    /// Above 0.
+    pub seconds: u64,
+}
+
+/// What a time account has.
+#[derive(Clone, Debug, Drop, PartialEq, Eq)]
+pub struct AccountBalance {
+    /// The members `proposal`, `account` and `instrument_type`.
+    pub key: Key,
+    /// Its seconds: those granted, less those charged, and those refunded.
+    pub balance: u64,
+    /// The seconds of these that no open group holds.
+    pub available: u64,
+}
+
+/// How far a request has come.
+#[derive(Clone, Copy, Debug, PartialEq, Eq)]
+pub struct MemberState {
+    pub request: RequestNo,
+    pub state: RequestState,
+}
+
+/// What is replied to a line, by the word of the member `ok`, with the further members. Lists of request numbers rise,
+/// and so do the groups of a list of refunds.
+#[derive(Clone, Debug, Drop)]
+pub enum Reply {
+    /// `opened`
+    Opened,
+    /// `instrument`: it is registered.
+    Instrument,
+    /// `telescope`: it is registered and has this number.
+    Telescope {
+        telescope: TelescopeNo,
+    },
+    /// `night`: the site's night is as the line says.
+    Night,
+    /// `visibility`: the target's sky at the site is as the line says.
+    Visibility,
+    /// `closed`
+    Closed,
+    /// `reopened`
+    Reopened,
+    /// `granted`: the account has so many seconds now.
+    Granted {
+        balance: u64,
+    },
+    /// `submitted`
+    Submitted {
+        /// The number that the group was given.
+        group: GroupNo,
+        /// The seconds that its ipp account was charged.
+        ipp_charged: u64,
+        /// The numbers that its requests were given.
+        requests: ListOf<RequestNo>,
+    },
+    /// `amended`
+    Amended {
+        /// The number that the new group was given.
+        group: GroupNo,
+        /// The seconds that its ipp account was charged.
+        ipp_charged: u64,
+        /// What was refunded of the old group.
+        refunded: ListOf<GroupRefund>,
+        /// The number of the old group.
+        replaces: GroupNo,
+        /// The numbers that the new requests were given.
+        requests: ListOf<RequestNo>,
+    },
+    /// `withdrawn`
+    Withdrawn {
+        refunded: ListOf<GroupRefund>,
+    },
+    /// `clocked`
+    Clocked {
+        /// The requests whose windows have ended, and those that can't be taken without them.
+        expired: ListOf<RequestNo>,
+        /// The requests that ended without a report.
+        failed: ListOf<RequestNo>,
+        refunded: ListOf<GroupRefund>,
+        /// The requests that began to run.
+        started: ListOf<RequestNo>,
+    },
+    /// `completed`: enough of the request was taken.
+    Completed {
+        /// The requests of its group that are no longer wanted.
+        canceled: ListOf<RequestNo>,
+        /// The seconds that were charged.
+        charged: u64,
+    },
+    /// `failed`: too little of the request was taken.
+    Failed {
+        /// The requests whose windows have ended, and those that can't be taken without them.
+        expired: ListOf<RequestNo>,
+        refunded: ListOf<GroupRefund>,
+    },
+    /// `taken`: the snapshot of a plan was taken.
+    Taken,
+    /// `published`: the claim's placements are the plan from now on.
+    Published {
+        claim: Claim,
+    },
+    /// `exported`: the last claim that was published, and the snapshot that it is of.
+    Exported {
+        claim: Claim,
+        snapshot: Snapshot,
+    },
+    /// `balances`: all accounts, by proposal, then in the order of accounts, then by instrument type.
+    Balances {
+        balances: ListOf<AccountBalance>,
+    },
+    /// `shown`
+    Shown {
+        /// The group as it was submitted.
+        document: GroupDoc,
+        group: GroupNo,
+        requests: ListOf<MemberState>,
+        state: RequestState,
+    },
+    /// The line is refused, and the desk is as before.
+    Refused(Refusal),
+}
