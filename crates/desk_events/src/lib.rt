@@ -5,13 +5,22 @@ mod command;
 mod copies;
 mod entry;
 mod fault;
+mod faults;
+mod laws;
+mod read;
 mod refusal;
 mod reply;
 mod state;
+#[cfg(test)]
+mod tests;
+mod write;
 
 pub use command::Command;
 pub use entry::{EventEntry, What};
 pub use fault::CommandFault;
+pub use laws::{one_entry, one_history};
+pub use read::read_command;
 pub use refusal::{FullOf, Refusal};
 pub use reply::{AccountBalance, GroupRefund, MemberState, Reply};
 pub use state::RequestState;
+pub use write::{entry_text, write_entry};

@@ -15,7 +15,7 @@ pub struct GroupRefund {
 }
 
 /// What a time account has.
-#[derive(Clone, Debug, Drop, PartialEq, Eq)]
+#[derive(Debug, Drop, PartialEq, Eq)]
 pub struct AccountBalance {
     /// The members `proposal`, `account` and `instrument_type`.
     pub key: Key,
@@ -34,7 +34,7 @@ pub struct MemberState {
 
 /// What is replied to a line, by the word of the member `ok`, with the further members. Lists of request numbers rise,
 /// and so do the groups of a list of refunds.
-#[derive(Clone, Debug, Drop)]
+#[derive(Debug, Drop)]
 pub enum Reply {
     /// `opened`
     Opened,

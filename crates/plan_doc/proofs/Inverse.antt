@@ -65,7 +65,7 @@ placement_in d =
 placement_inverse : (p : Placement) → placement_in (placement_data p) ≡ p
 placement_inverse p = refl
 
-abbrev claim_in : Data → Claim
+abbrev pub claim_in : Data → Claim
 claim_in d = record {
   placements = list_in placement_in (member_in key.Placements d);
   prices = record { 0 = list_in integer_in (member_in key.Prices d) };
@@ -85,7 +85,7 @@ claim_inverse_by ps zs (u ∷ us) v b =
     (each_inverse placement_in placement_data placement_inverse ps) (each_inverse integer_in integer price_inverse zs)
     ∙ ap (λ (ws : List ℕ). claim_made ps zs (u ∷ ws) v b) (each_inverse number_in whole number_inverse us)
 
-claim_inverse : (c : Claim) → claim_in (claim_data c) ≡ c
+pub claim_inverse : (c : Claim) → claim_in (claim_data c) ≡ c
 claim_inverse c = claim_inverse_by c.placements c.prices.0 c.quota_prices.0 c.value c.bound
 
 -- claims with one document are the same
@@ -204,7 +204,7 @@ group_inverse_by n op qs (Some place) =
 group_inverse : (x : GroupPart) → group_in (group_data x) ≡ x
 group_inverse x = group_inverse_by x.group.0 x.op x.requests x.quota
 
-abbrev snapshot_in : Data → Parts
+abbrev pub snapshot_in : Data → Parts
 snapshot_in d = record {
   version = whole_in (member_in key.Version d);
   len = whole_in (member_in key.Len d);
@@ -235,7 +235,7 @@ snapshot_inverse_by s [] = parts_inverse s []
 snapshot_inverse_by s (u ∷ us) =
     parts_inverse s (u ∷ each_in number_in (items_of (map whole us))) ∙ ap (λ (ws : List ℕ). record s { quotas = u ∷ ws }) (each_inverse number_in whole number_inverse us)
 
-snapshot_inverse : (s : Parts) → snapshot_in (snapshot_data s) ≡ s
+pub snapshot_inverse : (s : Parts) → snapshot_in (snapshot_data s) ≡ s
 snapshot_inverse s = snapshot_inverse_by s s.quotas
 
 -- snapshots with one document are the same

@@ -1,0 +1,10 @@
+pub mod Words
+pub mod Refused
+pub mod Replied
+pub mod Entry
+pub mod Laws
+pub mod Fault
+pub mod Account
+pub mod Commands
+pub mod Line
+pub mod Ranges

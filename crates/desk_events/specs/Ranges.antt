@@ -1,0 +1,111 @@
+-- The ranges of what is read: each command's texts, numbers, spans and counts.
+use Rattle.std.specs.Prelude.{◌≡◌, ℕ, ◌≤◌, List, [], length, All, Option, IfSome, ⊤}
+use Rattle.plan_base.specs.declared.claim.Claim.{Claim}
+use Rattle.plan_base.specs.declared.number.Sec.{Sec}
+use Rattle.plan_base.specs.declared.span.Span.{Span}
+use Rattle.plan_json.specs.Moment.{last_moment}
+use Rattle.plan_json.specs.Ranges.{IsBetween, IsText}
+use Rattle.request_model.specs.Ranges.{IsWindow, IsGroup}
+use Rattle.allocations.specs.declared.key.Account.{Account}
+use Rattle.allocations.specs.declared.key.Account.TheVariants as account
+use Rattle.allocations.specs.declared.key.Key.{Key}
+use Rattle.site_model.specs.declared.code.Scope.{Scope}
+use Rattle.site_model.specs.declared.code.Scope.TheVariants as scope
+use Rattle.desk_events.specs.declared.command.Command.{Command}
+use Rattle.desk_events.specs.declared.command.Command.TheVariants as command
+use Rattle.plan_doc.specs.Ranges.{IsClaim}
+
+pub record IsOpening (now : Sec) (slice horizon : ℕ) (semester : Span) (lanes rounds workers : ℕ) (quota : Option ℕ) : Type 0 where
+  pub moment : now.0 ≤ last_moment
+  pub length_of_slice : IsBetween 60 3600 slice
+  pub slices : IsBetween 1 1440 horizon
+  pub season : IsWindow semester
+  pub sequences : IsBetween 1 8 lanes
+  pub turns : IsBetween 1 256 rounds
+  pub threads : IsBetween 1 8 workers
+  pub share : IfSome quota (IsBetween 1 100000000)
+
+pub record IsInstrument (name : List ℕ) (front config readout change : ℕ) : Type 0 where
+  pub type : IsText name
+  pub first : front ≤ 86400000
+  pub each_configuration : config ≤ 86400000
+  pub each_exposure : readout ≤ 86400000
+  pub each_length : change ≤ 86400000
+
+pub record IsTelescope (site enclosure telescope class : List ℕ) (instruments : List (List ℕ)) : Type 0 where
+  pub at_site : IsText site
+  pub in_enclosure : IsText enclosure
+  pub code : IsText telescope
+  pub of_class : IsText class
+  pub count : IsBetween 1 16 (length instruments)
+  pub types : All IsText instruments
+
+-- at most 512, each with a second
+pub record AreSpans (spans : List Span) : Type 0 where
+  pub count : length spans ≤ 512
+  pub each : All IsWindow spans
+
+pub record IsNight (site : List ℕ) (spans : List Span) : Type 0 where
+  pub at_site : IsText site
+  pub times : AreSpans spans
+
+pub record IsSky (target site : List ℕ) (spans : List Span) : Type 0 where
+  pub what : IsText target
+  pub at_site : IsText site
+  pub times : AreSpans spans
+
+pub record IsCode (site enclosure telescope : List ℕ) : Type 0 where
+  pub at_site : IsText site
+  pub in_enclosure : IsText enclosure
+  pub name : IsText telescope
+
+abbrev pub IsScope : Scope → Type 0
+IsScope (scope.Telescope code) = IsCode code.site code.enclosure code.telescope
+IsScope (scope.Site site) = IsText site
+
+pub record IsClosure (where_ : Scope) (spans : List Span) : Type 0 where
+  pub place : IsScope where_
+  pub times : AreSpans spans
+
+-- the account `ipp` is on no instrument type, the others each on one
+abbrev pub IsInstrumentOf : Account → List ℕ → Type 0
+IsInstrumentOf account.Standard instrument = IsText instrument
+IsInstrumentOf account.TimeCritical instrument = IsText instrument
+IsInstrumentOf account.RapidResponse instrument = IsText instrument
+IsInstrumentOf account.Ipp instrument = instrument ≡ []
+
+pub record IsKey (key : Key) : Type 0 where
+  pub payer : IsText key.proposal
+  pub type : IsInstrumentOf key.account key.instrument
+
+pub record IsGrant (key : Key) (seconds : ℕ) : Type 0 where
+  pub to : IsKey key
+  pub amount : IsBetween 1 1000000000 seconds
+
+pub record IsReport (percent used : ℕ) : Type 0 where
+  pub part : percent ≤ 100
+  pub time : used ≤ 86400
+
+pub record IsPublication (version : ℕ) (claim : Claim) : Type 0 where
+  pub least : version ≤ 524288
+  pub what : IsClaim claim
+
+abbrev pub IsCommand : Command → Type 0
+IsCommand (command.Open now slice horizon semester lanes rounds workers quota) = IsOpening now slice horizon semester lanes rounds workers quota
+IsCommand (command.Instrument name front config readout change) = IsInstrument name front config readout change
+IsCommand (command.Telescope site enclosure telescope class instruments) = IsTelescope site enclosure telescope class instruments
+IsCommand (command.Night site spans) = IsNight site spans
+IsCommand (command.Visibility target site spans) = IsSky target site spans
+IsCommand (command.Close where_ spans) = IsClosure where_ spans
+IsCommand (command.Reopen where_ spans) = IsClosure where_ spans
+IsCommand (command.Grant key seconds) = IsGrant key seconds
+IsCommand (command.Submit group) = IsGroup group
+IsCommand (command.Amend old group) = IsGroup group
+IsCommand (command.Withdraw group) = ⊤
+IsCommand (command.Clock at) = at.0 ≤ last_moment
+IsCommand (command.Report request percent used) = IsReport percent used
+IsCommand command.Plan = ⊤
+IsCommand (command.Publish version claim) = IsPublication version claim
+IsCommand command.Export = ⊤
+IsCommand command.Balances = ⊤
+IsCommand (command.Show group) = ⊤

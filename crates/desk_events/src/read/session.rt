@@ -1,0 +1,67 @@
+// The commands that open the desk, move its clock and report to it.
+
+ghost use Rattle.std.specs.Prelude.{◌≡◌, ◌≤◌, IfOk, IfSome};
+ghost use Rattle.plan_json.specs.Object.{if_there};
+ghost use Rattle.plan_json.specs.Shown.{members_of};
+ghost use Rattle.plan_json.specs.Whole.{number_in};
+ghost use Rattle.plan_json.specs.declared.member.Member.TheVariants.{Quota};
+ghost use Rattle.desk_events.specs.Commands.{open_of, clock_of, report_of};
+
+use crate::command::Command;
+use plan_base::RequestNo;
+use plan_json::{Doc, JsonFault, Member};
+
+/// The most seconds of one proposal in a plan, where it is given.
+fn read_quota(doc: &Doc) -> Result<Option<u64>, JsonFault>
+    ensures { result ≡ if_there (number_in 1 100000000) (members_of doc.now) Quota }
+{
+    if doc.has(Member::Quota) {
+        let seconds = doc.number(Member::Quota, 1, 100_000_000)?;
+        Ok(Some(u64::from(seconds)))
+    } else {
+        Ok(None)
+    }
+}
+
+pub(crate) fn read_open(doc: &Doc) -> Result<Command, JsonFault>
+    ensures { result ≡ open_of (members_of doc.now) }
+{
+    let now = doc.moment(Member::Now)?;
+    let slice = doc.number(Member::Slice, 60, 3600)?;
+    let horizon = doc.number(Member::Horizon, 1, 1440)?;
+    let semester = doc.span(Member::Semester)?;
+    let lanes = doc.number(Member::Lanes, 1, 8)?;
+    let rounds = doc.number(Member::Rounds, 1, 256)?;
+    let workers = doc.number(Member::Workers, 1, 8)?;
+    let quota = read_quota(doc)?;
+    Ok(Command::Open {
+        now,
+        slice,
+        horizon,
+        semester,
+        lanes,
+        rounds,
+        workers,
+        quota,
+    })
+}
+
+pub(crate) fn read_clock(doc: &Doc) -> Result<Command, JsonFault>
+    ensures { result ≡ clock_of (members_of doc.now) }
+{
+    let at = doc.moment(Member::At)?;
+    Ok(Command::Clock { at })
+}
+
+pub(crate) fn read_report(doc: &Doc) -> Result<Command, JsonFault>
+    ensures { result ≡ report_of (members_of doc.now) }
+{
+    let request = doc.number(Member::Request, 0, u32::MAX)?;
+    let percent = doc.number(Member::Percent, 0, 100)?;
+    let used = doc.number(Member::Used, 0, 86_400)?;
+    Ok(Command::Report {
+        request: RequestNo(request),
+        percent: percent as u8,
+        used: u64::from(used),
+    })
+}

@@ -1,0 +1,6 @@
+// Lines as they are read, and entries as they are written.
+
+mod lines;
+mod made;
+mod refusals;
+mod replies;
