@@ -1,7 +1,15 @@
+pub mod Bounds
+pub mod Most
+pub mod Covering
 pub mod Filling
+pub mod LaneFilling
+pub mod Covered
+pub mod InVectors
 pub mod Adding
+pub mod Offering
 pub mod Listed
 pub mod Tabled
 pub mod Tallying
 pub mod Used
 pub mod Walking
+pub mod Stepping

@@ -86,7 +86,7 @@ nothing_listed s t runs rows count empty = record {
   count = count;
   possible = λ i x c. let none : Contains [] x = subst (λ (xs : List Start). Contains xs x) (empty i) c in absurd (omega (arith, none.1));
   complete = λ p start h. let b : h.place < 0 = h.below in absurd (omega arith);
-  rising = λ i. subst (AllPairs (λ a b. a.request.0 < b.request.0)) (sym (empty i)) (λ j k d l m. absurd (omega arith));
+  rising = λ i. subst (AllPairs (λ a b. a.place < b.place)) (sym (empty i)) (λ j k d l m. absurd (omega arith));
 }
 
 -- where the run at a place has no start of the telescope, the rows stay
@@ -127,6 +127,27 @@ same_number s a b known also at =
     let one : x.0 ≡ y.0 = sym x.1.at_place ∙ ap (λ (n : ℕ). slice_index_or (listed s) n x.0) at ∙ get_or_default (listed s) (place_of s b) x.0 y.0 also ∙ y.1.at_place in
     sym x.1.number ∙ ap (λ (z : Listed). z.request.request.0) one ∙ y.1.number
 
+-- requests rise with their places
+pub number_up : (s : Parts) (a b : ℕ) → IsOrderly s → IsKnown s a → IsKnown s b → place_of s a < place_of s b → a < b
+number_up s a b orderly known also below =
+    let x = known_as s a known in
+    let y = known_as s b also in
+    let less : (slice_index_or (listed s) (place_of s a) x.0).request.request.0 < (slice_index_or (listed s) (place_of s b) x.0).request.request.0 = orderly.requests_rise (place_of s a) (place_of s b) x.0 below also in
+    let left : (slice_index_or (listed s) (place_of s a) x.0).request.request.0 ≡ a = ap (λ (z : Listed). z.request.request.0) x.1.at_place ∙ x.1.number in
+    let right : (slice_index_or (listed s) (place_of s b) x.0).request.request.0 ≡ b = ap (λ (z : Listed). z.request.request.0) (get_or_default (listed s) (place_of s b) x.0 y.0 also ∙ y.1.at_place) ∙ y.1.number in
+    omega arith
+
+below_same_above : (a b : ℕ) → ((a < b) ⊎ (b < a)) ⊎ (a ≡ b)
+below_same_above a b = grind arith
+
+-- and places with their requests
+pub place_up : (s : Parts) (a b : ℕ) → IsOrderly s → IsKnown s a → IsKnown s b → a < b → place_of s a < place_of s b
+place_up s a b orderly known also below = elim (below_same_above (place_of s a) (place_of s b)) [
+  | inl (inl less) ↦ less
+  | inl (inr more) ↦ let above : b < a = number_up s b a orderly also known more in absurd (omega arith)
+  | inr same ↦ let one : a ≡ b = same_number s a b known also same in absurd (omega arith)
+]
+
 worth_same : (v w f g n m : ℕ) → v ≡ w → f ≡ g → n ≡ m → faded v f n ≡ faded w g m
 worth_same v w f g n m a b e = ap (λ (x : ℕ). faded x f n) a ∙ ap (λ (x : ℕ). faded w x n) b ∙ ap (λ (x : ℕ). faded w g x) e
 
@@ -139,7 +160,6 @@ told_by s place q o p i here offer same at =
     let size : size_of s p.request.0 ≡ o.size = ap (size_of s) same ∙ ap (slices_for s.len) here.seconds ∙ sym offer.size in
     let delay : s.first.0 + i - o.earliest ≡ p.slice.0 - earliest_slice s p.request.0 = ap (λ (n : ℕ). n - o.earliest) (sym at) ∙ ap (λ (n : ℕ). p.slice.0 - n) earliest in
     record {
-      request = offer.request ∙ ap (λ (n : ℕ). let r : RequestNo = record { 0 = n } in r) (sym same);
       place = offer.at ∙ sym here.at ∙ ap (place_of s) (sym same);
       worth = worth_same o.value (request_value s p.request.0) o.fade (fade_of s p.request.0) (s.first.0 + i - o.earliest) (p.slice.0 - earliest_slice s p.request.0) value fade delay;
       after = omega arith;
@@ -184,18 +204,19 @@ module _ (s : Parts) (t n : ℕ) (runs : List Run) (run : Run) (place : ℕ) (q 
         told = told_by s place q o (start_at run (s.first.0 + i)) i here offer same refl;
       }
 
-  -- what stood in a row is of a lower request
-  lower_request : (i : ℕ) (a : Start) → run.first.0 ≤ s.first.0 + i → s.first.0 + i < run.first.0 + run.count → Contains (row old i) a → a.request.0 < o.request.0
-  lower_request i a from to c =
+  -- what stood in a row is of a lower place
+  lower_place : (i : ℕ) (a : Start) → run.first.0 ≤ s.first.0 + i → s.first.0 + i < run.first.0 + run.count → Contains (row old i) a → a.place < o.place
+  lower_place i a from to c =
       let p = before.possible i a c in
       let j : ℕ = p.1.holds.place in
       let m : j < n = p.1.holds.below in
       let earlier : Run = slice_index_or runs j run in
       let pair : IsRunBefore earlier run = subst (IsRunBefore earlier) at (all.order j n run m l) in
       let less : p.0.request.0 < run.request.0 = before_across earlier run p.0 (start_at run (s.first.0 + i)) pair (from_run earlier p.0 (p.1.holds.has run)) (start_in_run run (s.first.0 + i) from to) (p.1.start.same_telescope ∙ sym on) p.1.at in
-      let first : a.request.0 ≡ p.0.request.0 = ap (λ (r : RequestNo). r.0) p.1.told.request in
-      let second : o.request.0 ≡ q.request.0 = ap (λ (r : RequestNo). r.0) offer.request in
-      omega (arith, same)
+      let first : a.place ≡ place_of s p.0.request.0 = p.1.told.place in
+      let second : o.place ≡ place_of s run.request.0 = offer.at ∙ sym here.at ∙ ap (place_of s) (sym same) in
+      let lower : place_of s p.0.request.0 < place_of s run.request.0 = place_up s p.0.request.0 run.request.0 orderly p.1.start.possible.known (subst (IsKnown s) (sym same) here.known) less in
+      omega arith
 
   -- the starts of the run at the place are added
   pub listing_more : IsListing s t (IsOfFirst runs (n + 1)) new
@@ -225,10 +246,10 @@ module _ (s : Parts) (t n : ℕ) (runs : List Run) (run : Run) (place : ℕ) (q 
           )
     ];
     rising = λ i. elim (outside_or_within (s.first.0 + i) run.first.0 (run.first.0 + run.count)) [
-      | inl out ↦ subst (AllPairs (λ a b. a.request.0 < b.request.0)) (sym (added.kept i out)) (before.rising i)
-      | inr (from, to) ↦ subst (AllPairs (λ a b. a.request.0 < b.request.0)) (sym (added.added i (within_rows i to) from to))
-          (pairs_append (λ a b. a.request.0 < b.request.0) (row old i) (start_in o s.first.0 i ∷ []) (before.rising i) (λ j k d m k_below. absurd (omega arith))
-          (λ a b ca cb. subst (λ (y : Start). a.request.0 < y.request.0) (sym (contains_one (start_in o s.first.0 i) b cb)) (lower_request i a from to ca)))
+      | inl out ↦ subst (AllPairs (λ a b. a.place < b.place)) (sym (added.kept i out)) (before.rising i)
+      | inr (from, to) ↦ subst (AllPairs (λ a b. a.place < b.place)) (sym (added.added i (within_rows i to) from to))
+          (pairs_append (λ a b. a.place < b.place) (row old i) (start_in o s.first.0 i ∷ []) (before.rising i) (λ j k d m k_below. absurd (omega arith))
+          (λ a b ca cb. subst (λ (y : Start). a.place < y.place) (sym (contains_one (start_in o s.first.0 i) b cb)) (lower_place i a from to ca)))
     ];
   }
 

@@ -1,7 +1,7 @@
 -- The uses of a telescope, as starts are taken out and added.
-use Rattle.std.proofs.Common.{◌≡◌, ℕ, ◌<◌, ◌==◌, inl, inr, cond, List, [], ◌∷◌, ◌++◌, length, map, slice_index_or, All, refl, sym, ◌∙◌, ap, arith}
+use Rattle.std.proofs.Common.{◌≡◌, ℕ, ◌+◌, ◌<◌, ◌==◌, inl, inr, cond, List, [], ◌∷◌, ◌++◌, length, map, slice_index_or, slice_set, All, refl, sym, ◌∙◌, ap, length-set, arith}
 use Rattle.std.specs.Prelude.{HoldsAt}
-use Rattle.std.proofs.lemmas.List.{map-append, get_or_default}
+use Rattle.std.proofs.lemmas.List.{map-append, get_or_default, get_or-map, length-map, ext_get_or}
 use Rattle.std.proofs.lemmas.List.Sums.{sum_by-cons}
 use Rattle.std.proofs.lemmas.List.Elements.{All-nil, All-head, All-tail, All-push}
 use Rattle.plan_base.specs.declared.parts.Parts.{Parts}
@@ -10,23 +10,23 @@ use Rattle.plan_base.specs.Requests.{Listed, listed, place_of, IsKnown}
 use Rattle.plan_base.specs.Snapshot.{IsOrderly}
 use Rattle.plan_base.specs.Round.{uses_of}
 use Rattle.plan_base.proofs.Members.{listed_known}
-use Rattle.interval_solver.specs.Uses.{Started, count_of, AreUsesOf}
-use Rattle.plan_base.proofs.Here.{place_at}
+use Rattle.interval_solver.specs.Uses.{count_of, IsTally, AreUsesOf}
+use Rattle.plan_base.proofs.Here.{element_at, place_at}
 use Rattle.interval_solver.proofs.Listed.{same_number}
-use Rattle.interval_solver.proofs.Tallying.{same_or_not, one_where_same, none_where_not}
+use Rattle.interval_solver.proofs.Tallying.{same_or_not, one_where_same, none_where_not, tally_more}
 
 -- nothing is started
-pub uses_none : (s : Parts) (u : Started) → AreUsesOf s u → AreUsesOf s (record { starts = []; places = []; requests = u.requests; room = u.room })
-uses_none s u h = record { known = All-nil (λ p. IsKnown s p.request.0); places = refl; requests = h.requests; room = h.room }
+pub uses_none : (s : Parts) (counts : List ℕ) → length counts ≡ length (listed s) → IsTally [] counts → AreUsesOf s [] [] counts
+uses_none s counts long tally = record { known = All-nil (λ p. IsKnown s p.request.0); places_are = refl; tally = tally; requests = long }
 
 -- one start more
-pub uses_more : (s : Parts) (u : Started) (p : Placement) (n : ℕ) → IsKnown s p.request.0 → n ≡ place_of s p.request.0 → AreUsesOf s u
-    → AreUsesOf s (record { starts = u.starts ++ p ∷ []; places = u.places ++ n ∷ []; requests = u.requests; room = u.room })
-uses_more s u p n known at h = record {
-  known = All-push (λ q. IsKnown s q.request.0) u.starts p h.known known;
-  places = ap (λ (ns : List ℕ). ns ++ n ∷ []) h.places ∙ ap (λ (m : ℕ). map (λ q. place_of s q.request.0) u.starts ++ m ∷ []) at ∙ sym (map-append (λ (q : Placement). place_of s q.request.0) u.starts (p ∷ []));
-  requests = h.requests;
-  room = h.room;
+pub uses_more : (s : Parts) (starts : List Placement) (places counts : List ℕ) (p : Placement) (n m : ℕ) → IsKnown s p.request.0 → n ≡ place_of s p.request.0 → m ≡ slice_index_or counts n 0 → n < length counts
+    → AreUsesOf s starts places counts → AreUsesOf s (starts ++ p ∷ []) (places ++ n ∷ []) (slice_set counts n (m + 1))
+uses_more s starts places counts p n m known at is within h = record {
+  known = All-push (λ q. IsKnown s q.request.0) starts p h.known known;
+  places_are = ap (λ (ns : List ℕ). ns ++ n ∷ []) h.places_are ∙ ap (λ (k : ℕ). map (λ q. place_of s q.request.0) starts ++ k ∷ []) at ∙ sym (map-append (λ (q : Placement). place_of s q.request.0) starts (p ∷ []));
+  tally = tally_more places counts n m h.tally within is;
+  requests = length-set counts n (m + 1) ∙ h.requests;
 }
 
 one_test : (a b c d : ℕ) → (a ≡ b → c ≡ d) → (c ≡ d → a ≡ b) → cond {A = ℕ} (a == b) 1 0 ≡ cond {A = ℕ} (c == d) 1 0
@@ -48,9 +48,26 @@ same_counts s k r (p ∷ ps) known at all =
     let right = sum_by-cons (λ (q : Placement). cond {A = ℕ} (q.request.0 == r) 1 0) p ps in
     omega (arith, left, right)
 
--- what is counted of a place is how often its request is started
-pub counted_uses : (s : Parts) (u : Started) (k n : ℕ) → IsOrderly s → AreUsesOf s u → k < length (listed s) → n ≡ count_of u.places k → HoldsAt (λ x. n ≡ uses_of u.starts x.request.request.0) (listed s) k
-counted_uses s u k n orderly h l is d =
+-- what is counted at a place is how often its request is started
+counted_at : (s : Parts) (starts : List Placement) (places counts : List ℕ) (k : ℕ) (x : Listed) → IsOrderly s → AreUsesOf s starts places counts → k < length (listed s) → slice_index_or (listed s) k x ≡ x
+    → slice_index_or counts k 0 ≡ uses_of starts x.request.request.0
+counted_at s starts places counts k x orderly h l at =
+    h.tally.each k (omega (arith, h.requests)) ∙ ap (λ (ns : List ℕ). count_of ns k) h.places_are
+    ∙ same_counts s k x.request.request.0 starts (listed_known s x (k, l, at)) (place_at s k x orderly l at) h.known
+
+pub counted_uses : (s : Parts) (starts : List Placement) (places counts : List ℕ) (k n : ℕ) → IsOrderly s → AreUsesOf s starts places counts → k < length (listed s) → n ≡ slice_index_or counts k 0
+    → HoldsAt (λ x. n ≡ uses_of starts x.request.request.0) (listed s) k
+counted_uses s starts places counts k n orderly h l is d =
     let x : Listed = slice_index_or (listed s) k d in
     let at : slice_index_or (listed s) k x ≡ x = get_or_default (listed s) k x d l in
-    is ∙ ap (λ (ns : List ℕ). count_of ns k) h.places ∙ same_counts s k x.request.request.0 u.starts (listed_known s x (k, l, at)) (place_at s k x orderly l at) h.known
+    is ∙ counted_at s starts places counts k x orderly h l at
+
+-- the counts are those of the requests, in their order
+pub all_counted : (s : Parts) (starts : List Placement) (places counts : List ℕ) → IsOrderly s → AreUsesOf s starts places counts → counts ≡ map (λ x. uses_of starts x.request.request.0) (listed s)
+all_counted s starts places counts orderly h =
+    ext_get_or 0 counts (map (λ x. uses_of starts x.request.request.0) (listed s)) (h.requests ∙ sym (length-map (listed s) (λ x. uses_of starts x.request.request.0)))
+    (λ k l.
+    let below : k < length (listed s) = omega (arith, h.requests) in
+    let x = element_at (listed s) k below in
+    counted_at s starts places counts k x.0 orderly h below x.1
+    ∙ ap (λ (y : Listed). uses_of starts y.request.request.0) (sym x.1) ∙ sym (get_or-map (λ (y : Listed). uses_of starts y.request.request.0) (listed s) k x.0 0 below))

@@ -1,5 +1,9 @@
 pub mod Offers
+pub mod RowLists
+pub mod Blocks
 pub mod Tables
+pub mod Lanes
+pub mod Filling
 pub mod Listings
 pub mod Uses
 pub mod Solving

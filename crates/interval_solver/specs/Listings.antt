@@ -13,7 +13,7 @@ use Rattle.plan_base.specs.Tables.{row}
 
 -- the start of an offer in row i, where the rows begin at the slice `first`
 abbrev pub start_in : Offer → ℕ → ℕ → Start
-start_in o first i = record { request = o.request; place = o.place; worth = offer_worth o (first + i); after = i + o.size }
+start_in o first i = record { worth = offer_worth o (first + i); place = o.place; after = i + o.size }
 
 -- the rows of the slices from one to the one before another have the offer's starts at their ends, and the others are as before
 pub record AreAdded (o : Offer) (first from to : ℕ) (old new : List (List Start)) : Type 0 where
@@ -42,7 +42,6 @@ pub record IsStartOf (s : Parts) (t : ℕ) (p : Placement) : Type 0 where
 
 -- what the row says of the possible start p
 pub record IsToldBy (s : Parts) (p : Placement) (x : Start) : Type 0 where
-  pub request : x.request ≡ p.request
   pub place : x.place ≡ place_of s p.request.0
   pub worth : x.worth ≡ worth_at s p
   pub after : s.first.0 + x.after ≡ p.slice.0 + size_of s p.request.0
@@ -54,9 +53,9 @@ pub record IsStartAt (s : Parts) (t : ℕ) (P : Placement → Type 0) (i : ℕ) 
   pub at : p.slice.0 ≡ s.first.0 + i
   pub told : IsToldBy s p x
 
--- row i has all possible starts of telescope t at slice i of the horizon of which P holds, by request
+-- row i has all possible starts of telescope t at slice i of the horizon of which P holds, by the places of their requests
 pub record IsListing (s : Parts) (t : ℕ) (P : Placement → Type 0) (rows : List (List Start)) : Type 0 where
   pub count : length rows ≡ s.slices
   pub possible : (i : ℕ) (x : Start) → Contains (row rows i) x → (p : Placement) × IsStartAt s t P i x p
   pub complete : (p : Placement) → IsStartOf s t p → P p → (x : Start) × Contains (row rows (p.slice.0 - s.first.0)) x × IsToldBy s p x
-  pub rising : (i : ℕ) → AllPairs (λ a b. a.request.0 < b.request.0) (row rows i)
+  pub rising : (i : ℕ) → AllPairs (λ a b. a.place < b.place) (row rows i)

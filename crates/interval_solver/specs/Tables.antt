@@ -1,7 +1,7 @@
 -- Tables of numbers, one a slice, over rows of starts at prices.
 use Rattle.std.specs.Prelude.{◌≡◌, ℕ, ◌+◌, ◌*◌, ◌≤◌, ◌<◌, ◌^◌, ◌⊎◌, ℤ, pos, neg_ℤ, ◌+ℤ◌, ◌-ℤ◌, ◌≤ℤ◌, List, [], length, slice_index_or, Contains}
 use Rattle.plan_base.specs.Limits.{most_price, most_slices, most_value}
-use Rattle.plan_base.specs.Tables.{row, gain_from, IsGreatestOf, IsRowTable}
+use Rattle.plan_base.specs.Tables.{entry, row, gain_from, IsGreatestOf, IsRowTable}
 use Rattle.interval_solver.specs.declared.start.Start.{Start}
 
 -- what a start may weigh
@@ -38,6 +38,10 @@ IsGreatestAt rows prices table k = IsGreatestOf (start_weight prices) (λ y. y.a
 -- 0 at the end, and before it the greatest at each slice
 abbrev pub IsRecursion : List (List Start) → List ℤ → List ℤ → Type 0
 IsRecursion rows prices table = IsRowTable (start_weight prices) (λ y. y.after) rows table
+
+-- the entries from k up to j are the same
+abbrev pub IsFlat : List ℤ → ℕ → ℕ → Type 0
+IsFlat table k j = (i : ℕ) → k ≤ i → i < j → entry table i ≡ entry table (i + 1)
 
 -- x is the first start in a row that gives the number b
 pub record IsFirstTight (prices table : List ℤ) (b : ℤ) (xs : List Start) (x : Start) : Type 0 where

@@ -5,12 +5,11 @@ ghost use Rattle.plan_base.specs.Limits.{most_seconds, most_value};
 ghost use Rattle.plan_base.specs.Snapshot.{IsMoment};
 ghost use Rattle.interval_solver.specs.Offers.{IsOfferRange, IsOffer, offer_worth};
 
-use plan_base::{RequestNo, RequestPart, faded, least_from, slices_for};
+use plan_base::{RequestPart, faded, least_from, slices_for};
 
 /// What a request gives, and how many slices it takes for it.
 #[derive(Clone, Copy, Debug)]
 pub(crate) struct Offer {
-    pub request: RequestNo,
     /// The place of the request among all.
     pub place: u32,
     /// How many slices it takes.
@@ -37,7 +36,6 @@ pub(crate) fn offer_of(len: u32, place: u32, request: &RequestPart) -> Offer
 {
     let len = u64::from(len);
     Offer {
-        request: request.request,
         place,
         size: slices_for(len, u64::from(request.seconds)),
         value: u64::from(request.value),

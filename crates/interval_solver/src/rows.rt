@@ -1,103 +1,73 @@
-// The possible starts of one telescope, by slice.
+// The rows of the telescopes of a snapshot.
 
-ghost use Rattle.std.specs.Prelude.{◌≡◌, ◌+◌, ◌<◌, ◌≤◌, ℕ, [], length, HoldsAt, IfOk, OnOk};
-ghost use Rattle.plan_base.specs.Limits.{most_slices};
+ghost use Rattle.std.specs.Prelude.{◌≡◌, ℕ, ◌<◌, length, slice_index_or, IfOk};
 ghost use Rattle.plan_base.specs.Starts.{IsPossibleStart};
 ghost use Rattle.snapshot_starts.specs.Runs.{AreAllStarts};
-ghost use Rattle.plan_base.specs.Tables.{row};
-ghost use Rattle.interval_solver.specs.Offers.{IsOfferRange};
-ghost use Rattle.interval_solver.specs.Listings.{AreAdded, AreAllRuns, IsOfFirst, IsListing};
+ghost use Rattle.interval_solver.specs.Listings.{IsListing};
+ghost use Rattle.interval_solver.specs.Solving.{AreRowsOf};
 
-use crate::offer::{Offer, offer_of, worth_at};
-use crate::start::Start;
-use plan_base::{ListOf, Snapshot, TelescopeNo};
-use snapshot_starts::{Run, Starts};
+use crate::listing::list_starts;
+use crate::start_rows::StartRows;
+use plan_base::{Snapshot, TelescopeNo};
+use snapshot_starts::Starts;
 use std::alloc::{AllocError, Global};
+use std::marker::Model;
 
-/// The possible starts of a telescope: row `k` has those at slice `k` of the horizon, by request. Fails only for want of
-/// memory.
-pub(crate) fn rows_of(
-    alloc: Global,
-    snapshot: &Snapshot,
-    telescope: TelescopeNo,
-    starts: &Starts,
-) -> Result<Vec<ListOf<Start>>, AllocError>
-    requires { AreAllStarts snapshot.now starts.now }
-    ensures { IfOk result (λ rows. IsListing snapshot.now telescope.0 (IsPossibleStart snapshot.now) rows.items) }
-{
-    let mut rows = empty_rows(alloc, snapshot.parts().slices as usize)?;
-    let runs = starts.runs();
-    for place in 0..runs.len() {
-        list_run(snapshot, telescope, runs, place, runs[place], &mut rows)?;
-    }
-    Ok(rows)
+/// The possible starts of one telescope by slice, with what each is worth. They depend on no price: they are made once
+/// for a snapshot and lent to all that seek bests at prices. Contracts see the snapshot's parts and the telescope.
+#[derive(Drop)]
+pub struct Rows<'a> {
+    pub(crate) snapshot: &'a Snapshot,
+    pub(crate) telescope: TelescopeNo,
+    pub(crate) starts: StartRows,
 }
 
-/// So many rows without a start.
-fn empty_rows(alloc: Global, count: usize) -> Result<Vec<ListOf<Start>>, AllocError>
-    ensures count { IfOk result (λ rows. length rows.items ≡ count) }
-    ensures empty { IfOk result (λ rows. (k : ℕ) → row rows.items k ≡ []) }
-{
-    let mut rows = Vec::with_capacity(alloc, count)?;
-    while rows.len() < count {
-        rows.push(ListOf::new(alloc))?;
-    }
-    Ok(rows)
+impl<'a> Model for Rows<'a> {
+    ghost use Rattle.plan_base.specs.Starts.{IsPossibleStart};
+    ghost use Rattle.interval_solver.specs.Listings.{IsListing};
+    ghost use Rattle.interval_solver.specs.Solving.{RowsOf};
+
+    ghost Value = { RowsOf };
+
+    ghost view = { λ a. record { snapshot = a.snapshot.now; telescope = a.telescope.0 } };
+
+    ghost invariant = { λ a. IsListing a.snapshot.now a.telescope.0 (IsPossibleStart a.snapshot.now) a.starts };
 }
 
-/// Adds the starts of the run, which is the one at a place, if it is one of the telescope.
-fn list_run(
-    snapshot: &Snapshot,
-    telescope: TelescopeNo,
-    runs: &[Run],
-    place: usize,
-    run: Run,
-    rows: &mut Vec<ListOf<Start>>,
-) -> Result<(), AllocError>
-    requires runs { AreAllRuns snapshot.now runs.now }
-    requires place { place < length runs.now }
-    requires run { HoldsAt (λ x. x ≡ run) runs.now place }
-    requires listing { IsListing snapshot.now telescope.0 (IsOfFirst runs.now place) rows.old.items }
-    ensures { OnOk result (IsListing snapshot.now telescope.0 (IsOfFirst runs.now (place + 1)) rows.new.items) }
-{
-    if run.telescope.0 != telescope.0 {
-        return Ok(());
+impl<'a> Rows<'a> {
+    /// The rows of a telescope. The starts are all possible starts of the snapshot. Fails only for want of memory.
+    pub fn new(
+        alloc: Global,
+        telescope: TelescopeNo,
+        snapshot: &'a Snapshot,
+        starts: &Starts,
+    ) -> Result<Rows<'a>, AllocError>
+        requires { AreAllStarts snapshot.now starts.now }
+        ensures { IfOk result (λ rows. rows ≡ record { snapshot = snapshot.now; telescope = telescope.0 }) }
+    {
+        let rows = list_starts(alloc, snapshot, telescope, starts)?;
+        Ok(Rows {
+            snapshot,
+            telescope,
+            starts: StartRows::new(alloc, rows)?,
+        })
     }
-    let parts = snapshot.parts();
-    let Some(request) = snapshot.place_of(run.request) else {
-        return Ok(());
-    };
-    snapshot.recall_valid();
-    let offer = offer_of(parts.len, request as u32, snapshot.request_at(request));
-    let from = u64::from(run.first.0);
-    let to = from + u64::from(run.count);
-    push_starts(rows, &offer, u64::from(parts.first.0), from, to)
-}
 
-/// Adds the starts of an offer at the slices from one to the one before another. The rows begin at the slice `first`.
-fn push_starts(
-    rows: &mut Vec<ListOf<Start>>,
-    offer: &Offer,
-    first: u64,
-    from: u64,
-    to: u64,
-) -> Result<(), AllocError>
-    requires offer { IsOfferRange offer.now }
-    requires begins { first ≤ from }
-    requires order { from ≤ to }
-    requires ends { to ≤ first + length rows.old.items }
-    requires few { length rows.old.items ≤ most_slices }
-    ensures { OnOk result (AreAdded offer.now first from to rows.old.items rows.new.items) }
-{
-    for slice in from..to {
-        let row = slice - first;
-        let start = Start {
-            request: offer.request,
-            place: offer.place,
-            worth: worth_at(offer, slice),
-            after: (row + offer.size) as u32,
-        };
-        rows[row as usize].push(start)?;
+    /// The rows of all telescopes of a snapshot, in their order. The starts are all its possible starts. Fails only for
+    /// want of memory.
+    pub fn of_all(
+        alloc: Global,
+        snapshot: &'a Snapshot,
+        starts: &Starts,
+    ) -> Result<Vec<Rows<'a>>, AllocError>
+        requires { AreAllStarts snapshot.now starts.now }
+        ensures { IfOk result (λ rows. AreRowsOf snapshot.now (length snapshot.now.telescopes) rows.items) }
+    {
+        let mut rows = Vec::new(alloc);
+        let count = snapshot.parts().telescopes.len();
+        for telescope in 0..count {
+            rows.push(Rows::new(alloc, TelescopeNo(telescope as u16), snapshot, starts)?)?;
+        }
+        Ok(rows)
     }
-    Ok(())
 }

@@ -1,19 +1,22 @@
 // The best of one telescope at prices.
 
-ghost use Rattle.std.specs.Prelude.{◌≡◌, ◌<◌, [], length, All, IfOk, HoldsAt};
+ghost use Rattle.std.specs.Prelude.{◌≡◌, ◌<◌, ◌+◌, [], length, All, IfOk, HoldsAt};
 ghost use Rattle.plan_base.specs.Requests.{listed};
 ghost use Rattle.plan_base.specs.Bound.{IsBest};
 ghost use Rattle.plan_base.specs.Canonical.{IsCanonicalUse};
 ghost use Rattle.plan_base.specs.Round.{uses_of};
 ghost use Rattle.plan_base.specs.Verdict.{IsPriceInRange};
 ghost use Rattle.snapshot_starts.specs.Runs.{AreAllStarts};
+ghost use Rattle.interval_solver.specs.Tables.{IsEntry};
+ghost use Rattle.interval_solver.specs.Lanes.{lane, IsForLanes};
+ghost use Rattle.interval_solver.specs.Solving.{HasRoom, AreUsesMore};
 
-use crate::rows::rows_of;
-use crate::start::Start;
-use crate::table::fill_table;
+use crate::numbers::zero_table;
+use crate::rows::Rows;
+use crate::table::fill;
 use crate::uses::Uses;
 use crate::walk::walk;
-use plan_base::{ListOf, Placement, Prices, Snapshot, TelescopeNo};
+use plan_base::{Placement, Prices, Snapshot, TelescopeNo};
 use snapshot_starts::Starts;
 use std::alloc::{AllocError, Global};
 use std::marker::Model;
@@ -22,23 +25,20 @@ use std::marker::Model;
 /// the telescope and what it starts at the last prices.
 #[derive(Drop)]
 pub struct Solver<'a> {
-    snapshot: &'a Snapshot,
-    telescope: TelescopeNo,
-    rows: Vec<ListOf<Start>>,
-    table: Vec<i64>,
-    uses: Uses,
+    rows: Rows<'a>,
+    prices: Vec<[i64; 1]>,
+    table: Vec<[i64; 1]>,
+    uses: Uses<'a>,
 }
 
 impl<'a> Model for Solver<'a> {
-    ghost use Rattle.interval_solver.specs.Solving.{Solving};
+    ghost use Rattle.interval_solver.specs.Solving.{Solving, IsReady};
 
     ghost Value = { Solving };
 
-    ghost use Rattle.interval_solver.specs.Solving.{IsReady};
+    ghost view = { λ a. record { snapshot = a.rows.snapshot; telescope = a.rows.telescope; chosen = a.uses.starts } };
 
-    ghost view = { λ a. record { snapshot = a.snapshot.now; telescope = a.telescope.0; chosen = a.uses.starts } };
-
-    ghost invariant = { λ a. IsReady a.snapshot.now a.telescope.0 a.rows.items a.table.items a.uses };
+    ghost invariant = { λ a. IsReady a.rows a.prices.items a.table.items a.uses };
 }
 
 impl<'a> Solver<'a> {
@@ -53,13 +53,13 @@ impl<'a> Solver<'a> {
         requires { AreAllStarts snapshot.now starts.now }
         ensures { IfOk result (λ solver. solver ≡ record { snapshot = snapshot.now; telescope = telescope.0; chosen = [] }) }
     {
+        snapshot.recall_valid();
         let slices = snapshot.parts().slices as usize;
         Ok(Solver {
-            snapshot,
-            telescope,
-            rows: rows_of(alloc, snapshot, telescope, starts)?,
+            rows: Rows::new(alloc, telescope, snapshot, starts)?,
+            prices: zero_table(alloc, snapshot.request_count())?,
             table: zero_table(alloc, slices + 1)?,
-            uses: Uses::new(alloc, snapshot.request_count(), slices)?,
+            uses: Uses::new(alloc, snapshot, slices)?,
         })
     }
 
@@ -75,18 +75,14 @@ impl<'a> Solver<'a> {
         ensures same_snapshot { self.new.snapshot ≡ self.old.snapshot }
         ensures same_telescope { self.new.telescope ≡ self.old.telescope }
     {
-        self.snapshot.recall_valid();
-        let prices = prices.0.as_slice();
-        let best = fill_table(self.rows.as_slice(), prices, self.table.as_mut_slice());
-        walk(
-            self.snapshot,
-            self.telescope,
-            self.rows.as_slice(),
-            prices,
-            self.table.as_slice(),
+        write_prices(prices.0.as_slice(), self.prices.as_mut_slice());
+        self.uses.clear();
+        solve_one(
+            &self.rows,
+            self.prices.as_slice(),
+            self.table.as_mut_slice(),
             &mut self.uses,
-        );
-        best
+        )
     }
 
     /// What the telescope starts at the last prices, slice by slice, and nothing before the first call of
@@ -104,13 +100,49 @@ impl<'a> Solver<'a> {
         requires { member < length (listed self.now.snapshot) }
         ensures { HoldsAt (λ x. result ≡ uses_of self.now.chosen x.request.request.0) (listed self.now.snapshot) member }
     {
-        self.snapshot.recall_valid();
         self.uses.count(member)
     }
 }
 
-fn zero_table(alloc: Global, count: usize) -> Result<Vec<i64>, AllocError>
-    ensures { IfOk result (λ table. length table.items ≡ count) }
+/// Writes prices for one lane.
+fn write_prices(prices: &[i64], lanes: &mut [[i64; 1]])
+    requires count { length lanes.old ≡ length prices.now }
+    requires range { All IsPriceInRange prices.now }
+    ensures range { All (IsForLanes 1 IsPriceInRange) lanes.new }
+    ensures prices { lane 0 lanes.new ≡ prices.now }
 {
-    vec![in alloc; 0; count]
+    for place in 0..prices.len() {
+        lanes[place] = [prices[place]];
+    }
+}
+
+/// The best of a telescope in one lane. What it starts is added to the uses.
+fn solve_one(
+    rows: &Rows<'_>,
+    prices: &[[i64; 1]],
+    table: &mut [[i64; 1]],
+    uses: &mut Uses<'_>,
+) -> i64
+    requires count { length prices.now ≡ length (listed rows.now.snapshot) }
+    requires range { All (IsForLanes 1 IsPriceInRange) prices.now }
+    requires entries { length table.old ≡ rows.now.snapshot.slices + 1 }
+    requires table { All (IsForLanes 1 IsEntry) table.old }
+    requires uses { HasRoom rows.now.snapshot uses.old }
+    ensures entries { length table.new ≡ length table.old }
+    ensures table { All (IsForLanes 1 IsEntry) table.new }
+    ensures best { IsBest rows.now.snapshot (lane 0 prices.now) rows.now.telescope rows.now.snapshot.first.0 result }
+    ensures uses { AreUsesMore rows.now.snapshot (lane 0 prices.now) rows.now.telescope uses.old uses.new }
+{
+    rows.snapshot.recall_valid();
+    fill(&rows.starts, prices, table);
+    walk(
+        rows.snapshot,
+        rows.telescope,
+        &rows.starts,
+        prices,
+        table,
+        0,
+        uses,
+    );
+    table[0][0]
 }

@@ -1,15 +1,12 @@
 // Possible starts as the rows of a telescope have them.
 
-use plan_base::RequestNo;
-
 /// A possible start, in the row of its slice.
 #[derive(Clone, Copy, Debug)]
 pub(crate) struct Start {
-    pub request: RequestNo,
-    /// The place of its request among all.
-    pub place: u32,
     /// What it is worth: at most 288,000,000.
     pub worth: u32,
+    /// The place of its request among all.
+    pub place: u16,
     /// The row of the slice after its last.
-    pub after: u32,
+    pub after: u16,
 }

@@ -1,85 +1,126 @@
-// What a telescope starts to reach its best.
+// What a telescope starts to reach its best, in one lane of several.
 
-ghost use Rattle.std.specs.Prelude.{◌≡◌, ◌≢◌, ℕ, ◌+◌, ◌<◌, ◌≤◌, length, All, Contains};
+ghost use Rattle.std.specs.Prelude.{◌≡◌, ◌≢◌, ◌+◌, ◌<◌, ◌≤◌, pos, length, slice_index_or, All, Contains};
 ghost use Rattle.plan_base.specs.Limits.{most_value};
 ghost use Rattle.plan_base.specs.Requests.{listed};
 ghost use Rattle.plan_base.specs.Starts.{IsPossibleStart};
-ghost use Rattle.plan_base.specs.Canonical.{IsCanonicalUse};
-ghost use Rattle.plan_base.specs.Verdict.{IsPriceInRange};
 ghost use Rattle.plan_base.specs.Tables.{entry};
-ghost use Rattle.interval_solver.specs.Tables.{IsEntry, gain, IsRecursion, IsFirstTight};
+ghost use Rattle.plan_base.specs.Verdict.{IsPriceInRange};
+ghost use Rattle.interval_solver.specs.Tables.{IsEntry, gain, IsFlat, IsRecursion, IsFirstTight};
+ghost use Rattle.interval_solver.specs.Lanes.{lane, IsForLanes};
 ghost use Rattle.interval_solver.specs.Listings.{IsListing};
-ghost use Rattle.interval_solver.specs.Uses.{AreUsesOf};
+ghost use Rattle.interval_solver.specs.Solving.{HasRoom, AreUsesMore};
 
 use crate::start::Start;
-use crate::table::gain_of;
+use crate::start_rows::StartRows;
 use crate::uses::Uses;
-use plan_base::{ListOf, Placement, SliceNo, Snapshot, TelescopeNo};
+use plan_base::{Placement, SliceNo, Snapshot, TelescopeNo};
 
-/// Writes down what the telescope starts, in place of what it started before: from the first slice on, nothing where the
-/// next entry is the same, and else the lowest request that gives the entry.
-pub(crate) fn walk(
+/// Adds what the telescope starts in a lane: from the first slice on, nothing where the next entry is the same, and else
+/// the lowest request that gives the entry.
+pub(crate) fn walk<const L: usize>(
     snapshot: &Snapshot,
     telescope: TelescopeNo,
-    rows: &[ListOf<Start>],
-    prices: &[i64],
-    table: &[i64],
-    uses: &mut Uses,
+    rows: &StartRows,
+    prices: &[[i64; L]],
+    table: &[[i64; L]],
+    of: usize,
+    uses: &mut Uses<'_>,
 )
     requires listing { IsListing snapshot.now telescope.0 (IsPossibleStart snapshot.now) rows.now }
+    requires lane { of < L }
     requires count { length prices.now ≡ length (listed snapshot.now) }
-    requires range { All IsPriceInRange prices.now }
+    requires range { All (IsForLanes L IsPriceInRange) prices.now }
     requires length { length table.now ≡ length rows.now + 1 }
-    requires entries { All IsEntry table.now }
-    requires recursion { IsRecursion rows.now prices.now table.now }
-    requires uses { AreUsesOf snapshot.now uses.old }
-    ensures canonical { IsCanonicalUse snapshot.now prices.now telescope.0 uses.new.starts }
-    ensures uses { AreUsesOf snapshot.now uses.new }
+    requires entries { All (IsForLanes L IsEntry) table.now }
+    requires recursion { IsRecursion rows.now (lane of prices.now) (lane of table.now) }
+    requires uses { HasRoom snapshot.now uses.old }
+    ensures { AreUsesMore snapshot.now (lane of prices.now) telescope.0 uses.old uses.new }
 {
-    uses.clear();
     let first = snapshot.parts().first.0;
-    let mut slice = busy_slice(table, 0);
+    let mut slice = busy_slice(table, of, 0);
     while slice < rows.len() {
-        let start = tight_start(rows[slice].as_slice(), prices, table, table[slice]);
+        let entry = number_at(table, slice, of);
+        let start = tight_start(rows.row(slice), prices, table, of, entry);
+        let request = snapshot.request_at(start.place as usize).request;
         let placement = Placement {
-            request: start.request,
+            request,
             telescope,
             slice: SliceNo(first + slice as u32),
         };
-        uses.add(start.place, placement);
-        slice = busy_slice(table, start.after as usize);
+        uses.add(u32::from(start.place), placement);
+        slice = busy_slice(table, of, start.after as usize);
     }
 }
 
 /// The first slice, from one on, whose entry isn't that of the next, or the place of the last entry.
-fn busy_slice(table: &[i64], from: usize) -> usize
-    requires { from < length table.now }
+fn busy_slice<const L: usize>(table: &[[i64; L]], of: usize, from: usize) -> usize
+    requires lane { of < L }
+    requires from { from < length table.now }
+    requires entries { All (IsForLanes L IsEntry) table.now }
     ensures from { from ≤ result }
     ensures within { result < length table.now }
-    ensures idle { (k : ℕ) → from ≤ k → k < result → entry table.now k ≡ entry table.now (k + 1) }
-    ensures busy { result + 1 < length table.now → entry table.now result ≢ entry table.now (result + 1) }
+    ensures idle { IsFlat (lane of table.now) from result }
+    ensures busy { result + 1 < length table.now → entry (lane of table.now) result ≢ entry (lane of table.now) (result + 1) }
 {
     let mut slice = from;
-    while slice + 1 < table.len() && table[slice] == table[slice + 1] {
+    while slice + 1 < table.len()
+        && number_at(table, slice, of) == number_at(table, slice + 1, of)
+    {
         slice += 1;
     }
     slice
 }
 
 /// The first start in a row that gives so much.
-fn tight_start(row: &[Start], prices: &[i64], table: &[i64], surplus: i64) -> Start
+fn tight_start<const L: usize>(
+    row: &[Start],
+    prices: &[[i64; L]],
+    table: &[[i64; L]],
+    of: usize,
+    surplus: i64,
+) -> Start
+    requires lane { of < L }
     requires worths { All (λ x. x.worth ≤ most_value) row.now }
     requires places { All (λ x. x.place < length prices.now) row.now }
     requires afters { All (λ x. x.after < length table.now) row.now }
-    requires range { All IsPriceInRange prices.now }
-    requires entries { All IsEntry table.now }
-    requires reached { (x : _) × Contains row.now x × (gain prices.now table.now x ≡ surplus) }
-    ensures { IsFirstTight prices.now table.now surplus row.now result }
+    requires prices { All (IsForLanes L IsPriceInRange) prices.now }
+    requires entries { All (IsForLanes L IsEntry) table.now }
+    requires reached { (x : _) × Contains row.now x × (gain (lane of prices.now) (lane of table.now) x ≡ surplus) }
+    ensures { IsFirstTight (lane of prices.now) (lane of table.now) surplus row.now result }
 {
     for start in row {
-        if gain_of(*start, prices, table) == surplus {
+        if gain_of(*start, prices, table, of) == surplus {
             return *start;
         }
     }
     unreachable!()
+}
+
+/// What a start gives a lane: its worth less its request's price, and the greatest surplus from the slice after its last
+/// on.
+#[inline(always)]
+fn gain_of<const L: usize>(start: Start, prices: &[[i64; L]], table: &[[i64; L]], of: usize) -> i64
+    requires lane { of < L }
+    requires worth { start.worth ≤ most_value }
+    requires place { start.place < length prices.now }
+    requires after { start.after < length table.now }
+    requires prices { All (IsForLanes L IsPriceInRange) prices.now }
+    requires entries { All (IsForLanes L IsEntry) table.now }
+    ensures { result ≡ gain (lane of prices.now) (lane of table.now) start }
+{
+    let price = number_at(prices, start.place as usize, of);
+    let after = number_at(table, start.after as usize, of);
+    i64::from(start.worth) - price + after
+}
+
+/// The number of a lane at a place.
+#[inline(always)]
+fn number_at<const L: usize>(numbers: &[[i64; L]], place: usize, of: usize) -> i64
+    requires lane { of < L }
+    requires place { place < length numbers.now }
+    requires lanes { All (λ v. length v ≡ L) numbers.now }
+    ensures { result ≡ slice_index_or (lane of numbers.now) place (pos 0) }
+{
+    numbers[place][of]
 }

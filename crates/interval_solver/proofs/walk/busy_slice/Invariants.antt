@@ -1,9 +1,10 @@
-use Rattle.std.proofs.Common.{◌≡◌, ℕ, ◌+◌, ◌-◌, ◌<◌, ◌≤◌, length}
-use Rattle.plan_base.specs.Tables.{entry}
+use Rattle.std.proofs.Common.{◌-◌, ◌<◌, ◌≤◌, length}
+use Rattle.interval_solver.specs.Lanes.{lane}
+use Rattle.interval_solver.specs.Tables.{IsFlat}
 use Rattle.interval_solver.proofs.walk.busy_slice.Given as goal
 
 abbrev pub invariant-loop-slice : goal.invariant-loop-slice
-invariant-loop-slice l = record { from : l.from ≤ l.slice; within : l.slice < length l.table; idle : (k : ℕ) → l.from ≤ k → k < l.slice → entry l.table k ≡ entry l.table (k + 1) }
+invariant-loop-slice g l = record { from : l.from ≤ l.slice; within : l.slice < length l.table; idle : IsFlat (lane l.of l.table) l.from l.slice }
 
 abbrev pub decreases-loop-slice : goal.decreases-loop-slice
-decreases-loop-slice l = length l.table - l.slice
+decreases-loop-slice g l = length l.table - l.slice

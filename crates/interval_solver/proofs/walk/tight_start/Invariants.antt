@@ -1,7 +1,8 @@
 use Rattle.std.proofs.Common.{◌≡◌, ℕ, ◌<◌, slice_index_or}
 use Rattle.interval_solver.specs.declared.start.Start.{Start}
 use Rattle.interval_solver.specs.Tables.{gain}
+use Rattle.interval_solver.specs.Lanes.{lane}
 use Rattle.interval_solver.proofs.walk.tight_start.Given as goal
 
 abbrev pub invariant-loop-start : goal.invariant-loop-start
-invariant-loop-start l = (k : ℕ) (d : Start) → k < l.start-index → ¬ (gain l.prices l.table (slice_index_or l.row k d) ≡ l.surplus)
+invariant-loop-start g l = (k : ℕ) (d : Start) → k < l.start-index → ¬ (gain (lane l.of l.prices) (lane l.of l.table) (slice_index_or l.row k d) ≡ l.surplus)

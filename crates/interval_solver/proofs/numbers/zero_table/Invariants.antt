@@ -1,0 +1,7 @@
+use Rattle.std.proofs.Common.{◌≡◌, length, All}
+use Rattle.interval_solver.specs.Tables.{IsEntry}
+use Rattle.interval_solver.specs.Lanes.{IsForLanes}
+use Rattle.interval_solver.proofs.numbers.zero_table.Given as goal
+
+abbrev pub invariant-loop : goal.invariant-loop
+invariant-loop g l = record { count : length l.table.items ≡ l.counter; entries : All (IsForLanes g.row.L IsEntry) l.table.items }

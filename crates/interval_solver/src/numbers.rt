@@ -1,0 +1,23 @@
+// Tables with a number for each lane.
+
+ghost use Rattle.std.specs.Prelude.{◌≡◌, length, All, IfOk};
+ghost use Rattle.interval_solver.specs.Tables.{IsEntry};
+ghost use Rattle.interval_solver.specs.Lanes.{IsForLanes};
+
+use std::alloc::{AllocError, Global};
+
+/// A table of so many entries for each lane, with which [`crate::Rows::solve`] may begin. Fails only for want of memory.
+pub fn zero_table<const L: usize>(
+    alloc: Global,
+    entries: usize,
+) -> Result<Vec<[i64; L]>, AllocError>
+    ensures count { IfOk result (λ table. length table.items ≡ entries) }
+    ensures entries { IfOk result (λ table. All (IsForLanes L IsEntry) table.items) }
+{
+    let mut table = Vec::with_capacity(alloc, entries)?;
+    let zero = [0; L];
+    for _ in 0..entries {
+        table.push(zero)?;
+    }
+    Ok(table)
+}
