@@ -17,9 +17,9 @@ use crate::walk::walk;
 use plan_base::{Snapshot, TelescopeNo};
 
 impl<'a> Rows<'a> {
-    /// For each of `L` lanes, at the lane's prices, the greatest sum, over all lists of possible starts of the telescope
+    /// For each of `L` lanes, at its prices, the greatest sum, over all lists of possible starts of the telescope
     /// of which no two share a slice, of what the starts are worth less the prices of their requests, as
-    /// [`crate::Solver::solve`] has it; and what the telescope starts to reach it is added to the lane's uses. The lanes
+    /// [`crate::Solver::solve`] has it. What the telescope starts to reach it is added to the lane's uses. The lanes
     /// are solved in step: there is a list of `L` prices for each request, each from -10^12 to 10^12, and a table with
     /// an entry for each slice and one more, which is for the call's own use. It takes no memory.
     pub fn solve<const L: usize>(

@@ -16,7 +16,7 @@ use crate::start_rows::StartRows;
 use crate::uses::Uses;
 use plan_base::{Placement, SliceNo, Snapshot, TelescopeNo};
 
-/// Adds what the telescope starts in a lane: from the first slice on, nothing where the next entry is the same, and else
+/// Adds what the telescope starts in a lane: from the first slice on, nothing where the next entry is the same, else
 /// the lowest request that gives the entry.
 pub(crate) fn walk<const L: usize>(
     snapshot: &Snapshot,
@@ -97,7 +97,7 @@ fn tight_start<const L: usize>(
     unreachable!()
 }
 
-/// What a start gives a lane: its worth less its request's price, and the greatest surplus from the slice after its last
+/// What a start gives a lane: its worth less its request's price, and the greatest surplus from the slice after it
 /// on.
 #[inline(always)]
 fn gain_of<const L: usize>(start: Start, prices: &[[i64; L]], table: &[[i64; L]], of: usize) -> i64
