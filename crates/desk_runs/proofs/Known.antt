@@ -1,0 +1,40 @@
+-- A running request is one of a group that is there.
+use Rattle.std.proofs.Common.{◌≡◌, ℕ, suc, ◌<◌, ◌==◌, Bool, true, false, ◌||◌, List, [], ◌∷◌, length, get_or, refl, sym, ◌∙◌, ap, arith, inl, inr, ◌⊎◌, Option, Some, None}
+use Rattle.std.specs.List.{list_any}
+use Rattle.std.proofs.lemmas.Bool.{or_cases, cases_Bool, eqb-true, cond-true, cond-false}
+use Rattle.plan_base.specs.declared.number.RequestNo.{RequestNo}
+use Rattle.desk_runs.specs.declared.group.Group.{Group}
+use Rattle.desk_runs.specs.declared.observation.Observation.{Observation}
+use Rattle.desk_runs.specs.Numbers.{has_request, group_with, is_pending_at, is_placed}
+use Rattle.desk_runs.specs.Progress.{Progress}
+use Rattle.desk_runs.specs.Sound.{IsSound, AllPending}
+use Rattle.desk_runs.proofs.Sounds.{has_pending}
+use Rattle.desk_runs.proofs.Reporting.{pending_has}
+
+-- a pending request is one of a group
+pub pending_found : (gs : List Group) (number : RequestNo) → is_pending_at gs number ≡ true → (g : Group) × (group_with gs number ≡ Some g)
+pending_found [] number e = cc
+pending_found (g ∷ gs) number e = elim (cases_Bool (has_request number g)) [
+  | inl hit ↦ (g, cond-true (has_request number g) (Some g) (group_with gs number) hit)
+  | inr miss ↦
+      let later : is_pending_at gs number ≡ true = elim (or_cases (has_pending number g) (is_pending_at gs number) e) [
+        | inl here ↦ let bad : false ≡ true = sym miss ∙ pending_has number g.requests here in cc
+        | inr there ↦ there
+      ] in
+      let rest = pending_found gs number later in
+      (rest.0, cond-false (has_request number g) (Some g) (group_with gs number) miss ∙ rest.1)
+]
+
+placed_pending : (gs : List Group) (os : List Observation) (number : RequestNo) → AllPending gs os → is_placed os number ≡ true → is_pending_at gs number ≡ true
+placed_pending gs [] number h e = cc
+placed_pending gs (o ∷ os) number h e = elim (or_cases (o.request.0 == number.0) (is_placed os number) e) [
+  | inl here ↦ sym (ap (λ (n : ℕ). is_pending_at gs (record { 0 = n })) (eqb-true o.request.0 number.0 here)) ∙ h 0 o (omega arith)
+  | inr there ↦ placed_pending gs os number (λ k d l. h (suc k) d (omega arith)) there
+]
+
+-- a running request is one of a group
+pub running_found : (s : Progress) (number : RequestNo) → IsSound s → is_placed s.running number ≡ true → (g : Group) × (group_with s.groups number ≡ Some g)
+running_found s number h e = pending_found s.groups number (placed_pending s.groups s.running number h.running e)
+
+pub none_is_some : (g : Group) → None ≡ Some g → ⊥
+none_is_some g e = cc

@@ -1,0 +1,14 @@
+pub mod Lists
+pub mod Settling
+pub mod Later
+pub mod Sounds
+pub mod Places
+pub mod Turns
+pub mod Moves
+pub mod Opened
+pub mod Single
+pub mod Withdrawn
+pub mod Reporting
+pub mod ReportChange
+pub mod Known
+pub mod Adding

@@ -1,0 +1,12 @@
+pub mod States
+pub mod Numbers
+pub mod Progress
+pub mod Clock
+pub mod Reports
+pub mod Turning
+pub mod Changes
+pub mod Sound
+pub mod Adding
+pub mod Owners
+pub mod Inside
+pub mod Laws
