@@ -82,6 +82,10 @@ fn are_counted(snapshot: &Snapshot, quota_prices: &QuotaPrices) -> bool
 
 fn assert_row(rt: &impl Abort, alloc: Global, row: &Row) -> Result<(), Fail> {
     let snapshot = snapshot(rt, alloc)?;
+    assert_nets(rt, alloc, &snapshot, row)
+}
+
+fn assert_nets(rt: &impl Abort, alloc: Global, snapshot: &Snapshot, row: &Row) -> Result<(), Fail> {
     let prices = Prices(ListOf::from_vec(Vec::from_slice(alloc, &row.prices)?));
     let quota_prices = QuotaPrices(ListOf::from_vec(Vec::from_slice(alloc, row.quota_prices)?));
     let mut nets = Prices(ListOf::from_vec(Vec::from_slice(alloc, &[1; 6])?));
@@ -89,8 +93,8 @@ fn assert_row(rt: &impl Abort, alloc: Global, row: &Row) -> Result<(), Fail> {
     let parts = snapshot.parts();
     assert!(rt; parts.groups.len() == 4);
     assert!(rt; are_in_ranges(&prices, &quota_prices));
-    assert!(rt; are_counted(&snapshot, &quota_prices));
-    net(&snapshot, &prices, &quota_prices, &mut nets);
+    assert!(rt; are_counted(snapshot, &quota_prices));
+    net(snapshot, &prices, &quota_prices, &mut nets);
     assert_eq!(rt; nets.0.as_slice(), row.nets.as_slice());
     Ok(())
 }
