@@ -8,7 +8,8 @@ ghost use Rattle.request_times.specs.Duration.{IsOverhead};
 use crate::{Instrument, seconds_of};
 use plan_base::{ListOf, Name};
 use request_model::{ConfigDoc, Exposure, Location, RequestDoc, When};
-use std::alloc::{AllocError, Global};
+use std::alloc::Global;
+use std::process::Abort;
 use std::test::Fail;
 
 /// An instrument, how many configurations a request has, the count and the milliseconds of each one's exposures, and the
@@ -98,8 +99,8 @@ fn exposures(alloc: Global, kinds: &[(u32, u32)]) -> Result<ListOf<Exposure>, Fa
     ensures { IfOk result (All IsExposure) }
 {
     let mut list = ListOf::new(alloc);
-    for (count, ms) in kinds {
-        list.push(exposure(*count, *ms)?)?;
+    for kind in kinds {
+        list.push(exposure(kind.0, kind.1)?)?;
     }
     Ok(list)
 }
@@ -142,7 +143,7 @@ fn configurations(
 
 fn request(alloc: Global, configurations: ListOf<ConfigDoc>) -> Result<Box<RequestDoc>, Fail>
     requires { AreConfigurations configurations }
-    ensures { IfOk result (λ request. AreConfigurations request.configurations) }
+    ensures { IfOk result (λ request. AreConfigurations request.value.configurations) }
 {
     let request = RequestDoc {
         location: Location {
@@ -174,11 +175,15 @@ fn answer(alloc: Global, row: &Row) -> Result<String, Fail> {
     }
 }
 
-#[test]
-fn requests_have_durations(rt: HostRuntime) -> Result<(), Fail> {
-    for row in ROWS.iter() {
-        let found = answer(rt.alloc(), row)?;
+fn assert_rows(rt: &impl Abort, alloc: Global, rows: &[Row]) -> Result<(), Fail> {
+    for row in rows {
+        let found = answer(alloc, row)?;
         assert!(rt; found.as_str() == row.3, "{found} in place of {}", row.3);
     }
     Ok(())
+}
+
+#[test]
+fn requests_have_durations(rt: HostRuntime) -> Result<(), Fail> {
+    assert_rows(&rt, rt.alloc(), &ROWS)
 }
