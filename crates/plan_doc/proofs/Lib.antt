@@ -4,3 +4,4 @@ pub mod BackClaim
 pub mod BackSnapshot
 pub mod Inverse
 pub mod Distinct
+pub mod Certified

@@ -32,7 +32,8 @@ IsCheckWords words = map string_bytes words ≡ codes "check" ∷ []
 -- no feasible plan is worth more than the bound of a Yes
 abbrev pub IsBounding : Publication → Verdict → Type 0
 IsBounding p verdict =
-    (value bound : ℕ) → verdict ≡ judged.Yes value bound → (plan : List Placement) → IsFeasible p.snapshot plan → value_of_plan p.snapshot plan ≤ bound
+    (value bound : ℕ) → verdict ≡ judged.Yes value bound
+    → (plan : List Placement) → IsFeasible p.snapshot plan → value_of_plan p.snapshot plan ≤ bound
 
 -- the bytes are a snapshot with a claim, and this is the verdict on it
 pub record IsJudged (bytes : List ℕ) (verdict : Verdict) : Type 0 where

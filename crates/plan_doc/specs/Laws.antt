@@ -3,13 +3,16 @@ use Rattle.std.specs.Prelude.{◌≡◌, Some, Ok}
 use Rattle.serde_json.specs.Data.{Members}
 use Rattle.plan_base.specs.declared.claim.Claim.{Claim}
 use Rattle.plan_base.specs.declared.parts.Parts.{Parts}
+use Rattle.plan_base.specs.declared.verdict.Verdict.TheVariants.{Yes}
 use Rattle.plan_base.specs.Snapshot.{IsInRanges, IsSnapshot}
+use Rattle.plan_base.specs.Verdict.{IsCertified, IsVerdict}
 use Rattle.plan_json.specs.declared.member.Member.TheVariants as key
 use Rattle.plan_json.specs.Exact.{IsExact}
 use Rattle.plan_json.specs.Object.{value_of}
 use Rattle.plan_json.specs.Values.{in_byte_order, those_there}
 use Rattle.plan_doc.specs.Claim.{claim_of}
 use Rattle.plan_doc.specs.Snapshot.{parts_of, snapshot_of}
+use Rattle.plan_doc.specs.declared.publication.Publication.{Publication}
 use Rattle.plan_doc.specs.Publication.{publication_of}
 use Rattle.plan_doc.specs.Written.{claim_members, claim_data, text_of_claim, snapshot_members, snapshot_data, text_of_snapshot}
 use Rattle.plan_doc.specs.Ranges.{IsClaim, AreParts}
@@ -44,3 +47,15 @@ PublicationsAreReadBack =
     (ms : Members) (s : Parts) (c : Claim) → IsSnapshot s → AreParts s → IsClaim c
     → value_of ms key.Snapshot ≡ Some (snapshot_data s) → value_of ms key.Claim ≡ Some (claim_data c)
     → publication_of ms ≡ Ok (record { snapshot = s; claim = c })
+
+-- each claim that is certified for a snapshot in the ranges lies in the ranges
+abbrev pub CertifiedClaimsAreInRange : Type 0
+CertifiedClaimsAreInRange = (s : Parts) (c : Claim) → IsSnapshot s → AreParts s → IsCertified s c → IsClaim c
+
+-- An object whose members `snapshot` and `claim` are the documents of a snapshot in the ranges and of a claim that is certified
+-- for it, as the reply to an export line is one, is read as these two, and the verdict on it is Yes.
+abbrev pub ExportsAreCertified : Type 0
+ExportsAreCertified =
+    (ms : Members) (s : Parts) (c : Claim) → IsSnapshot s → AreParts s → IsCertified s c
+    → value_of ms key.Snapshot ≡ Some (snapshot_data s) → value_of ms key.Claim ≡ Some (claim_data c)
+    → (p : Publication) × (publication_of ms ≡ Ok p) × IsVerdict p.snapshot p.claim (Yes c.value c.bound)

@@ -134,7 +134,8 @@ pub fn run_check<S: Source, K: Sink>(
     ensures over { result ≡ Status.InputOver → sink.new ≡ sink.old }
     ensures unwritten { result ≡ Status.NoMemory → sink.new ≡ sink.old }
     ensures check { IsCheck (S.left source.old) (S.left source.new) (K.written sink.old) (K.written sink.new) result }
-    ensures cause { IsCheckCause (S.faults source.old) (S.faults source.new) (K.faults sink.old) (K.faults sink.new) result }
+    ensures cause { IsCheckCause
+        (S.faults source.old) (S.faults source.new) (K.faults sink.old) (K.faults sink.new) result }
 {
     if !is_check(words) {
         return Status::Words;

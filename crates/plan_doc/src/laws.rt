@@ -1,6 +1,6 @@
 // What holds of reading and writing together, each law the contract of a function that does nothing.
 
-ghost use Rattle.plan_doc.specs.Laws.{ClaimsAreReadBack, ClaimsAreInRange, ClaimsAreDistinct, SnapshotsAreReadBack, SnapshotsAreInRange, SnapshotsAreDistinct, PublicationsAreReadBack};
+ghost use Rattle.plan_doc.specs.Laws.{ClaimsAreReadBack, ClaimsAreInRange, ClaimsAreDistinct, SnapshotsAreReadBack, SnapshotsAreInRange, SnapshotsAreDistinct, PublicationsAreReadBack, CertifiedClaimsAreInRange, ExportsAreCertified};
 
 /// A law: the document of each claim in the ranges is read as that claim.
 pub fn claims_are_read_back()
@@ -35,4 +35,14 @@ pub fn snapshots_are_distinct()
 /// A law: an object that has the documents of a snapshot and of a claim, in the ranges, is read as these two.
 pub fn publications_are_read_back()
     ensures { PublicationsAreReadBack }
+{}
+
+/// A law: each claim that is certified for a snapshot in the ranges has its numbers and counts in the ranges.
+pub fn certified_claims_are_in_range()
+    ensures { CertifiedClaimsAreInRange }
+{}
+
+/// A law: the verdict on the document of a snapshot in the ranges and of a claim that is certified for it is Yes.
+pub fn exports_are_certified()
+    ensures { ExportsAreCertified }
 {}

@@ -15,8 +15,9 @@ mod write;
 pub use check::run_check;
 pub use fault::DocFault;
 pub use laws::{
-    claims_are_distinct, claims_are_in_range, claims_are_read_back, publications_are_read_back,
-    snapshots_are_distinct, snapshots_are_in_range, snapshots_are_read_back,
+    certified_claims_are_in_range, claims_are_distinct, claims_are_in_range, claims_are_read_back,
+    exports_are_certified, publications_are_read_back, snapshots_are_distinct,
+    snapshots_are_in_range, snapshots_are_read_back,
 };
 pub use publication::Publication;
 pub use read::{read_claim, read_publication, read_snapshot};

@@ -171,8 +171,8 @@ fn write_reason(
     .write(out)
 }
 
-/// A verdict as an object: `{"bound":B,"ok":"yes","value":V}`, or `no`, the reason's number, `reason`, its name, and its
-/// fields.
+/// A verdict as an object: `{"bound":B,"ok":"yes","value":V}`, or `no`, the reason's number, `reason`, its name, and
+/// its fields.
 #[derive(Clone, Copy, Debug, PartialEq, Eq)]
 pub struct VerdictDoc(pub Verdict);
 

@@ -258,8 +258,8 @@ fn write_fault(
     .write(out)
 }
 
-/// A fault is written as an object: `no`, its number, `refused`, its name, and its fields. Want of memory, which no reply
-/// tells, has the number 0.
+/// A fault is written as an object: `no`, its number, `refused`, its name, and its fields. Want of memory, which no
+/// reply tells, has the number 0.
 impl Json for DocFault {
     ghost value = { fault_data };
 

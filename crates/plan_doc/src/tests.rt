@@ -1,5 +1,5 @@
-// What no clause says: that there is memory for each call, and how a check ends where a read or a write fails. What is found
-// of whole documents stands in the files of cases/check, at the top of the repository.
+// What no clause says: that there is memory for each call, and how a check ends where a read or a write fails. What is
+// found of whole documents stands in the files of cases/check, at the top of the repository.
 
 mod faults;
 mod texts;

@@ -1,5 +1,5 @@
-//! plancheck: the check of a claim on a snapshot, from a document on standard input to a line on standard output. It stands
-//! on nothing that makes plans.
+//! plancheck: the check of a claim on a snapshot, from a document on standard input to a line on standard output. It
+//! stands on nothing that makes plans.
 #![tactic(auto)]
 
 use plan_doc::run_check;

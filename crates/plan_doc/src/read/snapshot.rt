@@ -77,8 +77,8 @@ fn read_parts(alloc: Global, doc: &Doc) -> Result<Parts, JsonFault>
 }
 
 /// The snapshot that the document is, or its first fault. Its members are read in this order, and others aren't looked
-/// at; a list has at most 65,536 elements, a moment is a whole number from 0 to 10^12, and `site`, `target`, the numbers
-/// of telescopes and targets and the places of quotas are 0 to 65,535:
+/// at; a list has at most 65,536 elements, a moment is a whole number from 0 to 10^12, and `site`, `target`, the
+/// numbers of telescopes and targets and the places of quotas are 0 to 65,535:
 ///
 /// - `version`, 0 to 524,288; `len`, 60 to 3,600; `first`, 0 to 4,223,371,680; `slices`, 1 to 1,440.
 /// - `telescopes`: objects with `site` and `usable`, a list of `[from,to]`.
@@ -91,8 +91,8 @@ fn read_parts(alloc: Global, doc: &Doc) -> Result<Parts, JsonFault>
 ///   and, where the group counts towards a quota, its place `quota`.
 /// - `quotas`, none where it isn't there: numbers from 0 to 10^12.
 ///
-/// Fails with [`DocFault::Json`], a member's fault as [`Doc`] has it, the faults of an element naming its list; once all
-/// is read, with [`DocFault::Snapshot`], as [`Snapshot::build`] has it; and for want of memory.
+/// Fails with [`DocFault::Json`], a member's fault as [`Doc`] has it, the faults of an element naming its list; once
+/// all is read, with [`DocFault::Snapshot`], as [`Snapshot::build`] has it; and for want of memory.
 pub fn read_snapshot(alloc: Global, doc: &Doc) -> Result<Snapshot, DocFault>
     ensures value { IfOk result (λ snapshot. snapshot_of (members_of doc.now) ≡ Ok snapshot) }
     ensures fault { IfErr result (λ e. e ≢ NoMemory → snapshot_of (members_of doc.now) ≡ Err e) }

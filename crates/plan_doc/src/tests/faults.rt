@@ -11,8 +11,8 @@ const DOCUMENT: &[u8] =
 
 const REPLY: &[u8] = b"{\"claimed\":1,\"found\":0,\"no\":10,\"reason\":\"BoundDiffers\"}\n";
 
-/// Whether a check of the document ends so, and writes so many bytes of its reply, where each read gives at most 64 bytes
-/// and each write takes at most 16, and these calls fail.
+/// Whether a check of the document ends so, and writes so many bytes of its reply, where each read gives at most 64
+/// bytes and each write takes at most 16, and these calls fail.
 fn ends_so(alloc: Global, fails: (u32, u32), ending: (Status, usize)) -> Result<bool, AllocError> {
     let words = vec![in alloc; String::from_str(alloc, "check")?]?;
     let failing = Vec::from_slice(alloc, &[fails.0])?;

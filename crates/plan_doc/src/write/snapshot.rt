@@ -49,9 +49,9 @@ impl<'a> Json for SnapshotDoc<'a> {
 }
 
 /// The document of a snapshot, as compact text with members in byte order and no newline: all that [`read_snapshot`]
-/// reads, `fade` only where it is above 0, `quota` only where the group names one, and `quotas` only where there are any.
-/// A snapshot whose counts and other numbers are in the ranges of [`read_snapshot`] is read from it again. Fails only for
-/// want of memory.
+/// reads, `fade` only where it is above 0, `quota` only where the group names one, and `quotas` only where there are
+/// any. A snapshot whose counts and other numbers are in the ranges of [`read_snapshot`] is read from it again. Fails
+/// only for want of memory.
 ///
 /// [`read_snapshot`]: crate::read_snapshot
 pub fn write_snapshot(alloc: Global, snapshot: &Snapshot) -> Result<Vec<u8>, AllocError>
