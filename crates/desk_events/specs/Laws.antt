@@ -39,8 +39,8 @@ pub record IsTelling (e : EventEntry) : Type 0 where
   pub exact : IsExactEntry e
   pub group : ShowsGroup e.reply
 
--- All that the text of an entry tells: its caller, line, version and reply. Which part of its line it is stands in the line
--- and the reply: a Take is `taken`, and else a `plan` line's entry is its Publish.
+-- All that the text of an entry tells: its caller, line, version and reply. It doesn't tell which part of its line the entry is:
+-- `published` is the word for a `publish` line and for what a `plan` line publishes.
 abbrev pub told : EventEntry → ℕ × ℕ × ℕ × Reply
 told e = (e.caller, e.line, e.version, e.reply)
 
