@@ -20,7 +20,7 @@ use Rattle.plan_json.specs.Reading.{result_and_then, result_map, read_each}
 use Rattle.plan_json.specs.Span.{span_between, span_of_pair, span_of_elements, span_in, spans_in}
 use Rattle.plan_json.specs.Text.{text_in}
 use Rattle.plan_json.specs.Whole.{number_in}
-use Rattle.plan_json.proofs.Ranges.{Gives, any, weaker, either, if_test, after, made, number_member, text_member, moment_member, list_member, each}
+use Rattle.plan_json.proofs.Ranges.{Gives, any, weaker, either, if_test, after, made, moment_early, number_member, text_member, moment_member, list_member, each}
 use Rattle.request_model.specs.declared.fault.GroupFault.{GroupFault}
 use Rattle.request_model.specs.declared.group.GroupDoc.{GroupDoc}
 use Rattle.request_model.specs.Fault.{in_group}
@@ -55,43 +55,23 @@ read_of_group {r = Err e} h = record { ok = tt }
 
 -- ---- spans
 
-abbrev IsEarly : Sec → Type 0
-IsEarly s = s.0 ≤ last_moment
-
--- an object with that member alone has it
-abbrev IsAlone : Member → Type 0
-IsAlone m = (d : Data) → get_member (name_of m) (member (name_of m) d no_members) ≡ Some d
-
--- what is read of a member is read of its value
-alone : (m : Member) (d : Data) → IsAlone m → Gives (result_and_then (moment_in m) (ok_or (unless_null d) (Missing m))) IsEarly
-alone m d h =
-    subst (λ o. Gives (result_and_then (moment_in m) (ok_or (option_and_then unless_null o) (Missing m))) IsEarly) (h d) (moment_member (member (name_of m) d no_members) m)
-
-early : (m : Member) → IsAlone m → (d : Data) → Gives (moment_in m d) IsEarly
-early m h null = record { ok = tt }
-early m h (boolean b) = record { ok = tt }
-early m h (number n) = alone m (number n) h
-early m h (string s) = alone m (string s) h
-early m h (array ds) = record { ok = tt }
-early m h (object ms) = record { ok = tt }
-
-pair_there : (m : Member) → IsAlone m → (a b : Data) → Gives (span_of_pair m a b) IsWindow
-pair_there m h a b =
-    after (λ f. result_and_then (span_between m f) (moment_in m b)) (early m h a) (λ f _.
-    after (span_between m f) (early m h b) (λ t last.
+pair_there : (m : Member) → (a b : Data) → Gives (span_of_pair m a b) IsWindow
+pair_there m a b =
+    after (λ f. result_and_then (span_between m f) (moment_in m b)) (moment_early m a) (λ f _.
+    after (span_between m f) (moment_early m b) (λ t last.
     if_test IsWindow (nat_lt f.0 t.0) (record { from = f; to = t }) (OutOfRange m) (λ k. record { order = ltb-true f.0 t.0 k; last = last })))
 
-elements_there : (m : Member) → IsAlone m → (ds : List Data) → Gives (span_of_elements m ds) IsWindow
-elements_there m h [] = record { ok = tt }
-elements_there m h (a ∷ []) = record { ok = tt }
-elements_there m h (a ∷ b ∷ []) = pair_there m h a b
-elements_there m h (a ∷ b ∷ c ∷ ds) = record { ok = tt }
+elements_there : (m : Member) → (ds : List Data) → Gives (span_of_elements m ds) IsWindow
+elements_there m [] = record { ok = tt }
+elements_there m (a ∷ []) = record { ok = tt }
+elements_there m (a ∷ b ∷ []) = pair_there m a b
+elements_there m (a ∷ b ∷ c ∷ ds) = record { ok = tt }
 
-span_there : (m : Member) → IsAlone m → (d : Data) → Gives (span_in m d) IsWindow
-span_there m h d = after (span_of_elements m) (any (elements_in m d)) (λ ds _. elements_there m h ds)
+span_there : (m : Member) → (d : Data) → Gives (span_in m d) IsWindow
+span_there m d = after (span_of_elements m) (any (elements_in m d)) (λ ds _. elements_there m ds)
 
 semester_there : (ms : Members) → Gives (member_of span_in ms key.Semester) IsWindow
-semester_there ms = after (span_in key.Semester) (any (ok_or (value_of ms key.Semester) (Missing key.Semester))) (λ d _. span_there key.Semester (λ e. refl) d)
+semester_there ms = after (span_in key.Semester) (any (ok_or (value_of ms key.Semester) (Missing key.Semester))) (λ d _. span_there key.Semester d)
 
 -- a reading of what was read of what was read
 regrouped : {A B C E : Type 0} {P : C → Type 0} (f : B → Result C E) (g : A → Result B E) (r : Result A E)
@@ -103,7 +83,7 @@ spans_found : (ms : Members) → Gives (member_of spans_in ms key.Spans) AreSpan
 spans_found ms =
     regrouped (read_each (span_in key.Spans)) (list_in key.Spans 0 512) (ok_or (value_of ms key.Spans) (Missing key.Spans))
     (after (read_each (span_in key.Spans)) (list_member 0 512 ms key.Spans) (λ ds few.
-    weaker (each IsWindow (span_in key.Spans) (span_there key.Spans (λ e. refl)) ds) (λ ws are. record { count = subst (λ n. n ≤ 512) (sym are.count) few.high; each = are.all })))
+    weaker (each IsWindow (span_in key.Spans) (span_there key.Spans) ds) (λ ws are. record { count = subst (λ n. n ≤ 512) (sym are.count) few.high; each = are.all })))
 
 -- ---- the desk
 

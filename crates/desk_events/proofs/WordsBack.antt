@@ -15,8 +15,8 @@ use Rattle.desk_events.specs.declared.refusal.FullOf.TheVariants as full
 use Rattle.desk_events.specs.declared.reply.GroupRefund.{GroupRefund}
 use Rattle.desk_events.specs.declared.reply.AccountBalance.{AccountBalance}
 use Rattle.desk_events.specs.declared.reply.MemberState.{MemberState}
-use Rattle.desk_events.specs.declared.state.RequestState.{RequestState}
-use Rattle.desk_events.specs.declared.state.RequestState.TheVariants as state
+use Rattle.plan_base.specs.declared.state.RequestState.{RequestState}
+use Rattle.plan_base.specs.declared.state.RequestState.TheVariants as state
 use Rattle.desk_events.specs.Account.{account_named}
 use Rattle.desk_events.specs.Words.{state_word, account_word, full_word}
 use Rattle.desk_events.specs.Replied.{refund_data, balance_data, member_state_data, requests_data, refunds_data}

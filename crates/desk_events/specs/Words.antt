@@ -4,8 +4,8 @@ use Rattle.allocations.specs.declared.key.Account.{Account}
 use Rattle.allocations.specs.declared.key.Account.TheVariants as account
 use Rattle.desk_events.specs.declared.refusal.FullOf.{FullOf}
 use Rattle.desk_events.specs.declared.refusal.FullOf.TheVariants as full
-use Rattle.desk_events.specs.declared.state.RequestState.{RequestState}
-use Rattle.desk_events.specs.declared.state.RequestState.TheVariants as state
+use Rattle.plan_base.specs.declared.state.RequestState.{RequestState}
+use Rattle.plan_base.specs.declared.state.RequestState.TheVariants as state
 
 abbrev pub state_word : RequestState → List ℕ
 state_word state.Pending = codes "PENDING"

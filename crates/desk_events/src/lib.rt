@@ -10,7 +10,6 @@ mod laws;
 mod read;
 mod refusal;
 mod reply;
-mod state;
 #[cfg(test)]
 mod tests;
 mod write;
@@ -22,5 +21,4 @@ pub use laws::{one_entry, one_history};
 pub use read::read_command;
 pub use refusal::{FullOf, Refusal};
 pub use reply::{AccountBalance, GroupRefund, MemberState, Reply};
-pub use state::RequestState;
 pub use write::{entry_text, write_entry};

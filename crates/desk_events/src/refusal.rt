@@ -1,8 +1,7 @@
 // Why a line is refused.
 
-use crate::state::RequestState;
 use allocations::Account;
-use plan_base::{Op, Reason, RequestNo, Sec};
+use plan_base::{Op, Reason, RequestNo, RequestState, Sec};
 use plan_json::Member;
 
 /// What a desk has a most of.

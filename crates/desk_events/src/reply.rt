@@ -1,9 +1,8 @@
 // What the desk replies to a line.
 
 use crate::refusal::Refusal;
-use crate::state::RequestState;
 use allocations::Key;
-use plan_base::{Claim, GroupNo, ListOf, RequestNo, Snapshot, TelescopeNo};
+use plan_base::{Claim, GroupNo, ListOf, RequestNo, RequestState, Snapshot, TelescopeNo};
 use request_model::GroupDoc;
 
 /// What a group's ipp account gets back, written as `[group,seconds]`.

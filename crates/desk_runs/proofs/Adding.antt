@@ -1,31 +1,31 @@
 -- A new group, or a publication, leaves a sound state.
-use Rattle.std.proofs.Common.{◌≡◌, ◌≢◌, ℕ, zero, suc, ◌+◌, ◌-◌, ◌<◌, ◌≤◌, ◌==◌, nat_le, Bool, true, false, cond, not, ◌&&◌, ◌||◌, List, [], ◌∷◌, ◌++◌, length, map, filter, All, get_or, replicate, refl, sym, ◌∙◌, ap, subst, arith, inl, inr, ◌⊎◌}
-use Rattle.std.specs.List.{list_any, count_by, flat_map}
-use Rattle.std.proofs.lemmas.Bool.{leb-true, cases_lt, or_left, or_cases, and_left, and_parts, eqb-true, false_from_ne_true}
+use Rattle.std.proofs.Common.{◌≡◌, ◌≢◌, ℕ, zero, suc, ◌+◌, ◌-◌, ◌<◌, ◌≤◌, nat_le, Bool, true, false, ◌&&◌, ◌||◌, List, [], ◌∷◌, ◌++◌, length, map, filter, All, get_or, replicate, refl, sym, ◌∙◌, ap, subst, arith, inl, inr, ◌⊎◌}
+use Rattle.std.specs.List.{list_any}
+use Rattle.std.proofs.lemmas.Bool.{leb-true, cases_lt, or_left, and_left, false_from_ne_true}
 use Rattle.std.proofs.lemmas.List.{append-nil, append_assoc, length-append, length-map, map-append, get_or-map, get_or_append_left, get_or-append_right}
 use Rattle.std.proofs.lemmas.List.Concat.{flat_map-append}
-use Rattle.std.proofs.lemmas.List.Elements.{All-append, All-weaker, All-cons, All-nil, filter-append}
+use Rattle.std.proofs.lemmas.List.Elements.{All-append, All-cons, All-nil, filter-append}
 use Rattle.std.proofs.lemmas.List.Folds.{list_any_none, list_any-append}
 use Rattle.std.proofs.lemmas.List.Sums.{length-filter}
-use Rattle.plan_base.specs.declared.number.GroupNo.{GroupNo}
 use Rattle.plan_base.specs.declared.number.RequestNo.{RequestNo}
 use Rattle.plan_base.specs.declared.number.Sec.{Sec}
 use Rattle.plan_base.specs.declared.parts.Op.{Op}
-use Rattle.desk_runs.specs.declared.state.RunState.TheVariants.{WindowExpired}
+use Rattle.plan_base.specs.declared.state.RequestState.TheVariants.{WindowExpired}
 use Rattle.desk_runs.specs.declared.group.Ask.{Ask}
 use Rattle.desk_runs.specs.declared.group.Group.{Group}
 use Rattle.desk_runs.specs.declared.group.Request.{Request}
 use Rattle.desk_runs.specs.declared.observation.Observation.{Observation}
-use Rattle.desk_runs.specs.States.{is_pending, is_window_expired, is_and, is_oneof, is_open, any_in}
-use Rattle.desk_runs.specs.Numbers.{requests_of, is_request, has_request, is_pending_at, is_placed}
+use Rattle.plan_base.specs.States.{is_pending, is_window_expired}
+use Rattle.desk_runs.specs.States.{is_and, is_oneof, is_open}
+use Rattle.desk_runs.specs.Numbers.{requests_of, is_request, has_request, is_pending_at}
 use Rattle.desk_runs.specs.Progress.{Progress}
-use Rattle.desk_runs.specs.Clock.{is_waiting, is_past, is_lost, with_past, with_lost}
+use Rattle.desk_runs.specs.Clock.{is_past, with_past, with_lost}
 use Rattle.desk_runs.specs.Adding.{requests_from, next_group, with_group, with_kept, CanPublish}
 use Rattle.desk_runs.specs.Owners.{owners_from}
-use Rattle.desk_runs.specs.Sound.{IsCounted, IsNumbered, IsSound, IsOneOfOnce, AllPending, placed_in}
-use Rattle.desk_runs.proofs.Lists.{filter_none, all_of}
+use Rattle.desk_runs.specs.Sound.{IsCounted, IsNumbered, IsSound, AllPending, placed_in}
+use Rattle.desk_runs.proofs.Lists.{filter_none}
 use Rattle.desk_runs.proofs.Settling.{change_none, lost_not, Facts, facts_of, settled_by}
-use Rattle.desk_runs.proofs.Places.{IsCountedFrom, counted_from, differs}
+use Rattle.desk_runs.proofs.Places.{IsCountedFrom, differs}
 use Rattle.desk_runs.proofs.Moves.{pending_flat}
 
 -- ---- publications
@@ -110,7 +110,8 @@ new_lost op asks s =
 
 -- ---- none of its requests is observed
 
-pending_low : (gs : List Group) (number : RequestNo) → IsNumbered gs → is_pending_at gs number ≡ true → number.0 ≤ length (requests_of gs)
+-- a pending request has a number of one that is there
+pub pending_low : (gs : List Group) (number : RequestNo) → IsNumbered gs → is_pending_at gs number ≡ true → number.0 ≤ length (requests_of gs)
 pending_low gs number h e = by (cases_lt (length (requests_of gs)) number.0)
   where
     by : (length (requests_of gs) < number.0) ⊎ (number.0 ≤ length (requests_of gs)) → number.0 ≤ length (requests_of gs)
@@ -123,7 +124,8 @@ pending_low gs number h e = by (cases_lt (length (requests_of gs)) number.0)
         and_left (is_request number (get_or (requests_of gs) k d)) _ (differs (get_or (requests_of gs) k d).number.0 number.0 (λ same. absurd (omega arith)))) in
         let bad : false ≡ true = sym none ∙ e in cc
 
-new_free : (b : ℕ) (asks : List Ask) (number : RequestNo) → number.0 ≤ b → list_any (is_request number) (requests_from (b + 1) asks) ≡ false
+-- a new group has none of the requests before it
+pub new_free : (b : ℕ) (asks : List Ask) (number : RequestNo) → number.0 ≤ b → list_any (is_request number) (requests_from (b + 1) asks) ≡ false
 new_free b [] number low = refl
 new_free b (ask ∷ asks) number low =
     let ne : b + 1 ≢ number.0 = λ same. absurd (omega arith) in

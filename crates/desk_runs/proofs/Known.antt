@@ -1,6 +1,5 @@
 -- A running request is one of a group that is there.
-use Rattle.std.proofs.Common.{◌≡◌, ℕ, suc, ◌<◌, ◌==◌, Bool, true, false, ◌||◌, List, [], ◌∷◌, length, get_or, refl, sym, ◌∙◌, ap, arith, inl, inr, ◌⊎◌, Option, Some, None}
-use Rattle.std.specs.List.{list_any}
+use Rattle.std.proofs.Common.{◌≡◌, ℕ, suc, ◌==◌, true, false, List, [], ◌∷◌, sym, ◌∙◌, ap, arith, inl, inr, Some, None}
 use Rattle.std.proofs.lemmas.Bool.{or_cases, cases_Bool, eqb-true, cond-true, cond-false}
 use Rattle.plan_base.specs.declared.number.RequestNo.{RequestNo}
 use Rattle.desk_runs.specs.declared.group.Group.{Group}

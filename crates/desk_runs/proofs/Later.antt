@@ -1,17 +1,18 @@
 -- Groups that go on: their numbers stay, and so do those of their requests.
-use Rattle.std.proofs.Common.{◌≡◌, ℕ, ◌+◌, ◌<◌, ◌≤◌, ◌==◌, Bool, true, false, cond, ◌&&◌, ◌||◌, List, [], ◌∷◌, ◌++◌, length, map, filter, All, get_or, refl, sym, ◌∙◌, ap, subst, arith}
-use Rattle.std.specs.List.{AllZip, list_any, count_by, flat_map}
-use Rattle.std.proofs.lemmas.List.{map-append, length-map}
+use Rattle.std.proofs.Common.{◌≡◌, ℕ, ◌+◌, ◌≤◌, ◌==◌, Bool, true, false, cond, ◌||◌, List, [], ◌∷◌, ◌++◌, length, map, refl, sym, ◌∙◌, ap, subst, arith}
+use Rattle.std.specs.List.{AllZip, list_any, count_by}
+use Rattle.std.proofs.lemmas.List.{map-append}
 use Rattle.std.proofs.lemmas.List.Elements.{All-cons, All-head, All-tail, All-nil, filter_agree}
 use Rattle.std.proofs.lemmas.List.Sums.{length-filter}
 use Rattle.plan_base.specs.declared.number.RequestNo.{RequestNo}
 use Rattle.plan_base.specs.declared.number.Sec.{Sec}
-use Rattle.desk_runs.specs.declared.state.RunState.{RunState}
-use Rattle.desk_runs.specs.declared.state.RunState.TheVariants.{WindowExpired, Completed, Canceled}
+use Rattle.plan_base.specs.declared.state.RequestState.{RequestState}
+use Rattle.plan_base.specs.declared.state.RequestState.TheVariants.{WindowExpired, Completed, Canceled}
 use Rattle.desk_runs.specs.declared.group.Group.{Group}
 use Rattle.desk_runs.specs.declared.group.Request.{Request}
 use Rattle.desk_runs.specs.declared.observation.Observation.{Observation}
-use Rattle.desk_runs.specs.States.{is_pending, is_oneof}
+use Rattle.plan_base.specs.States.{is_pending}
+use Rattle.desk_runs.specs.States.{is_oneof}
 use Rattle.desk_runs.specs.Numbers.{requests_of, is_request, has_request}
 use Rattle.desk_runs.specs.Clock.{is_waiting, is_past, with_state, change_requests, with_past, is_lost, with_lost}
 use Rattle.desk_runs.specs.Turning.{turned}
@@ -22,15 +23,15 @@ use Rattle.desk_runs.proofs.Lists.{of_choice}
 
 -- ---- later
 
-later_choice : (b : Bool) (state : RunState) (q : Request) → is_pending state ≡ false → IsLaterRequest q (cond b (with_state state q) q)
+later_choice : (b : Bool) (state : RequestState) (q : Request) → is_pending state ≡ false → IsLaterRequest q (cond b (with_state state q) q)
 later_choice true state q e = record { number = refl; seconds = refl; last = refl; pending = λ p. let bad : false ≡ true = sym e ∙ p in cc }
 later_choice false state q e = record { number = refl; seconds = refl; last = refl; pending = λ p. refl }
 
-later_requests : (test : Request → Bool) (state : RunState) (qs : List Request) → is_pending state ≡ false → AllZip IsLaterRequest qs (map (λ q. cond (test q) (with_state state q) q) qs)
+later_requests : (test : Request → Bool) (state : RequestState) (qs : List Request) → is_pending state ≡ false → AllZip IsLaterRequest qs (map (λ q. cond (test q) (with_state state q) q) qs)
 later_requests test state [] e = tt
 later_requests test state (q ∷ qs) e = (later_choice (test q) state q e, later_requests test state qs e)
 
-pub later_change : (test : Request → Bool) (state : RunState) (g : Group) → is_pending state ≡ false → IsLater g (change_requests test state g)
+pub later_change : (test : Request → Bool) (state : RequestState) (g : Group) → is_pending state ≡ false → IsLater g (change_requests test state g)
 later_change test state g e = record { number = refl; op = refl; requests = later_requests test state g.requests e }
 
 later_same : (qs : List Request) → AllZip IsLaterRequest qs qs
@@ -59,6 +60,19 @@ later_lists (x ∷ xs) (y ∷ ys) (z ∷ zs) h k = (later_twice x y z h.0 k.0, l
 pub later_then : (g h i : Group) → IsLater g h → IsLater h i → IsLater g i
 later_then g h i a b = record { number = b.number ∙ a.number; op = b.op ∙ a.op; requests = later_lists g.requests h.requests i.requests a.requests b.requests }
 
+-- lists of groups, each the same or later
+pub later_selves : (gs : List Group) → AllZip IsLater gs gs
+later_selves [] = tt
+later_selves (g ∷ gs) = (later_self g, later_selves gs)
+
+pub later_groups : (gs hs is : List Group) → AllZip IsLater gs hs → AllZip IsLater hs is → AllZip IsLater gs is
+later_groups [] [] [] h k = tt
+later_groups [] [] (i ∷ is) h k = absurd k
+later_groups [] (y ∷ ys) is h k = absurd h
+later_groups (x ∷ xs) [] is h k = absurd h
+later_groups (x ∷ xs) (y ∷ ys) [] h k = absurd k
+later_groups (x ∷ xs) (y ∷ ys) (i ∷ is) h k = (later_then x y i h.0 k.0, later_groups xs ys is h.1 k.1)
+
 pub later_turned : (running : List Observation) (now : Sec) (g : Group) → IsLater g (turned running now g)
 later_turned running now g =
     let past : Group = with_past running now g in
@@ -78,6 +92,19 @@ later_completed number g =
 pub later_map : (f : Group → Group) → ((g : Group) → IsLater g (f g)) → (gs : List Group) → AllZip IsLater gs (map f gs)
 later_map f h [] = tt
 later_map f h (g ∷ gs) = (h g, later_map f h gs)
+
+-- the requests of later groups are later
+pub later_flat : (gs hs : List Group) → AllZip IsLater gs hs → AllZip IsLaterRequest (requests_of gs) (requests_of hs)
+later_flat [] [] z = tt
+later_flat [] (h ∷ hs) z = absurd z
+later_flat (g ∷ gs) [] z = absurd z
+later_flat (g ∷ gs) (h ∷ hs) z = zip_join g.requests h.requests (requests_of gs) (requests_of hs) z.0.requests (later_flat gs hs z.1)
+  where
+    zip_join : (us vs xs ys : List Request) → AllZip IsLaterRequest us vs → AllZip IsLaterRequest xs ys → AllZip IsLaterRequest (us ++ xs) (vs ++ ys)
+    zip_join [] [] xs ys h k = k
+    zip_join [] (b ∷ vs) xs ys h k = absurd h
+    zip_join (a ∷ us) [] xs ys h k = absurd h
+    zip_join (a ∷ us) (b ∷ vs) xs ys h k = (h.0, zip_join us vs xs ys h.1 k)
 
 -- ---- numbers stay
 

@@ -3,7 +3,9 @@ pub mod Settling
 pub mod Later
 pub mod Sounds
 pub mod Places
+pub mod Counts
 pub mod Turns
+pub mod Told
 pub mod Moves
 pub mod Opened
 pub mod Single
@@ -12,3 +14,6 @@ pub mod Reporting
 pub mod ReportChange
 pub mod Known
 pub mod Adding
+pub mod Forgetting
+pub mod GoingOn
+pub mod Commuting

@@ -1,32 +1,33 @@
 -- What is told of a moment, and that the change that is looked for is what it does.
-use Rattle.std.proofs.Common.{◌≡◌, ◌≢◌, ℕ, suc, ◌+◌, ◌-◌, ◌<◌, ◌≤◌, ◌==◌, Bool, true, false, cond, not, ◌&&◌, ◌||◌, List, [], ◌∷◌, ◌++◌, length, map, filter, All, get_or, refl, sym, ◌∙◌, ap, subst, arith, inl, inr, ◌⊎◌}
+use Rattle.std.proofs.Common.{◌≡◌, ◌≢◌, ℕ, suc, ◌+◌, ◌≤◌, ◌==◌, Bool, true, false, cond, not, ◌&&◌, ◌||◌, List, [], ◌∷◌, ◌++◌, length, map, filter, All, get_or, refl, sym, ◌∙◌, ap, subst, arith, inl, inr}
 use Rattle.std.specs.List.{AllZip, list_any, flat_map, fold}
-use Rattle.std.proofs.lemmas.Bool.{and_parts, and_right, and_left, or_cases, or_parts, eqb-true, eq-eqb, true_from_ne_false, cases_eq}
-use Rattle.std.proofs.lemmas.List.{append-nil, append_assoc, length-map}
-use Rattle.std.proofs.lemmas.List.Elements.{All-map, All-weaker, All-filter, length_all_zip}
+use Rattle.std.proofs.lemmas.Bool.{and_parts, and_right, and_left, or_cases, eq-eqb, true_from_ne_false, cases_eq}
+use Rattle.std.proofs.lemmas.List.Elements.{All-weaker, All-filter, length_all_zip}
 use Rattle.std.proofs.lemmas.List.Folds.{list_any_none, list_any-append}
 use Rattle.plan_base.proofs.Lists.{filter_within}
 use Rattle.plan_base.specs.declared.number.RequestNo.{RequestNo}
 use Rattle.plan_base.specs.declared.number.Sec.{Sec}
-use Rattle.desk_runs.specs.declared.state.RunState.{RunState}
+use Rattle.plan_base.specs.declared.state.RequestState.{RequestState}
 use Rattle.desk_runs.specs.declared.group.Group.{Group}
 use Rattle.desk_runs.specs.declared.group.Request.{Request}
 use Rattle.desk_runs.specs.declared.observation.Observation.{Observation}
-use Rattle.desk_runs.specs.States.{is_pending, is_over, is_open}
+use Rattle.plan_base.specs.States.{is_pending, is_over}
+use Rattle.desk_runs.specs.States.{is_open}
 use Rattle.desk_runs.specs.Numbers.{requests_of, is_request, is_pending_at, is_placed}
 use Rattle.desk_runs.specs.Progress.{Progress}
 use Rattle.plan_base.specs.declared.number.GroupNo.{GroupNo}
-use Rattle.desk_runs.specs.Clock.{has_begun, has_ended, stopped, started, is_waiting, is_past, is_lost, became, became_in, settle, at_moment}
-use Rattle.desk_runs.specs.Turning.{turned, is_touched, group_of, groups_of}
+use Rattle.desk_runs.specs.Clock.{has_begun, is_waiting, is_past, is_lost, became, became_in, settle, at_moment}
+use Rattle.desk_runs.specs.Turning.{turned, is_touched, groups_of}
 use Rattle.desk_runs.specs.declared.change.Change.{Change}
 use Rattle.desk_runs.specs.Changes.{put, changed}
-use Rattle.desk_runs.specs.Sound.{IsSound, IsNumbered, IsLaterRequest, IsLater, CanChange}
+use Rattle.desk_runs.specs.Sound.{IsSound, IsNumbered, IsLaterRequest, IsLater, AreTold, CanChange}
 use Rattle.desk_runs.proofs.Lists.{of_choice}
 use Rattle.desk_runs.proofs.Settling.{facts_of}
-use Rattle.desk_runs.proofs.Later.{later_turned, later_map}
+use Rattle.desk_runs.proofs.Later.{later_turned, later_map, later_flat}
 use Rattle.desk_runs.proofs.Sounds.{groups_after, settle_sound, ready_at}
 use Rattle.desk_runs.proofs.Places.{IsCountedFrom, counted_from, counted_head, counted_tail, opened_groups, put_all, differs}
 use Rattle.desk_runs.proofs.Turns.{any_false, untouched}
+use Rattle.desk_runs.proofs.Told.{told_of}
 
 -- ---- what became of requests, group by group
 
@@ -34,7 +35,7 @@ join_choice : (b : Bool) (n : RequestNo) (u v w : List RequestNo) → u ≡ v ++
 join_choice true n u v w e = ap (λ (l : List RequestNo). n ∷ l) e
 join_choice false n u v w e = e
 
-became_append : (test : RunState → Bool) (us vs xs ys : List Request) → length us ≡ length vs → became test (us ++ xs) (vs ++ ys) ≡ became test us vs ++ became test xs ys
+became_append : (test : RequestState → Bool) (us vs xs ys : List Request) → length us ≡ length vs → became test (us ++ xs) (vs ++ ys) ≡ became test us vs ++ became test xs ys
 became_append test [] [] xs ys e = refl
 became_append test [] (b ∷ vs) xs ys e = absurd (omega arith)
 became_append test (a ∷ us) [] xs ys e = absurd (omega arith)
@@ -42,7 +43,7 @@ became_append test (a ∷ us) (b ∷ vs) xs ys e =
     join_choice (is_pending a.state && test b.state) b.number (became test (us ++ xs) (vs ++ ys)) (became test us vs) (became test xs ys) (became_append test us vs xs ys (omega arith))
 
 -- what became of all requests is what became of those of each group
-pub became_groups : (test : RunState → Bool) (f : Group → Group) → ((g : Group) → IsLater g (f g)) → (gs : List Group) → became_in test gs (map f gs) ≡ flat_map (λ g. became test g.requests (f g).requests) gs
+pub became_groups : (test : RequestState → Bool) (f : Group → Group) → ((g : Group) → IsLater g (f g)) → (gs : List Group) → became_in test gs (map f gs) ≡ flat_map (λ g. became test g.requests (f g).requests) gs
 became_groups test f h [] = refl
 became_groups test f h (g ∷ gs) =
     became_append test g.requests (f g).requests (requests_of gs) (requests_of (map f gs)) (length_all_zip IsLaterRequest g.requests (f g).requests (h g).requests)
@@ -57,7 +58,7 @@ pub gathered_by : (p : Group → Bool) (h : Group → List RequestNo) → ((g : 
 gathered_by p h none [] = refl
 gathered_by p h none (g ∷ gs) = keep_or_skip (p g) g (filter p gs) h (flat_map h gs) (none g) (gathered_by p h none gs)
 
-became_stuck : (test : RunState → Bool) (xs ys : List Request) → All (λ q. is_pending q.state ≡ false) xs → became test xs ys ≡ []
+became_stuck : (test : RequestState → Bool) (xs ys : List Request) → All (λ q. is_pending q.state ≡ false) xs → became test xs ys ≡ []
 became_stuck test [] ys h = refl
 became_stuck test (x ∷ xs) [] h = refl
 became_stuck test (x ∷ xs) (y ∷ ys) h =
@@ -65,7 +66,7 @@ became_stuck test (x ∷ xs) (y ∷ ys) h =
     ap (λ (b : Bool). cond b (y.number ∷ became test xs ys) (became test xs ys)) off ∙ became_stuck test xs ys (λ k d l. h (suc k) d (omega arith))
 
 -- nothing becomes of the requests of a closed group
-pub became_closed : (test : RunState → Bool) (g h : Group) → is_open g ≡ false → became test g.requests h.requests ≡ []
+pub became_closed : (test : RequestState → Bool) (g h : Group) → is_open g ≡ false → became test g.requests h.requests ≡ []
 became_closed test g h e = became_stuck test g.requests h.requests (any_false (λ q. is_pending q.state) g.requests e)
 
 -- a closed group isn't touched
@@ -100,7 +101,7 @@ number_beyond b number (x ∷ xs) h e test =
     ∙ number_beyond (b + 1) number xs (counted_tail b x.number.0 (map (λ q. q.number.0) xs) h) (omega arith) test
 
 -- nor is it among those that became something
-became_beyond : (b : ℕ) (number : RequestNo) (test : RunState → Bool) (xs ys : List Request) → IsCountedFrom b (map (λ q. q.number.0) xs) → AllZip IsLaterRequest xs ys → number.0 ≤ b → is_among number (became test xs ys) ≡ false
+became_beyond : (b : ℕ) (number : RequestNo) (test : RequestState → Bool) (xs ys : List Request) → IsCountedFrom b (map (λ q. q.number.0) xs) → AllZip IsLaterRequest xs ys → number.0 ≤ b → is_among number (became test xs ys) ≡ false
 became_beyond b number test [] ys h z e = refl
 became_beyond b number test (x ∷ xs) [] h z e = absurd z
 became_beyond b number test (x ∷ xs) (y ∷ ys) h z e =
@@ -173,19 +174,7 @@ pending_flat number [] = refl
 pending_flat number (g ∷ gs) =
     ap (λ (v : Bool). pending_in number g.requests || v) (pending_flat number gs) ∙ sym (list_any-append (λ q. is_request number q && is_pending q.state) g.requests (requests_of gs))
 
-later_flat : (gs hs : List Group) → AllZip IsLater gs hs → AllZip IsLaterRequest (requests_of gs) (requests_of hs)
-later_flat [] [] z = tt
-later_flat [] (h ∷ hs) z = absurd z
-later_flat (g ∷ gs) [] z = absurd z
-later_flat (g ∷ gs) (h ∷ hs) z = zip_join g.requests h.requests (requests_of gs) (requests_of hs) z.0.requests (later_flat gs hs z.1)
-  where
-    zip_join : (us vs xs ys : List Request) → AllZip IsLaterRequest us vs → AllZip IsLaterRequest xs ys → AllZip IsLaterRequest (us ++ xs) (vs ++ ys)
-    zip_join [] [] xs ys h k = k
-    zip_join [] (b ∷ vs) xs ys h k = absurd h
-    zip_join (a ∷ us) [] xs ys h k = absurd h
-    zip_join (a ∷ us) (b ∷ vs) xs ys h k = (h.0, zip_join us vs xs ys h.1 k)
-
-filter_same : (p q : Observation → Bool) (os : List Observation) → All (λ o. p o ≡ q o) os → filter p os ≡ filter q os
+pub filter_same : (p q : Observation → Bool) (os : List Observation) → All (λ o. p o ≡ q o) os → filter p os ≡ filter q os
 filter_same p q [] h = refl
 filter_same p q (o ∷ os) h =
     ap (λ (v : Bool). cond v (o ∷ filter p os) (filter p os)) (h 0 o (omega arith))
@@ -235,7 +224,8 @@ over_found s n =
     ap (flat_map gives) (opened_groups s.groups n.groups) ∙ gathered_by is_open gives (λ g e. became_closed is_over g (turned running s.moment g) e) s.groups
     ∙ sym (became_groups is_over (turned running s.moment) (later_turned running s.moment) s.groups) ∙ ap (became_in is_over s.groups) (sym (groups_after s))
 
-later_after : (s : Progress) → AllZip IsLater s.groups (settle s).groups
+-- groups only go on
+pub later_after : (s : Progress) → AllZip IsLater s.groups (settle s).groups
 later_after s = subst (AllZip IsLater s.groups) (sym (groups_after s)) (later_map (turned (settle s).running s.moment) (later_turned (settle s).running s.moment) s.groups)
 
 -- a change of this moment, these groups and these observations
@@ -264,10 +254,15 @@ pub told_over : (s : Progress) (now : Sec) (running : List Observation) (over : 
 told_over s now running over sound r o = o ∙ ap (λ (l : List Observation). found_over l now s.groups) r ∙ over_found (at_moment now s) sound.numbered
 
 -- and it can be made
-pub can_move : (s : Progress) (now : Sec) (c : Change) → IsSound s → changed s c ≡ settle (at_moment now s) → CanChange s c
-can_move s now c sound e =
+pub can_move : (s : Progress) (now : Sec) (c : Change) → IsSound s → changed s c ≡ settle (at_moment now s) → c.groups ≡ found_groups (settle (at_moment now s)).running now s.groups → CanChange s c
+can_move s now c sound e g =
     let t : Progress = at_moment now s in
+    let running : List Observation = (settle t).running in
     record {
       later = subst (λ (p : Progress). AllZip IsLater s.groups p.groups) (sym e) (later_after t);
+      told =
+          subst (λ (p : Progress). AreTold s.groups c.groups p.groups) (sym e)
+          (told_of (is_touched running now) (turned running now) s.groups c.groups (settle t).groups sound.numbered (λ x. (later_turned running now x).number) (untouched running now)
+          (g ∙ found_touched running now s.groups sound.numbered) (groups_after t));
       sound = subst IsSound (sym e) (settle_sound t (ready_at s now sound));
     }

@@ -1,5 +1,5 @@
 -- The open groups, once groups have gone on.
-use Rattle.std.proofs.Common.{◌≡◌, ℕ, ◌+◌, ◌<◌, ◌≤◌, ◌||◌, ◌&&◌, nat_lt, Bool, true, false, cond, List, [], ◌∷◌, length, map, filter, All, get_or, refl, sym, ◌∙◌, ap, subst, arith, inl, inr, ◌⊎◌}
+use Rattle.std.proofs.Common.{◌≡◌, ◌+◌, ◌<◌, ◌≤◌, ◌&&◌, Bool, true, false, cond, List, [], ◌∷◌, length, map, filter, All, get_or, refl, sym, ◌∙◌, ap, arith, inl, inr}
 use Rattle.std.specs.List.{AllZip, list_any}
 use Rattle.std.proofs.lemmas.Bool.{or_cases, or_left, or_right, lt-ltb}
 use Rattle.std.proofs.lemmas.List.{length-map}
@@ -7,7 +7,8 @@ use Rattle.std.proofs.lemmas.List.Elements.{All-head, All-tail, All-map, All-fil
 use Rattle.plan_base.specs.declared.number.GroupNo.{GroupNo}
 use Rattle.desk_runs.specs.declared.group.Group.{Group}
 use Rattle.desk_runs.specs.declared.group.Request.{Request}
-use Rattle.desk_runs.specs.States.{is_pending, is_open}
+use Rattle.plan_base.specs.States.{is_pending}
+use Rattle.desk_runs.specs.States.{is_open}
 use Rattle.desk_runs.specs.Numbers.{requests_of}
 use Rattle.desk_runs.specs.Turning.{is_open_at, group_of}
 use Rattle.desk_runs.specs.Sound.{IsCounted, IsNumbered, IsLaterRequest, IsLater}

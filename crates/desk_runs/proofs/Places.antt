@@ -1,20 +1,20 @@
 -- Groups and requests at the places of their numbers.
-use Rattle.std.proofs.Common.{◌≡◌, ◌≢◌, ℕ, zero, suc, ◌+◌, ◌-◌, ◌<◌, ◌≤◌, ◌==◌, Bool, true, false, cond, List, [], ◌∷◌, ◌++◌, length, map, filter, All, get_or, set, take, drop, refl, sym, ◌∙◌, ap, subst, arith, inl, inr, ◌⊎◌, Option, Some, None}
-use Rattle.std.specs.List.{slice_get, find, list_any, fold}
-use Rattle.std.proofs.lemmas.Bool.{cases_lt, eqb-true, eq-eqb, cond-true, cond-false, false_from_ne_true}
-use Rattle.std.proofs.lemmas.List.{append-nil, append_assoc, length-map, length_push, get_or-map, get_or_default, get_or_append_left, get_or-append_right, get_or-append-add, map-append, set_at, length-append}
+use Rattle.std.proofs.Common.{◌≡◌, ◌≢◌, ℕ, zero, suc, ◌+◌, ◌-◌, ◌<◌, ◌≤◌, ◌==◌, Bool, true, false, cond, List, [], ◌∷◌, ◌++◌, length, map, filter, All, get_or, refl, sym, ◌∙◌, ap, subst, arith, inl, inr, Option, Some, None}
+use Rattle.std.specs.List.{slice_get, list_any, fold}
+use Rattle.std.proofs.lemmas.Bool.{cases_lt, eqb-true, eq-eqb, false_from_ne_true}
+use Rattle.std.proofs.lemmas.List.{append_assoc, length-map, length_push, get_or-map, get_or_default, get_or_append_left, get_or-append_right, get_or-append-add, map-append, set_at, length-append}
 use Rattle.std.proofs.lemmas.List.Elements.{All-filter}
 use Rattle.std.proofs.lemmas.List.Folds.{map_fixed, list_any_at, list_any_none}
 use Rattle.plan_base.specs.declared.number.GroupNo.{GroupNo}
 use Rattle.plan_base.specs.declared.number.RequestNo.{RequestNo}
 use Rattle.desk_runs.specs.declared.group.Group.{Group}
 use Rattle.desk_runs.specs.declared.group.Request.{Request}
-use Rattle.desk_runs.specs.declared.state.RunState.TheVariants.{Pending}
+use Rattle.plan_base.specs.declared.state.RequestState.TheVariants.{Pending}
 use Rattle.desk_runs.specs.States.{is_open}
-use Rattle.desk_runs.specs.Numbers.{requests_of, is_group, is_request, has_request, group_at, group_with}
+use Rattle.desk_runs.specs.Numbers.{requests_of, is_request, has_request, group_at, group_with}
 use Rattle.desk_runs.specs.Turning.{no_group, group_of, groups_of}
 use Rattle.desk_runs.specs.Changes.{put}
-use Rattle.desk_runs.specs.Sound.{IsCounted, IsNumbered}
+use Rattle.desk_runs.specs.Sound.{IsCounted}
 use Rattle.desk_runs.specs.Owners.{owners_from}
 
 -- the numbers go on from b

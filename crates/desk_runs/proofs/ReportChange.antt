@@ -1,33 +1,33 @@
 -- The change that is found for a report is what it does.
-use Rattle.std.proofs.Common.{◌≡◌, ◌≢◌, ℕ, ◌+◌, ◌<◌, ◌≤◌, ◌==◌, nat_le, Bool, true, false, cond, not, ◌&&◌, ◌||◌, List, [], ◌∷◌, ◌++◌, length, map, filter, All, get_or, refl, sym, ◌∙◌, ap, subst, arith, inl, inr, ◌⊎◌, Option, Some, None}
+use Rattle.std.proofs.Common.{◌≡◌, ℕ, ◌+◌, ◌<◌, ◌≤◌, ◌==◌, nat_le, Bool, true, false, cond, not, ◌&&◌, ◌||◌, List, [], ◌∷◌, ◌++◌, length, map, filter, All, get_or, refl, sym, ◌∙◌, ap, subst, arith, inl, inr, ◌⊎◌, Some}
 use Rattle.std.specs.List.{AllZip, list_any, flat_map, fold}
-use Rattle.std.proofs.lemmas.Bool.{cases_Bool, cond-true, cond-false, eqb-true, eq-eqb, false_from_ne_true, or_parts}
-use Rattle.std.proofs.lemmas.List.{append-nil, append_assoc, length-map, map-append, get_or-map}
+use Rattle.std.proofs.lemmas.Bool.{eqb-true, eq-eqb, false_from_ne_true, or_parts}
+use Rattle.std.proofs.lemmas.List.{append-nil, length-map, get_or-map}
 use Rattle.std.proofs.lemmas.List.Elements.{All-nil, All-cons, All-head, All-tail, All-weaker, All-filter}
 use Rattle.std.proofs.lemmas.List.Folds.{list_any_none}
 use Rattle.plan_base.specs.declared.number.RequestNo.{RequestNo}
 use Rattle.plan_base.specs.declared.number.Sec.{Sec}
-use Rattle.desk_runs.specs.declared.state.RunState.{RunState}
-use Rattle.desk_runs.specs.declared.state.RunState.TheVariants.{Pending, Completed, WindowExpired, Canceled}
+use Rattle.plan_base.specs.declared.state.RequestState.{RequestState}
+use Rattle.plan_base.specs.declared.state.RequestState.TheVariants.{Pending, Completed, WindowExpired, Canceled}
 use Rattle.desk_runs.specs.declared.change.Change.{Change}
 use Rattle.desk_runs.specs.declared.group.Group.{Group}
 use Rattle.desk_runs.specs.declared.group.Request.{Request}
 use Rattle.desk_runs.specs.declared.observation.Observation.{Observation}
-use Rattle.desk_runs.specs.States.{is_pending, is_over, is_in}
+use Rattle.plan_base.specs.States.{is_pending, is_over, is_in}
 use Rattle.desk_runs.specs.Numbers.{requests_of, is_request, has_request, group_with, is_pending_at, is_placed}
 use Rattle.desk_runs.specs.Progress.{Progress}
-use Rattle.desk_runs.specs.Clock.{has_begun, has_ended, beginning, is_waiting, is_past, with_state, change_requests, with_past, is_lost, with_lost, became, became_in, settle}
+use Rattle.desk_runs.specs.Clock.{has_begun, has_ended, is_waiting, is_past, with_state, change_requests, with_past, is_lost, with_lost, became, became_in, settle}
 use Rattle.desk_runs.specs.Turning.{turned}
 use Rattle.desk_runs.specs.Reports.{completed, without_running, with_completed, reported}
 use Rattle.desk_runs.specs.Changes.{put, changed}
-use Rattle.desk_runs.specs.Sound.{IsSound, IsNumbered, IsLater, CanChange}
+use Rattle.desk_runs.specs.Sound.{IsSound, IsLater, AreTold, CanChange}
 use Rattle.desk_runs.proofs.Lists.{filter_all, filter_none, passes_opposite}
 use Rattle.desk_runs.proofs.Settling.{Facts, facts_of}
 use Rattle.desk_runs.proofs.Later.{later_self, later_then, later_completed, later_turned}
 use Rattle.desk_runs.proofs.Sounds.{groups_after}
-use Rattle.desk_runs.proofs.Places.{IsCountedFrom, counted_from, counted_front, counted_back, front_of, back_of, differs}
+use Rattle.desk_runs.proofs.Places.{IsCountedFrom, counted_from, front_of, back_of, differs}
 use Rattle.desk_runs.proofs.Moves.{is_among, became_groups, gathered_by}
-use Rattle.desk_runs.proofs.Single.{change_where, pick_step, picked_passes, choose, later_where, all_later, put_one, drop_one}
+use Rattle.desk_runs.proofs.Single.{change_where, pick_step, picked_passes, choose, later_where, all_later, put_one, told_one, drop_one}
 use Rattle.desk_runs.proofs.Reporting.{others, reported_sound}
 
 -- ---- the group of the request is picked
@@ -186,7 +186,8 @@ moment_first : (number : RequestNo) (completes : Bool) (s : Progress) → (repor
 moment_first number true s = refl
 moment_first number false s = refl
 
-groups_settled : (number : RequestNo) (completes : Bool) (s : Progress) → Facts s → (settle (reported_first number completes s)).groups ≡ map (change_where (has_request number) (settled_group number completes s)) s.groups
+-- only the group of the request changes
+pub groups_settled : (number : RequestNo) (completes : Bool) (s : Progress) → Facts s → (settle (reported_first number completes s)).groups ≡ map (change_where (has_request number) (settled_group number completes s)) s.groups
 groups_settled number completes s f =
     let first : Progress = reported_first number completes s in
     groups_after first
@@ -245,29 +246,32 @@ report_change s number completes g0 kept over h runs there o k =
       does = does;
       can = record {
         later = subst (λ (l : List Group). AllZip IsLater s.groups l) (sym (groups_settled number completes s f) ∙ sym groups) (all_later (has_request number) changes (later_settled number completes s) s.groups);
+        told =
+            subst (λ (l : List Group). AreTold s.groups (changes g0 ∷ []) l) (sym (groups_settled number completes s f) ∙ sym groups)
+            (told_one (has_request number) changes s.groups g0 (later_settled number completes s) h.numbered pick);
         sound = subst IsSound (sym does) (reported_sound s number completes h runs);
       };
     }
 
 -- ---- what is told
 
-same_none : (test : RunState → Bool) → ((x : RunState) → (is_pending x && test x) ≡ false) → (qs : List Request) → became test qs qs ≡ []
+same_none : (test : RequestState → Bool) → ((x : RequestState) → (is_pending x && test x) ≡ false) → (qs : List Request) → became test qs qs ≡ []
 same_none test h [] = refl
 same_none test h (q ∷ qs) = ap (λ (b : Bool). cond b (q.number ∷ became test qs qs) (became test qs qs)) (h q.state) ∙ same_none test h qs
 
-not_canceled : (x : RunState) → (is_pending x && is_in Canceled x) ≡ false
+not_canceled : (x : RequestState) → (is_pending x && is_in Canceled x) ≡ false
 not_canceled Pending = refl
 not_canceled Completed = refl
 not_canceled WindowExpired = refl
 not_canceled Canceled = refl
 
-not_expired : (x : RunState) → (is_pending x && is_in WindowExpired x) ≡ false
+not_expired : (x : RequestState) → (is_pending x && is_in WindowExpired x) ≡ false
 not_expired Pending = refl
 not_expired Completed = refl
 not_expired WindowExpired = refl
 not_expired Canceled = refl
 
-told : (test : RunState → Bool) → ((x : RunState) → (is_pending x && test x) ≡ false) → (s : Progress) (number : RequestNo) (completes : Bool) (g0 : Group) → IsSound s → group_with s.groups number ≡ Some g0
+told : (test : RequestState → Bool) → ((x : RequestState) → (is_pending x && test x) ≡ false) → (s : Progress) (number : RequestNo) (completes : Bool) (g0 : Group) → IsSound s → group_with s.groups number ≡ Some g0
     → became_in test s.groups (reported number completes s).groups ≡ became test g0.requests (settled_group number completes s g0).requests
 told test none s number completes g0 h there =
     let changes : Group → Group = settled_group number completes s in

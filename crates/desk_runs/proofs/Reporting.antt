@@ -1,28 +1,25 @@
 -- A report leaves a sound state.
-use Rattle.std.proofs.Common.{◌≡◌, ◌≢◌, ℕ, ◌+◌, ◌<◌, ◌≤◌, ◌==◌, nat_le, Bool, true, false, cond, not, ◌&&◌, ◌||◌, List, [], ◌∷◌, ◌++◌, length, map, filter, All, get_or, refl, sym, ◌∙◌, ap, subst, arith, inl, inr, ◌⊎◌}
-use Rattle.std.specs.List.{AllZip, list_any, count_by, fold}
-use Rattle.std.proofs.lemmas.Bool.{and_left, and_right, and_parts, or_cases, or_left, or_right, eqb-true, eq-eqb, cases_Bool, cond-true, cond-false, false_from_ne_true}
-use Rattle.std.proofs.lemmas.List.{append-nil}
-use Rattle.std.proofs.lemmas.List.Elements.{All-nil, All-cons, All-head, All-tail, All-map, All-weaker, All-filter, filter_passes}
-use Rattle.std.proofs.lemmas.List.Folds.{list_any_at, list_any_none, map_fixed}
+use Rattle.std.proofs.Common.{◌≡◌, ℕ, ◌+◌, ◌<◌, ◌≤◌, ◌==◌, Bool, true, false, cond, not, ◌||◌, List, [], ◌∷◌, ◌++◌, length, map, filter, All, get_or, refl, sym, ◌∙◌, ap, arith, inl, inr}
+use Rattle.std.specs.List.{AllZip, list_any, count_by}
+use Rattle.std.proofs.lemmas.Bool.{and_parts, or_cases, or_left, or_right, eqb-true, eq-eqb, cases_Bool, cond-true, cond-false}
+use Rattle.std.proofs.lemmas.List.Elements.{All-head, All-tail, All-filter, filter_passes}
 use Rattle.std.proofs.lemmas.List.Filters.{sum_by-filter_both}
 use Rattle.std.proofs.lemmas.List.Sums.{sum_by-append, sum_by-cons}
 use Rattle.plan_base.specs.declared.number.RequestNo.{RequestNo}
-use Rattle.plan_base.specs.declared.number.Sec.{Sec}
-use Rattle.desk_runs.specs.declared.state.RunState.{RunState}
-use Rattle.desk_runs.specs.declared.state.RunState.TheVariants.{Completed, WindowExpired, Canceled}
+use Rattle.plan_base.specs.declared.state.RequestState.TheVariants.{Completed}
 use Rattle.desk_runs.specs.declared.group.Group.{Group}
 use Rattle.desk_runs.specs.declared.group.Request.{Request}
 use Rattle.desk_runs.specs.declared.observation.Observation.{Observation}
-use Rattle.desk_runs.specs.States.{is_pending, is_oneof}
+use Rattle.plan_base.specs.States.{is_pending}
+use Rattle.desk_runs.specs.States.{is_oneof}
 use Rattle.desk_runs.specs.Numbers.{is_request, has_request, is_pending_at, is_placed}
 use Rattle.desk_runs.specs.Progress.{Progress}
-use Rattle.desk_runs.specs.Clock.{has_begun, is_waiting, is_past, with_state, change_requests, with_past, is_lost, with_lost, settle}
+use Rattle.desk_runs.specs.Clock.{has_begun, with_state, change_requests}
 use Rattle.desk_runs.specs.Reports.{canceled, completed, without_running, with_completed, reported}
-use Rattle.desk_runs.specs.Sound.{IsSound, IsOneOfOnce, AllPending, IsLater, placed_in}
-use Rattle.desk_runs.proofs.Lists.{of_choice, filter_all}
+use Rattle.desk_runs.specs.Sound.{IsSound, IsOneOfOnce, IsLater, placed_in}
+use Rattle.desk_runs.proofs.Lists.{of_choice}
 use Rattle.desk_runs.proofs.Settling.{facts_of}
-use Rattle.desk_runs.proofs.Later.{later_self, later_completed, numbered_later, once_later}
+use Rattle.desk_runs.proofs.Later.{later_completed, numbered_later, once_later}
 use Rattle.desk_runs.proofs.Sounds.{any_kept, is_pending_request, has_pending, placed_here, IsReady, settle_sound}
 use Rattle.desk_runs.proofs.Single.{change_where, all_later}
 
@@ -121,9 +118,9 @@ pending_all number other running runs ne runs_too (g ∷ gs) once e =
 
 -- ---- ready for the moment
 
-fewer_running : (p : Observation → Bool) (g : Group) (kept running : List Observation) → placed_in g (kept ++ filter p running) ≤ placed_in g (kept ++ running)
-fewer_running p g kept running =
-    let q : Observation → Bool = λ o. has_request o.request g in
+-- no more observations pass a test where some no longer run
+pub fewer_running : (p q : Observation → Bool) (kept running : List Observation) → count_by q (kept ++ filter p running) ≤ count_by q (kept ++ running)
+fewer_running p q kept running =
     let e1 = sum_by-filter_both p (λ o. not (p o)) (λ o. refl) (λ o. cond (q o) 1 0) running in
     let e2 = sum_by-append (λ o. cond (q o) 1 0) kept running in
     let e3 = sum_by-append (λ o. cond (q o) 1 0) kept (filter p running) in
@@ -148,7 +145,7 @@ ready_failed s number h = record {
   once = λ k d l e.
       let g : Group = get_or s.groups k d in
       let few : placed_in g (s.kept ++ s.running) ≤ 1 = h.once k d l e in
-      let fewer : placed_in g (s.kept ++ others number s.running) ≤ placed_in g (s.kept ++ s.running) = fewer_running (λ o. not (o.request.0 == number.0)) g s.kept s.running in
+      let fewer : placed_in g (s.kept ++ others number s.running) ≤ placed_in g (s.kept ++ s.running) = fewer_running (λ o. not (o.request.0 == number.0)) (λ o. has_request o.request g) s.kept s.running in
       omega arith;
 }
 
@@ -162,7 +159,7 @@ ready_completed s number h runs =
           pending_all number (get_or (others number s.running) k d).request s.running runs (number_differs number s.running k d l) (placed_here (others number s.running) k d l) s.groups
           (once_running s.groups s.kept s.running h.once) (All-filter (λ o. not (o.request.0 == number.0)) (λ o. is_pending_at s.groups o.request ≡ true) s.running h.running k d l);
       begun = none_begun s h (λ o. is_pending_at gs o.request ≡ true);
-      once = once_later s.groups gs (s.kept ++ s.running) (s.kept ++ others number s.running) later (λ g. fewer_running (λ o. not (o.request.0 == number.0)) g s.kept s.running) h.once;
+      once = once_later s.groups gs (s.kept ++ s.running) (s.kept ++ others number s.running) later (λ g. fewer_running (λ o. not (o.request.0 == number.0)) (λ o. has_request o.request g) s.kept s.running) h.once;
     }
 
 -- a report on a running request leaves a sound state

@@ -1,11 +1,11 @@
 -- A moment settles the state: what it does once it would not do again.
-use Rattle.std.proofs.Common.{◌≡◌, ℕ, ◌<◌, Bool, true, false, cond, not, ◌&&◌, nat_le, List, [], ◌∷◌, ◌++◌, map, filter, All, refl, sym, ◌∙◌, ap, subst}
+use Rattle.std.proofs.Common.{◌≡◌, Bool, true, false, cond, not, nat_le, List, ◌++◌, map, filter, All, refl, sym, ◌∙◌, ap, subst}
 use Rattle.std.proofs.lemmas.List.{append-nil}
 use Rattle.std.proofs.lemmas.List.Elements.{All-map, All-weaker, All-filter, filter_passes}
 use Rattle.std.proofs.lemmas.List.Folds.{map_fixed}
 use Rattle.plan_base.specs.declared.number.Sec.{Sec}
-use Rattle.desk_runs.specs.declared.state.RunState.{RunState}
-use Rattle.desk_runs.specs.declared.state.RunState.TheVariants.{WindowExpired}
+use Rattle.plan_base.specs.declared.state.RequestState.{RequestState}
+use Rattle.plan_base.specs.declared.state.RequestState.TheVariants.{WindowExpired}
 use Rattle.desk_runs.specs.declared.group.Group.{Group}
 use Rattle.desk_runs.specs.declared.group.Request.{Request}
 use Rattle.desk_runs.specs.declared.observation.Observation.{Observation}
@@ -15,11 +15,11 @@ use Rattle.desk_runs.specs.Clock.{has_begun, has_ended, beginning, started, stop
 use Rattle.desk_runs.proofs.Lists.{filter_all, filter_none, fails_after, passes_opposite, and_false, of_choice, all_of}
 
 -- a request in this state where it passes
-pub changed_request : (Request → Bool) → RunState → Request → Request
+pub changed_request : (Request → Bool) → RequestState → Request → Request
 changed_request test state q = cond (test q) (with_state state q) q
 
 -- where no request passes, the group stays
-pub change_none : (test : Request → Bool) (state : RunState) (g : Group) → All (λ q. test q ≡ false) g.requests → change_requests test state g ≡ g
+pub change_none : (test : Request → Bool) (state : RequestState) (g : Group) → All (λ q. test q ≡ false) g.requests → change_requests test state g ≡ g
 change_none test state g h =
     ap (λ (rs : List Request). let r : Group = record g { requests = rs } in r)
     (map_fixed (λ q. cond (test q) (with_state state q) q) g.requests

@@ -1,24 +1,23 @@
 -- Changes of one group.
-use Rattle.std.proofs.Common.{◌≡◌, ◌≢◌, ℕ, zero, suc, ◌+◌, ◌-◌, ◌<◌, ◌≤◌, ◌==◌, Bool, true, false, cond, not, ◌&&◌, ◌||◌, List, [], ◌∷◌, ◌++◌, length, map, filter, All, get_or, refl, sym, ◌∙◌, ap, subst, arith, inl, inr, ◌⊎◌, Option, Some, None}
-use Rattle.std.specs.List.{AllZip, list_any, flat_map, fold}
-use Rattle.std.proofs.lemmas.Bool.{cases_Bool, and_parts, or_cases, or_left, or_right, eqb-true, eq-eqb, false_from_ne_true}
+use Rattle.std.proofs.Common.{◌≡◌, ℕ, ◌+◌, ◌≤◌, Bool, true, false, cond, not, List, [], ◌∷◌, length, map, filter, All, get_or, refl, sym, ◌∙◌, ap, subst, arith, Option, Some}
+use Rattle.std.specs.List.{AllZip, flat_map, fold}
+use Rattle.std.proofs.lemmas.Bool.{eqb-true}
 use Rattle.std.proofs.lemmas.List.{append-nil, length-map, get_or-map}
-use Rattle.std.proofs.lemmas.List.Elements.{All-map, All-weaker, All-filter, filter_passes}
-use Rattle.std.proofs.lemmas.List.Folds.{list_any_at, list_any_none}
+use Rattle.std.proofs.lemmas.List.Elements.{filter_passes}
 use Rattle.plan_base.specs.declared.number.GroupNo.{GroupNo}
 use Rattle.plan_base.specs.declared.number.RequestNo.{RequestNo}
 use Rattle.desk_runs.specs.declared.group.Group.{Group}
-use Rattle.desk_runs.specs.declared.group.Request.{Request}
 use Rattle.desk_runs.specs.declared.observation.Observation.{Observation}
-use Rattle.desk_runs.specs.States.{is_pending, is_over}
-use Rattle.desk_runs.specs.Numbers.{requests_of, is_group, is_request, has_request, group_at, group_with, is_pending_at}
+use Rattle.plan_base.specs.States.{is_over}
+use Rattle.desk_runs.specs.Numbers.{is_group, group_at, is_pending_at}
 use Rattle.desk_runs.specs.Clock.{became, became_in}
 use Rattle.desk_runs.specs.Changes.{put}
-use Rattle.desk_runs.specs.Sound.{IsCounted, IsNumbered, IsLater}
+use Rattle.desk_runs.specs.Sound.{IsNumbered, IsLater, AreTold}
 use Rattle.desk_runs.proofs.Lists.{filter_none}
 use Rattle.desk_runs.proofs.Later.{later_map, later_self}
-use Rattle.desk_runs.proofs.Places.{IsCountedFrom, counted_from, counted_head, counted_tail, differs, put_all}
+use Rattle.desk_runs.proofs.Places.{IsCountedFrom, counted_head, counted_tail, differs, put_all}
 use Rattle.desk_runs.proofs.Turns.{over_none}
+use Rattle.desk_runs.proofs.Told.{told_of}
 use Rattle.desk_runs.proofs.Moves.{became_groups, gathered_by, dropped_by, is_among}
 
 -- what a test picks is changed, all else stays
@@ -73,6 +72,12 @@ pub put_one : (p : Group → Bool) (f : Group → Group) (gs : List Group) (g0 :
 put_one p f gs g0 h n e =
     let changed : map (change_where p f) (filter p gs) ≡ f g0 ∷ [] = ap (map (change_where p f)) e ∙ ap (λ (g : Group). let l : List Group = g ∷ [] in l) ((choose p f g0).0 (picked_passes p gs g0 e)) in
     ap (fold put gs) (sym changed) ∙ put_all p (change_where p f) gs (λ g no. (choose p f g).1 no) (λ g. (later_where p f h g).number) n.groups
+
+-- and it is what the change tells
+pub told_one : (p : Group → Bool) (f : Group → Group) (gs : List Group) (g0 : Group) → ((g : Group) → IsLater g (f g)) → IsNumbered gs → filter p gs ≡ g0 ∷ [] → AreTold gs (f g0 ∷ []) (map (change_where p f) gs)
+told_one p f gs g0 h n e =
+    let changed : map (change_where p f) (filter p gs) ≡ f g0 ∷ [] = ap (map (change_where p f)) e ∙ ap (λ (g : Group). let l : List Group = g ∷ [] in l) ((choose p f g0).0 (picked_passes p gs g0 e)) in
+    told_of p (change_where p f) gs (f g0 ∷ []) (map (change_where p f) gs) n (λ g. (later_where p f h g).number) (λ g no. (choose p f g).1 no) (sym changed) refl
 
 -- what is over of all requests is what is over of the picked group's
 pub over_one : (p : Group → Bool) (f : Group → Group) (gs : List Group) (g0 : Group) → ((g : Group) → IsLater g (f g)) → filter p gs ≡ g0 ∷ [] → became_in is_over gs (map (change_where p f) gs) ≡ became is_over g0.requests (f g0).requests

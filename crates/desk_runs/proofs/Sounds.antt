@@ -1,5 +1,5 @@
 -- A moment leaves a sound state.
-use Rattle.std.proofs.Common.{◌≡◌, ℕ, ◌+◌, ◌<◌, ◌≤◌, ◌==◌, Bool, true, false, cond, not, ◌&&◌, ◌||◌, List, [], ◌∷◌, ◌++◌, length, map, filter, All, get_or, refl, sym, ◌∙◌, ap, subst, arith, inl, inr, ◌⊎◌}
+use Rattle.std.proofs.Common.{◌≡◌, ℕ, ◌+◌, ◌<◌, ◌≤◌, ◌==◌, Bool, true, false, cond, not, ◌&&◌, List, [], ◌∷◌, ◌++◌, length, map, filter, All, get_or, refl, sym, ◌∙◌, ap, subst, arith, inl, inr}
 use Rattle.std.specs.List.{AllZip, list_any, count_by}
 use Rattle.std.proofs.lemmas.Bool.{and_parts, and_right, or_cases, or_left, or_right, eqb-true, eq-eqb}
 use Rattle.std.proofs.lemmas.List.Elements.{All-append, All-filter, filter_passes}
@@ -8,15 +8,15 @@ use Rattle.std.proofs.lemmas.List.Filters.{sum_by-filter_both}
 use Rattle.std.proofs.lemmas.List.Sums.{sum_by-append}
 use Rattle.plan_base.specs.declared.number.RequestNo.{RequestNo}
 use Rattle.plan_base.specs.declared.number.Sec.{Sec}
-use Rattle.desk_runs.specs.declared.state.RunState.TheVariants.{WindowExpired}
+use Rattle.plan_base.specs.declared.state.RequestState.TheVariants.{WindowExpired}
 use Rattle.desk_runs.specs.declared.group.Group.{Group}
 use Rattle.desk_runs.specs.declared.group.Request.{Request}
 use Rattle.desk_runs.specs.declared.observation.Observation.{Observation}
-use Rattle.desk_runs.specs.States.{is_pending}
+use Rattle.plan_base.specs.States.{is_pending}
 use Rattle.desk_runs.specs.Numbers.{is_request, has_request, is_pending_at, is_placed}
 use Rattle.desk_runs.specs.Progress.{Progress}
 use Rattle.desk_runs.specs.Clock.{has_begun, has_ended, beginning, started, stopped, is_waiting, is_past, with_state, change_requests, with_past, is_lost, with_lost, settle, at_moment}
-use Rattle.desk_runs.specs.Sound.{IsNumbered, IsSound, IsOneOfOnce, AllPending, IsLater, placed_in}
+use Rattle.desk_runs.specs.Sound.{IsNumbered, IsSound, IsOneOfOnce, AllPending, IsLater}
 use Rattle.desk_runs.proofs.Lists.{of_choice}
 use Rattle.desk_runs.proofs.Settling.{facts_of, settle_settles}
 use Rattle.desk_runs.specs.Turning.{turned}
@@ -101,9 +101,9 @@ running_after s r =
 count_filters : (p q : Observation → Bool) (xs : List Observation) → count_by q (filter p xs) + count_by q (filter (λ o. not (p o)) xs) ≡ count_by q xs
 count_filters p q xs = sum_by-filter_both p (λ o. not (p o)) (λ o. refl) (λ o. cond (q o) 1 0) xs
 
-fewer_after : (s : Progress) (g : Group) → placed_in g ((settle s).kept ++ (settle s).running) ≤ placed_in g (s.kept ++ s.running)
-fewer_after s g =
-    let q : Observation → Bool = λ o. has_request o.request g in
+-- no more observations pass a test after a moment
+pub fewer_after : (s : Progress) (q : Observation → Bool) → count_by q ((settle s).kept ++ (settle s).running) ≤ count_by q (s.kept ++ s.running)
+fewer_after s q =
     let later : List Observation = filter (λ o. not (has_begun s.len s.moment o)) s.kept in
     let e1 = count_filters (has_begun s.len s.moment) q s.kept in
     let e2 = count_filters (has_ended s.len s.moment) q (s.running ++ beginning s) in
@@ -129,7 +129,7 @@ settle_sound s r =
       numbered = numbered_later s.groups (settle s).groups later r.numbered;
       settled = settle_settles s;
       running = running_after s r;
-      once = once_later s.groups (settle s).groups (s.kept ++ s.running) ((settle s).kept ++ (settle s).running) later (fewer_after s) r.once;
+      once = once_later s.groups (settle s).groups (s.kept ++ s.running) ((settle s).kept ++ (settle s).running) later (λ g. fewer_after s (λ o. has_request o.request g)) r.once;
     }
 
 -- a sound state is ready for another moment

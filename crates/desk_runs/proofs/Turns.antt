@@ -1,20 +1,20 @@
 -- What a moment does to groups, one after another.
-use Rattle.std.proofs.Common.{◌≡◌, ℕ, ◌+◌, ◌<◌, Bool, true, false, cond, ◌&&◌, ◌||◌, List, [], ◌∷◌, ◌++◌, length, map, filter, All, get_or, take, drop, refl, sym, ◌∙◌, ap, subst, arith, inl, inr, ◌⊎◌}
+use Rattle.std.proofs.Common.{◌≡◌, ℕ, ◌+◌, ◌<◌, Bool, true, false, cond, ◌&&◌, List, [], ◌∷◌, ◌++◌, length, map, filter, All, get_or, take, refl, ◌∙◌, ap, inl, inr}
 use Rattle.std.specs.List.{list_any, flat_map}
 use Rattle.std.proofs.lemmas.Bool.{or_parts, and_cases}
-use Rattle.std.proofs.lemmas.List.{append-nil, append_assoc, map-append, map_more}
+use Rattle.std.proofs.lemmas.List.{append-nil, map-append, map_more}
 use Rattle.std.proofs.lemmas.List.Concat.{flat_map-append}
 use Rattle.std.proofs.lemmas.List.Elements.{All-cons, All-nil, filter-append}
 use Rattle.plan_base.specs.declared.number.GroupNo.{GroupNo}
 use Rattle.plan_base.specs.declared.number.RequestNo.{RequestNo}
 use Rattle.plan_base.specs.declared.number.Sec.{Sec}
-use Rattle.desk_runs.specs.declared.state.RunState.{RunState}
-use Rattle.desk_runs.specs.declared.state.RunState.TheVariants.{Pending, Completed, WindowExpired, Canceled}
+use Rattle.plan_base.specs.declared.state.RequestState.{RequestState}
+use Rattle.plan_base.specs.declared.state.RequestState.TheVariants.{Pending, Completed, WindowExpired, Canceled}
 use Rattle.desk_runs.specs.declared.group.Group.{Group}
 use Rattle.desk_runs.specs.declared.group.Request.{Request}
 use Rattle.desk_runs.specs.declared.observation.Observation.{Observation}
-use Rattle.desk_runs.specs.States.{is_pending, is_over}
-use Rattle.desk_runs.specs.Clock.{is_waiting, is_past, with_past, is_lost, with_lost, became}
+use Rattle.plan_base.specs.States.{is_pending, is_over}
+use Rattle.desk_runs.specs.Clock.{is_waiting, is_past, is_lost, with_lost, became}
 use Rattle.desk_runs.specs.Turning.{turned, is_touched, group_of, groups_of}
 use Rattle.desk_runs.proofs.Settling.{change_none, lost_none, lost_not}
 
@@ -33,7 +33,7 @@ untouched running now g e =
       | inr idle ↦ lost_none running g (any_false (is_waiting running) g.requests idle)
     ]
 
-same_state : (s : RunState) → (is_pending s && is_over s) ≡ false
+same_state : (s : RequestState) → (is_pending s && is_over s) ≡ false
 same_state Pending = refl
 same_state Completed = refl
 same_state WindowExpired = refl

@@ -1,5 +1,5 @@
 -- A withdrawal leaves a sound state.
-use Rattle.std.proofs.Common.{◌≡◌, ℕ, ◌+◌, ◌<◌, ◌≤◌, Bool, true, false, cond, not, ◌&&◌, List, [], ◌∷◌, ◌++◌, length, map, filter, All, get_or, refl, sym, ◌∙◌, ap, subst, arith, inl, inr, ◌⊎◌, Some}
+use Rattle.std.proofs.Common.{◌≡◌, ℕ, ◌≤◌, Bool, true, false, cond, not, List, [], ◌∷◌, ◌++◌, map, filter, All, get_or, refl, sym, ◌∙◌, ap, subst, arith, inl, inr, Some}
 use Rattle.std.specs.List.{AllZip, list_any, count_by, fold}
 use Rattle.std.proofs.lemmas.Bool.{and_left, and_right, or_cases, or_left, or_right, eqb-true, cases_Bool, cond-true, cond-false, false_from_ne_true}
 use Rattle.std.proofs.lemmas.List.Elements.{All-nil, All-cons, All-head, All-tail, All-map, All-weaker, All-filter, filter_passes}
@@ -9,25 +9,25 @@ use Rattle.std.proofs.lemmas.List.Sums.{sum_by-append}
 use Rattle.plan_base.specs.declared.number.GroupNo.{GroupNo}
 use Rattle.plan_base.specs.declared.number.RequestNo.{RequestNo}
 use Rattle.plan_base.specs.declared.number.Sec.{Sec}
-use Rattle.desk_runs.specs.declared.state.RunState.TheVariants.{WindowExpired, Canceled}
+use Rattle.plan_base.specs.declared.state.RequestState.TheVariants.{WindowExpired, Canceled}
 use Rattle.desk_runs.specs.declared.change.Change.{Change}
 use Rattle.desk_runs.specs.declared.group.Group.{Group}
 use Rattle.desk_runs.specs.declared.group.Request.{Request}
 use Rattle.desk_runs.specs.declared.observation.Observation.{Observation}
-use Rattle.desk_runs.specs.States.{is_pending, is_over}
+use Rattle.plan_base.specs.States.{is_pending, is_over}
 use Rattle.desk_runs.specs.Numbers.{is_group, group_at, is_request, has_request, is_pending_at, is_placed}
 use Rattle.desk_runs.specs.Progress.{Progress}
 use Rattle.desk_runs.specs.Clock.{has_begun, is_waiting, is_past, with_state, with_past, with_lost, became}
 use Rattle.desk_runs.specs.Reports.{canceled, withdrawn}
 use Rattle.desk_runs.specs.Changes.{put, changed}
-use Rattle.desk_runs.specs.Sound.{IsSound, IsIdle, IsWithdrawable, IsLater, AllPending, CanChange, placed_in}
+use Rattle.desk_runs.specs.Sound.{IsSound, IsIdle, IsWithdrawable, IsLater, AreTold, CanChange}
 use Rattle.desk_runs.proofs.Lists.{of_choice, all_of}
 use Rattle.desk_runs.proofs.Settling.{change_none, lost_none, Facts, facts_of, settled_by}
 use Rattle.desk_runs.proofs.Later.{later_canceled, numbered_later, once_later}
-use Rattle.desk_runs.proofs.Sounds.{any_kept, is_pending_request, has_pending, placed_here}
+use Rattle.desk_runs.proofs.Sounds.{is_pending_request, has_pending, placed_here}
 use Rattle.desk_runs.proofs.Places.{counted_from}
 use Rattle.desk_runs.proofs.Moves.{is_among}
-use Rattle.desk_runs.proofs.Single.{change_where, all_later, picked_from, put_one, drop_one}
+use Rattle.desk_runs.proofs.Single.{change_where, all_later, picked_from, put_one, told_one, drop_one}
 
 -- none of a canceled group's requests is pending
 none_pending : (g : Group) → All (λ q. is_pending q.state ≡ false) (canceled g).requests
@@ -83,9 +83,9 @@ pending_where running number p placed (g ∷ gs) idle e = elim (or_cases (has_pe
       (pending_where running number p placed gs (All-tail (λ x. p x ≡ true → IsIdle running x) g gs idle) there)
 ]
 
-fewer_kept : (p : Observation → Bool) (g : Group) (kept running : List Observation) → placed_in g (filter p kept ++ running) ≤ placed_in g (kept ++ running)
-fewer_kept p g kept running =
-    let q : Observation → Bool = λ o. has_request o.request g in
+-- no more observations pass a test where some are no longer kept
+pub fewer_kept : (p q : Observation → Bool) (kept running : List Observation) → count_by q (filter p kept ++ running) ≤ count_by q (kept ++ running)
+fewer_kept p q kept running =
     let e1 = sum_by-filter_both p (λ o. not (p o)) (λ o. refl) (λ o. cond (q o) 1 0) kept in
     let e2 = sum_by-append (λ o. cond (q o) 1 0) kept running in
     let e3 = sum_by-append (λ o. cond (q o) 1 0) (filter p kept) running in
@@ -99,7 +99,7 @@ withdrawn_sound s n h idle =
       numbered = numbered_later s.groups (withdrawn n s).groups later h.numbered;
       settled = settled_by (withdrawn n s) (withdrawn_facts s n (facts_of s h.settled));
       running = λ k d l. pending_where s.running (get_or s.running k d).request (is_group n) (placed_here s.running k d l) s.groups idle (h.running k d l);
-      once = once_later s.groups (withdrawn n s).groups (s.kept ++ s.running) ((withdrawn n s).kept ++ s.running) later (λ g. fewer_kept (λ o. is_pending_at (withdrawn n s).groups o.request) g s.kept s.running) h.once;
+      once = once_later s.groups (withdrawn n s).groups (s.kept ++ s.running) ((withdrawn n s).kept ++ s.running) later (λ g. fewer_kept (λ o. is_pending_at (withdrawn n s).groups o.request) (λ o. has_request o.request g) s.kept s.running) h.once;
     }
 
 picked_idle : (p : Group → Bool) (gs : List Group) (g0 : Group) (running : List Observation) → filter p gs ≡ g0 ∷ [] → IsIdle running g0 → All (λ g. p g ≡ true → IsIdle running g) gs
@@ -143,6 +143,7 @@ withdrawal s n g0 kept over h at idle o k =
       does = does;
       can = record {
         later = subst (λ (p : Progress). AllZip IsLater s.groups p.groups) (sym does) (all_later (is_group n) canceled later_canceled s.groups);
+        told = subst (λ (p : Progress). AreTold s.groups (canceled g0 ∷ []) p.groups) (sym does) (told_one (is_group n) canceled s.groups g0 later_canceled h.numbered pick);
         sound = subst IsSound (sym does) (withdrawn_sound s n h (picked_idle (is_group n) s.groups g0 s.running pick idle));
       };
     }
@@ -162,3 +163,9 @@ withdrawal_found s n g0 after over running c h at idle a o r e =
 -- the group that is there is the one that was found
 pub idle_found : (s : Progress) (n : GroupNo) (g : Group) → IsWithdrawable n s → group_at s.groups n ≡ Some g → IsIdle s.running g
 idle_found s n g w e = let both : Some w.group ≡ Some g = sym w.there ∙ e in let same : w.group ≡ g = cc in subst (IsIdle s.running) same w.idle
+
+-- a withdrawal that may be made leaves a sound state
+pub withdrawable_sound : (s : Progress) (n : GroupNo) → IsSound s → IsWithdrawable n s → IsSound (withdrawn n s)
+withdrawable_sound s n h w =
+    let pick : filter (is_group n) s.groups ≡ w.group ∷ [] = picked_from 0 s.groups n w.group (counted_from (map (λ g. g.number.0) s.groups) h.numbered.groups) w.there in
+    withdrawn_sound s n h (picked_idle (is_group n) s.groups w.group s.running pick w.idle)

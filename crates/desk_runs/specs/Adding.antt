@@ -1,15 +1,15 @@
 -- New groups, and publications.
-use Rattle.std.specs.Prelude.{◌≡◌, ℕ, ◌+◌, ◌<◌, false, List, [], ◌∷◌, ◌++◌, length, All}
+use Rattle.std.specs.Prelude.{◌≡◌, ℕ, ◌+◌, ◌≤◌, false, List, [], ◌∷◌, ◌++◌, length, All}
 use Rattle.plan_base.specs.declared.parts.Op.{Op}
 use Rattle.desk_runs.specs.declared.group.Ask.{Ask}
 use Rattle.desk_runs.specs.declared.group.Group.{Group}
 use Rattle.desk_runs.specs.declared.group.Request.{Request}
 use Rattle.desk_runs.specs.declared.observation.Observation.{Observation}
-use Rattle.desk_runs.specs.declared.state.RunState.TheVariants.{Pending}
+use Rattle.plan_base.specs.declared.state.RequestState.TheVariants.{Pending}
 use Rattle.desk_runs.specs.Numbers.{requests_of}
 use Rattle.desk_runs.specs.Progress.{Progress}
 use Rattle.desk_runs.specs.Clock.{has_begun}
-use Rattle.desk_runs.specs.Sound.{AllPending, IsOneOfOnce}
+use Rattle.desk_runs.specs.Sound.{IsSound, AllPending, IsOneOfOnce}
 
 -- pending requests for what is asked, numbered from n on
 abbrev pub requests_from : ℕ → List Ask → List Request
@@ -23,6 +23,14 @@ next_group op asks s = record { number = record { 0 = length s.groups + 1 }; op 
 -- one more group
 abbrev pub with_group : Op → List Ask → Progress → Progress
 with_group op asks s = record s { groups = s.groups ++ next_group op asks s ∷ [] }
+
+-- a sound state, and the same with one more group
+pub record IsOneMore (before after : Progress) : Type 0 where
+  pub sound : IsSound before
+  pub op : Op
+  pub asks : List Ask
+  pub some : 1 ≤ length asks
+  pub added : after ≡ with_group op asks before
 
 -- other kept observations
 abbrev pub with_kept : List Observation → Progress → Progress

@@ -1,5 +1,5 @@
 -- Changes that are made whole: first looked for, then made without memory.
-use Rattle.std.specs.Prelude.{ℕ, ◌-◌, List, fold, slice_set}
+use Rattle.std.specs.Prelude.{◌-◌, List, fold, slice_set}
 use Rattle.desk_runs.specs.declared.group.Group.{Group}
 use Rattle.desk_runs.specs.declared.change.Change.{Change}
 use Rattle.desk_runs.specs.Progress.{Progress}

@@ -4,12 +4,13 @@ use Rattle.std.specs.Ordering.{nat_cmp}
 use Rattle.std.specs.BTreeSet.{insert_key}
 use Rattle.plan_base.specs.declared.number.Sec.{Sec}
 use Rattle.plan_base.specs.declared.number.RequestNo.{RequestNo}
-use Rattle.desk_runs.specs.declared.state.RunState.{RunState}
-use Rattle.desk_runs.specs.declared.state.RunState.TheVariants.{WindowExpired}
+use Rattle.plan_base.specs.declared.state.RequestState.{RequestState}
+use Rattle.plan_base.specs.declared.state.RequestState.TheVariants.{WindowExpired}
 use Rattle.desk_runs.specs.declared.group.Group.{Group}
 use Rattle.desk_runs.specs.declared.group.Request.{Request}
 use Rattle.desk_runs.specs.declared.observation.Observation.{Observation}
-use Rattle.desk_runs.specs.States.{is_pending, is_window_expired, is_and, any_in}
+use Rattle.plan_base.specs.States.{is_pending, is_window_expired}
+use Rattle.desk_runs.specs.States.{is_and, any_in}
 use Rattle.desk_runs.specs.Numbers.{requests_of, is_pending_at, is_placed}
 use Rattle.desk_runs.specs.Progress.{Progress}
 
@@ -58,11 +59,11 @@ abbrev pub is_past : List Observation → Sec → Request → Bool
 is_past running now q = nat_le q.last.0 now.0 && is_waiting running q
 
 -- a request in another state
-abbrev pub with_state : RunState → Request → Request
+abbrev pub with_state : RequestState → Request → Request
 with_state state q = record q { state = state }
 
 -- a group, of which those requests that pass are in another state
-abbrev pub change_requests : (Request → Bool) → RunState → Group → Group
+abbrev pub change_requests : (Request → Bool) → RequestState → Group → Group
 change_requests test state g = record g { requests = map (λ q. if test q then with_state state q else q) g.requests }
 
 -- a group whose past requests are window expired
@@ -114,11 +115,11 @@ abbrev pub requests_in : List Observation → List RequestNo
 requests_in observations = map (λ n. record { 0 = n }) (numbers_in observations)
 
 -- the requests that were pending and now have a state that passes, in their order
-abbrev pub became : (RunState → Bool) → List Request → List Request → List RequestNo
+abbrev pub became : (RequestState → Bool) → List Request → List Request → List RequestNo
 became test (q ∷ qs) (r ∷ rs) = if is_pending q.state && test r.state then r.number ∷ became test qs rs else became test qs rs
 became test [] rs = []
 became test (q ∷ qs) [] = []
 
 -- those of all groups
-abbrev pub became_in : (RunState → Bool) → List Group → List Group → List RequestNo
+abbrev pub became_in : (RequestState → Bool) → List Group → List Group → List RequestNo
 became_in test before after = became test (requests_of before) (requests_of after)

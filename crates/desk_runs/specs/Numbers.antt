@@ -1,12 +1,12 @@
 -- Requests and groups by their numbers.
-use Rattle.std.specs.Prelude.{ℕ, Bool, ◌==◌, ◌&&◌, List, Option, find}
+use Rattle.std.specs.Prelude.{Bool, ◌==◌, ◌&&◌, List, Option, find}
 use Rattle.std.specs.List.{list_any, flat_map}
 use Rattle.plan_base.specs.declared.number.GroupNo.{GroupNo}
 use Rattle.plan_base.specs.declared.number.RequestNo.{RequestNo}
 use Rattle.desk_runs.specs.declared.group.Group.{Group}
 use Rattle.desk_runs.specs.declared.group.Request.{Request}
 use Rattle.desk_runs.specs.declared.observation.Observation.{Observation}
-use Rattle.desk_runs.specs.States.{is_pending}
+use Rattle.plan_base.specs.States.{is_pending}
 
 -- all requests, group by group
 abbrev pub requests_of : List Group → List Request

@@ -1,12 +1,13 @@
 -- What is always so of the groups of a desk.
-use Rattle.std.specs.Prelude.{◌≡◌, ℕ, ◌+◌, ◌≤◌, ◌<◌, true, false, Bool, Some, List, ◌++◌, length, map, slice_index, All, count_by}
-use Rattle.std.specs.List.{AllZip}
+use Rattle.std.specs.Prelude.{◌≡◌, ◌≢◌, ℕ, ◌+◌, ◌≤◌, ◌<◌, Bool, true, false, Some, List, ◌++◌, length, map, filter, slice_index, All, AllPairs, count_by, ◌==◌}
+use Rattle.std.specs.List.{AllZip, list_any}
 use Rattle.plan_base.specs.declared.number.GroupNo.{GroupNo}
 use Rattle.desk_runs.specs.declared.group.Group.{Group}
 use Rattle.desk_runs.specs.declared.group.Request.{Request}
 use Rattle.desk_runs.specs.declared.observation.Observation.{Observation}
 use Rattle.desk_runs.specs.declared.change.Change.{Change}
-use Rattle.desk_runs.specs.States.{is_pending, is_oneof}
+use Rattle.plan_base.specs.States.{is_pending}
+use Rattle.desk_runs.specs.States.{is_oneof}
 use Rattle.desk_runs.specs.Numbers.{requests_of, group_at, has_request, is_pending_at, is_placed}
 use Rattle.desk_runs.specs.Progress.{Progress}
 use Rattle.desk_runs.specs.Clock.{IsSettled}
@@ -28,6 +29,10 @@ placed_in g observations = count_by (λ o. has_request o.request g) observations
 -- of a ONEOF at most one request is observed
 abbrev pub IsOneOfOnce : List Group → List Observation → Type 0
 IsOneOfOnce groups observations = All (λ g. is_oneof g.op ≡ true → placed_in g observations ≤ 1) groups
+
+-- each request is observed once
+abbrev pub IsObservedOnce : List Observation → Type 0
+IsObservedOnce observations = AllPairs (λ a b. a.request.0 ≢ b.request.0) observations
 
 -- running observations are of pending requests
 abbrev pub AllPending : List Group → List Observation → Type 0
@@ -63,7 +68,17 @@ pub record IsLater (g h : Group) : Type 0 where
   pub op : h.op ≡ g.op
   pub requests : AllZip IsLaterRequest g.requests h.requests
 
--- a change that can be made: groups only go on, and it leaves a sound state
+-- whether a group has the number of one of these
+abbrev pub is_told : List Group → Group → Bool
+is_told told g = list_any (λ c. c.number.0 == g.number.0) told
+
+-- the groups that are told are those after a change that have their numbers, in order, and no other group changes
+pub record AreTold (before told after : List Group) : Type 0 where
+  pub listed : told ≡ filter (is_told told) after
+  pub others : AllZip (λ g h. is_told told g ≡ false → h ≡ g) before after
+
+-- a change that can be made: groups only go on, those that change are told, and it leaves a sound state
 pub record CanChange (s : Progress) (c : Change) : Type 0 where
   pub later : AllZip IsLater s.groups (changed s c).groups
+  pub told : AreTold s.groups c.groups (changed s c).groups
   pub sound : IsSound (changed s c)

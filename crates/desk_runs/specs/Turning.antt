@@ -1,5 +1,5 @@
 -- How a moment is looked for: which groups it touches.
-use Rattle.std.specs.Prelude.{ℕ, ◌-◌, Bool, nat_lt, ◌&&◌, ◌||◌, List, [], map, slice_index_or}
+use Rattle.std.specs.Prelude.{◌-◌, Bool, nat_lt, ◌&&◌, ◌||◌, List, [], map, slice_index_or}
 use Rattle.std.specs.List.{list_any}
 use Rattle.plan_base.specs.declared.number.Sec.{Sec}
 use Rattle.plan_base.specs.declared.number.GroupNo.{GroupNo}

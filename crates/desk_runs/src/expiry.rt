@@ -2,14 +2,14 @@
 
 ghost use Rattle.std.specs.Prelude.{◌≡◌, ℕ, ◌+◌, ◌-◌, ◌≤◌, ◌++◌, ◌∷◌, [], ◌&&◌, if◌then◌else◌, IfOk, OnOk, All, length, map, filter};
 ghost use Rattle.std.specs.List.{flat_map, list_any};
-ghost use Rattle.desk_runs.specs.States.{is_pending, is_in, is_over};
+ghost use Rattle.plan_base.specs.States.{is_pending, is_in, is_over};
 ghost use Rattle.desk_runs.specs.Clock.{became, is_past, is_waiting};
-ghost use Rattle.desk_runs.specs.Turning.{turned, is_touched, group_of, groups_of};
+ghost use Rattle.desk_runs.specs.Turning.{turned, is_touched, groups_of};
 
+use crate::by_number::group_of;
 use crate::group::{Group, Request, with_lost, with_past};
 use crate::observation::Observation;
-use crate::state::RunState;
-use plan_base::{GroupNo, RequestNo, Sec};
+use plan_base::{GroupNo, RequestNo, RequestState, Sec};
 use std::alloc::{AllocError, Global};
 
 /// Groups of which requests became window expired, as they then are, and these requests.
@@ -64,7 +64,7 @@ fn has_waiting(group: &Group, running: &[Observation]) -> bool
 // Adds a request that was pending, where it now is in the state.
 fn push_became(
     requests: &mut Vec<RequestNo>,
-    state: RunState,
+    state: RequestState,
     before: Request,
     after: Request,
 ) -> Result<(), AllocError>
@@ -79,7 +79,7 @@ fn push_became(
 /// Adds the requests that were pending and now are in the state.
 pub fn extend_became(
     requests: &mut Vec<RequestNo>,
-    state: RunState,
+    state: RequestState,
     before: &[Request],
     after: &[Request],
 ) -> Result<(), AllocError>
@@ -143,14 +143,6 @@ fn turn_group(
     )?;
     expiry.groups.push(after)?;
     Ok(())
-}
-
-/// The group at the place of a number.
-pub fn group_of(groups: &[Group], number: GroupNo) -> &Group
-    requires { (1 ≤ number.0) × (number.0 ≤ length groups.now) }
-    ensures { result.now ≡ group_of groups.now number }
-{
-    &groups[(number.0 - 1) as usize]
 }
 
 /// What a moment does to the groups with these numbers.

@@ -1,15 +1,16 @@
 // Requests and groups.
 
-ghost use Rattle.std.specs.Prelude.{◌≡◌, ◌&&◌, ◌≤◌, ◌<◌, not, nat_le, if◌then◌else◌, IfOk, length, count_by, map};
-ghost use Rattle.desk_runs.specs.declared.state.RunState.TheVariants.{WindowExpired, Completed, Canceled};
-ghost use Rattle.desk_runs.specs.States.{is_pending, is_completed, is_in, any_in, all_in, is_open, is_done, state_of, is_oneof, is_and};
+ghost use Rattle.std.specs.Prelude.{◌≡◌, ◌&&◌, ◌≤◌, ◌<◌, not, nat_le, if◌then◌else◌, IfOk, length, map};
+ghost use Rattle.plan_base.specs.declared.state.RequestState.TheVariants.{WindowExpired, Completed, Canceled};
+ghost use Rattle.plan_base.specs.States.{is_pending, is_completed, is_in};
+ghost use Rattle.desk_runs.specs.States.{any_in, all_in, is_open, is_done, state_of, is_oneof, is_and};
 ghost use Rattle.desk_runs.specs.Numbers.{is_request, has_request};
 ghost use Rattle.desk_runs.specs.Clock.{is_waiting, is_past, with_state, change_requests, is_lost, with_past, with_lost};
+ghost use Rattle.desk_runs.specs.Owners.{pending_of};
 ghost use Rattle.desk_runs.specs.Reports.{canceled, completed};
 
 use crate::observation::{Observation, is_placed};
-use crate::state::RunState;
-use plan_base::{GroupNo, ListOf, Op, RequestNo, Sec};
+use plan_base::{GroupNo, ListOf, Op, RequestNo, RequestState, Sec};
 use std::alloc::{AllocError, Global};
 
 /// What is asked for as a request: how long it takes, 1 to 86,400 seconds, and when its last window ends.
@@ -27,7 +28,7 @@ pub struct Request {
     pub seconds: u32,
     /// The greatest end of its windows.
     pub last: Sec,
-    pub state: RunState,
+    pub state: RequestState,
 }
 
 /// A request group, with its requests in rising order.
@@ -40,7 +41,7 @@ pub struct Group {
 
 impl Request {
     // The same request in another state.
-    fn in_state(self, state: RunState) -> Request
+    fn in_state(self, state: RequestState) -> Request
         ensures { result ≡ with_state state self }
     {
         Request {
@@ -88,7 +89,7 @@ pub fn is_oneof(op: Op) -> bool
 
 impl Group {
     /// Whether a member is in this state.
-    pub fn has_state(&self, state: RunState) -> bool
+    pub fn has_state(&self, state: RequestState) -> bool
         ensures { result ≡ any_in (is_in state) self.now }
     {
         self.requests.as_slice().iter().any(|q| q.state.is(state))
@@ -121,22 +122,22 @@ impl Group {
         if is_and(self.op) {
             self.is_all_completed()
         } else {
-            self.has_state(RunState::Completed)
+            self.has_state(RequestState::Completed)
         }
     }
 
     /// The state of the group.
-    pub fn state(&self) -> RunState
+    pub fn state(&self) -> RequestState
         ensures { result ≡ state_of self.now }
     {
         if self.is_open() {
-            RunState::Pending
+            RequestState::Pending
         } else if self.is_done() {
-            RunState::Completed
-        } else if self.has_state(RunState::Canceled) {
-            RunState::Canceled
+            RequestState::Completed
+        } else if self.has_state(RequestState::Canceled) {
+            RequestState::Canceled
         } else {
-            RunState::WindowExpired
+            RequestState::WindowExpired
         }
     }
 
@@ -152,7 +153,7 @@ impl Group {
 
     /// How many requests are pending.
     pub fn pending(&self) -> usize
-        ensures pending { result ≡ count_by (λ q. is_pending q.state) self.now.requests }
+        ensures pending { result ≡ pending_of self.now }
         ensures most { result ≤ length self.now.requests }
     {
         self.requests
@@ -166,7 +167,7 @@ impl Group {
     pub fn is_lost(&self) -> bool
         ensures { result ≡ is_lost self.now }
     {
-        is_and(self.op) && self.has_state(RunState::WindowExpired)
+        is_and(self.op) && self.has_state(RequestState::WindowExpired)
     }
 }
 
@@ -175,7 +176,7 @@ fn expire_past(q: &Request, running: &[Observation], now: Sec) -> Request
     ensures { result ≡ (if is_past running.now now q.now then with_state WindowExpired q.now else q.now) }
 {
     if q.is_past(running, now) {
-        q.in_state(RunState::WindowExpired)
+        q.in_state(RequestState::WindowExpired)
     } else {
         *q
     }
@@ -186,7 +187,7 @@ fn expire_waiting(q: &Request, running: &[Observation]) -> Request
     ensures { result ≡ (if is_waiting running.now q.now then with_state WindowExpired q.now else q.now) }
 {
     if q.is_waiting(running) {
-        q.in_state(RunState::WindowExpired)
+        q.in_state(RequestState::WindowExpired)
     } else {
         *q
     }
@@ -197,7 +198,7 @@ fn cancel_pending(q: &Request) -> Request
     ensures { result ≡ (if is_pending q.now.state then with_state Canceled q.now else q.now) }
 {
     if q.state.is_pending() {
-        q.in_state(RunState::Canceled)
+        q.in_state(RequestState::Canceled)
     } else {
         *q
     }
@@ -208,7 +209,7 @@ fn complete_one(q: &Request, number: RequestNo) -> Request
     ensures { result ≡ (if is_request number q.now then with_state Completed q.now else q.now) }
 {
     if q.number.0 == number.0 {
-        q.in_state(RunState::Completed)
+        q.in_state(RequestState::Completed)
     } else {
         *q
     }

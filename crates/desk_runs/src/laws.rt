@@ -1,6 +1,8 @@
 // What is so of every state; these functions do nothing.
 
-ghost use Rattle.desk_runs.specs.Laws.{Settles, KeepsSound};
+ghost use Rattle.desk_runs.specs.Laws.{Settles, KeepsSound, ReportKeepsSound, WithdrawalKeepsSound, NewGroupKeepsSound};
+ghost use Rattle.desk_runs.specs.Laws.{PublicationKeepsSound, MomentGoesOn, ReportGoesOn, WithdrawalGoesOn};
+ghost use Rattle.desk_runs.specs.Laws.{WithdrawalCommutes};
 
 /// What a moment leaves is settled: the same moment would change nothing more.
 pub fn a_moment_settles()
@@ -10,4 +12,25 @@ pub fn a_moment_settles()
 /// A sound state is sound after another moment.
 pub fn a_moment_keeps_sound()
     ensures { KeepsSound }
+{}
+
+/// And after a report on a running request, a withdrawal of a group of which no request runs, a new group whose windows
+/// have not passed, and a publication that may be made.
+pub fn changes_keep_sound()
+    ensures report { ReportKeepsSound }
+    ensures withdrawal { WithdrawalKeepsSound }
+    ensures new_group { NewGroupKeepsSound }
+    ensures publication { PublicationKeepsSound }
+{}
+
+/// After a moment, a report or a withdrawal no request is pending again, and each is observed once where it was.
+pub fn groups_only_go_on()
+    ensures moment { MomentGoesOn }
+    ensures report { ReportGoesOn }
+    ensures withdrawal { WithdrawalGoesOn }
+{}
+
+/// A group that is there may be withdrawn before another is added, or after.
+pub fn a_withdrawal_commutes()
+    ensures { WithdrawalCommutes }
 {}

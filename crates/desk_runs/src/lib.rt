@@ -2,18 +2,24 @@
 // observations have yet to start or are running.
 #![tactic(auto)]
 
+mod by_number;
 mod change;
 mod expiry;
 mod group;
 mod laws;
+mod new_group;
 mod observation;
+mod one_group;
 mod runs;
-mod state;
+#[cfg(test)]
+mod tests;
 mod turn;
 
 pub use change::{Change, Moved, Reported};
 pub use group::{Ask, Group, Request};
-pub use laws::{a_moment_keeps_sound, a_moment_settles};
+pub use laws::{
+    a_moment_keeps_sound, a_moment_settles, a_withdrawal_commutes, changes_keep_sound,
+    groups_only_go_on,
+};
 pub use observation::Observation;
 pub use runs::Runs;
-pub use state::RunState;

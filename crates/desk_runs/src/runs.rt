@@ -1,26 +1,30 @@
 // The groups of a desk, with what is published of them.
 
-ghost use Rattle.std.specs.Prelude.{◌≡◌, ◌<◌, ◌≤◌, ◌+◌, ◌^◌, ◌++◌, ◌==◌, ◌∷◌, [], true, not, replicate, All, OnOk, OnErr, if◌then◌else◌, None, Some, IfOk, MatchOption, slice_get, length, map, filter, slice_index_or, fold};
+ghost use Rattle.std.specs.Prelude.{◌≡◌, ◌<◌, ◌≤◌, ◌+◌, ◌^◌, [], true, All, OnOk, OnErr, None, Some, IfOk, MatchOption, length, map, filter, slice_index_or};
 ghost use Rattle.std.specs.Option.{option_copied};
-ghost use Rattle.std.specs.List.{list_any};
 ghost use Rattle.desk_runs.specs.declared.group.Group.{Group};
-ghost use Rattle.desk_runs.specs.declared.state.RunState.TheVariants.{WindowExpired, Canceled};
-ghost use Rattle.desk_runs.specs.States.{is_open, is_over, is_in};
+ghost use Rattle.plan_base.specs.declared.state.RequestState.TheVariants.{WindowExpired, Canceled};
+ghost use Rattle.plan_base.specs.States.{is_over, is_in};
+ghost use Rattle.desk_runs.specs.States.{is_open};
 ghost use Rattle.desk_runs.specs.Numbers.{requests_of, group_with, group_at, is_placed};
-ghost use Rattle.desk_runs.specs.Clock.{at_moment, settle, started, beginning, ending, requests_in, became, became_in};
-ghost use Rattle.desk_runs.specs.Turning.{no_group, is_open_at, turned};
-ghost use Rattle.desk_runs.specs.Adding.{requests_from, with_group, with_kept, CanPublish};
-ghost use Rattle.desk_runs.specs.Changes.{changed, put};
-ghost use Rattle.desk_runs.specs.Sound.{IsSound, IsLater, IsWithdrawable, CanChange};
-ghost use Rattle.desk_runs.specs.Reports.{completed, withdrawn, reported};
+ghost use Rattle.desk_runs.specs.Owners.{pending_count};
+ghost use Rattle.desk_runs.specs.Progress.{Progress};
+ghost use Rattle.desk_runs.specs.Clock.{at_moment, settle, started, beginning, ending, requests_in, became_in};
+ghost use Rattle.desk_runs.specs.Turning.{no_group, group_of};
+ghost use Rattle.desk_runs.specs.Adding.{with_group, with_kept, CanPublish, IsOneMore};
+ghost use Rattle.desk_runs.specs.Changes.{changed};
+ghost use Rattle.desk_runs.specs.Sound.{IsSound, IsWithdrawable, CanChange};
+ghost use Rattle.desk_runs.specs.Reports.{withdrawn, reported};
 
+use crate::by_number::{at_place, count_pending, group_of, keep_open, put_groups};
 use crate::change::{Change, Moved, Reported};
-use crate::expiry::{expire, extend_became, extend_over, turned};
-use crate::group::{Ask, Group, Request, canceled, completed};
+use crate::expiry::expire;
+use crate::group::{Ask, Group, canceled};
+use crate::new_group::{pending_requests, push_owners};
 use crate::observation::{Observation, is_placed};
-use crate::state::RunState;
+use crate::one_group::{became_of, change_one, over_of, settled_group};
 use crate::turn::{start, stop, without, without_one};
-use plan_base::{GroupNo, ListOf, Op, RequestNo, Sec};
+use plan_base::{GroupNo, ListOf, Op, RequestNo, RequestState, Sec};
 use std::alloc::{AllocError, Global};
 use std::marker::Model;
 
@@ -37,6 +41,8 @@ pub struct Runs {
     owners: Vec<usize>,
     // the numbers of the open groups, rising
     opened: Vec<GroupNo>,
+    // how many requests are pending
+    pending: usize,
     kept: ListOf<Observation>,
     running: ListOf<Observation>,
     alloc: Global,
@@ -65,6 +71,7 @@ impl Runs {
             groups: Vec::new(alloc),
             owners: Vec::new(alloc),
             opened: Vec::new(alloc),
+            pending: 0,
             kept: ListOf::new(alloc),
             running: ListOf::new(alloc),
             alloc,
@@ -91,6 +98,13 @@ impl Runs {
         ensures { result ≡ length (requests_of self.now.groups) }
     {
         self.owners.as_slice().len()
+    }
+
+    /// How many requests are pending.
+    pub fn pending(&self) -> usize
+        ensures { result ≡ pending_count self.now.groups }
+    {
+        self.pending
     }
 
     /// The numbers of the groups that are open, rising.
@@ -132,6 +146,14 @@ impl Runs {
         at_place(groups, (number.0 - 1) as usize)
     }
 
+    /// The group with a number that one has.
+    pub fn known(&self, number: GroupNo) -> &Group
+        requires { (1 ≤ number.0) × (number.0 ≤ length self.now.groups) }
+        ensures { result.now ≡ group_of self.now.groups number }
+    {
+        group_of(self.groups.as_slice(), number)
+    }
+
     // The place of the group of a request, if there is a request with the number.
     fn place_with(&self, number: RequestNo) -> Option<usize>
         ensures { MatchOption result (group_with self.now.groups number ≡ None)
@@ -158,7 +180,8 @@ impl Runs {
         }
     }
 
-    /// What another moment does: observations begin and end, and requests become window expired.
+    /// What another moment does: observations begin and end, and requests become window expired. Fails only for want of
+    /// memory.
     pub fn clock(&self, now: Sec) -> Result<Moved, AllocError>
         ensures started { IfOk result (λ m. m.started ≡ requests_in (beginning (at_moment now self.now))) }
         ensures failed { IfOk result (λ m. m.failed ≡ requests_in (ending (started (at_moment now self.now)))) }
@@ -211,7 +234,7 @@ impl Runs {
     }
 
     /// What a withdrawal of a group does, of which no request runs: its pending requests are canceled, and their kept
-    /// observations are dropped.
+    /// observations are dropped. Fails only for want of memory.
     pub fn withdraw(&self, number: GroupNo) -> Result<Change, AllocError>
         requires { IsWithdrawable number self.now }
         ensures withdrawn { IfOk result (λ change. changed self.now change ≡ withdrawn number self.now) }
@@ -234,7 +257,7 @@ impl Runs {
     }
 
     /// What a report on a running request does: it stops running, is completed or not, in which case of a `ONEOF` the
-    /// other pending members are canceled, and then the moment does what it does.
+    /// other pending members are canceled, and then the moment does what it does. Fails only for want of memory.
     pub fn report(&self, number: RequestNo, completes: bool) -> Result<Reported, AllocError>
         requires { is_placed self.now.running number ≡ true }
         ensures canceled { IfOk result (λ r. r.canceled ≡ became_in (is_in Canceled) self.now.groups (reported number completes self.now).groups) }
@@ -252,8 +275,8 @@ impl Runs {
             running.as_slice(),
             self.moment,
         )?;
-        let canceled = became_of(self.alloc, RunState::Canceled, group, &after)?;
-        let expired = became_of(self.alloc, RunState::WindowExpired, group, &after)?;
+        let canceled = became_of(self.alloc, RequestState::Canceled, group, &after)?;
+        let expired = became_of(self.alloc, RequestState::WindowExpired, group, &after)?;
         let over = over_of(self.alloc, group, &after)?;
         let kept = self.kept.as_slice();
         let change = change_one(
@@ -290,12 +313,27 @@ impl Runs {
         self.opened.reserve(1)?;
         push_owners(&mut self.owners, place, asks.len())?;
         self.opened.push_reserved(number);
+        self.pending += asks.len();
         self.groups.push_reserved(Group {
             number,
             op,
             requests,
         });
         Ok(number)
+    }
+
+    /// Takes the group that was added last away again. It takes no memory.
+    pub fn forget_last(&mut self)
+        requires { (before : Progress) × IsOneMore before self.old }
+        ensures { (before : Progress) → IsOneMore before self.old → self.new ≡ before }
+    {
+        let place = self.groups.as_slice().len() - 1;
+        let count = self.groups[place].requests.len();
+        let requests = self.owners.as_slice().len() - count;
+        self.groups.truncate(place);
+        self.owners.truncate(requests);
+        self.opened.pop();
+        self.pending -= count;
     }
 
     /// Publishes observations in the place of those that haven't started. It takes no memory.
@@ -319,151 +357,9 @@ impl Runs {
         } = change;
         put_groups(&mut self.groups, groups.into_vec());
         keep_open(&mut self.opened, self.groups.as_slice());
+        self.pending = count_pending(self.groups.as_slice(), self.opened.as_slice());
         self.moment = now;
         self.kept = kept;
         self.running = running;
     }
-}
-
-// The group at a place, if there is one.
-fn at_place(groups: &[Group], place: usize) -> Option<&Group>
-    ensures { option_copied result ≡ slice_get groups.now place }
-{
-    groups.get(place)
-}
-
-// The group of a reported request, completed or not, after the moment.
-fn settled_group(
-    alloc: Global,
-    group: &Group,
-    number: RequestNo,
-    completes: bool,
-    running: &[Observation],
-    now: Sec,
-) -> Result<Group, AllocError>
-    ensures { IfOk result (λ g. g ≡ turned running.now now (if completes then completed number group.now else group.now)) }
-{
-    if completes {
-        let done = completed(alloc, group, number)?;
-        return turned(alloc, &done, running, now);
-    }
-    turned(alloc, group, running, now)
-}
-
-// The requests of a group that were pending and no longer are.
-fn over_of(alloc: Global, before: &Group, after: &Group) -> Result<Vec<RequestNo>, AllocError>
-    requires { IsLater before.now after.now }
-    ensures { IfOk result (λ v. v.items ≡ became is_over before.now.requests after.now.requests) }
-{
-    let mut requests = Vec::new(alloc);
-    extend_over(
-        &mut requests,
-        before.requests.as_slice(),
-        after.requests.as_slice(),
-    )?;
-    Ok(requests)
-}
-
-// The requests of a group that were pending and now are in a state.
-fn became_of(
-    alloc: Global,
-    state: RunState,
-    before: &Group,
-    after: &Group,
-) -> Result<Vec<RequestNo>, AllocError>
-    requires { IsLater before.now after.now }
-    ensures { IfOk result (λ v. v.items ≡ became (is_in state) before.now.requests after.now.requests) }
-{
-    let mut requests = Vec::new(alloc);
-    let before = before.requests.as_slice();
-    extend_became(&mut requests, state, before, after.requests.as_slice())?;
-    Ok(requests)
-}
-
-// A list of one group.
-fn one(alloc: Global, group: Group) -> Result<ListOf<Group>, AllocError>
-    ensures { IfOk result (λ list. list ≡ group ∷ []) }
-{
-    let mut groups = Vec::with_capacity(alloc, 1)?;
-    groups.push(group).map_err(AllocError::from)?;
-    Ok(ListOf::from_vec(groups))
-}
-
-// The change of one group, with the observations of its requests that are over no longer kept.
-fn change_one(
-    alloc: Global,
-    now: Sec,
-    after: Group,
-    kept: &[Observation],
-    over: &[RequestNo],
-    running: Vec<Observation>,
-) -> Result<Change, AllocError>
-    ensures { IfOk result (λ c. c ≡ record { now = now; groups = after ∷ []; kept = filter (λ o. not (list_any (λ r. r.0 == o.request.0) over.now)) kept.now; running = running.items }) }
-{
-    let kept = without(alloc, kept, over)?;
-    let groups = one(alloc, after)?;
-    Ok(Change {
-        now,
-        groups,
-        kept: ListOf::from_vec(kept),
-        running: ListOf::from_vec(running),
-    })
-}
-
-// Pending requests for what is asked, with numbers from the first on.
-fn pending_requests(alloc: Global, first: u32, asks: &[Ask]) -> Result<ListOf<Request>, AllocError>
-    requires { first + length asks.now ≤ 2 ^ 32 }
-    ensures { IfOk result (λ requests. requests ≡ requests_from first asks.now) }
-{
-    let mut requests = Vec::new(alloc);
-    for (i, ask) in asks.iter().enumerate() {
-        requests.push(Request {
-            number: RequestNo(first + i as u32),
-            seconds: ask.seconds,
-            last: ask.last,
-            state: RunState::Pending,
-        })?;
-    }
-    Ok(ListOf::from_vec(requests))
-}
-
-// Adds the place of a group for each of its requests. Fails only for want of memory, and then changes nothing.
-fn push_owners(owners: &mut Vec<usize>, place: usize, count: usize) -> Result<(), AllocError>
-    requires { length owners.old.items + count < 2 ^ 32 }
-    ensures ok { OnOk result (owners.new.items ≡ owners.old.items ++ replicate count place) }
-    ensures err { OnErr result (owners.new.items ≡ owners.old.items) }
-{
-    owners.resize(owners.len() + count, place)
-}
-
-// Puts groups in the places of their numbers.
-fn put_groups(groups: &mut Vec<Group>, changed: Vec<Group>)
-    ensures { groups.new.items ≡ fold put groups.old.items changed.items }
-{
-    for group in changed {
-        let place = (group.number.0 as usize).saturating_sub(1);
-        if place < groups.len() {
-            groups[place] = group;
-        }
-    }
-}
-
-// Whether the group with a number is open.
-fn is_open_at(groups: &[Group], number: GroupNo) -> bool
-    ensures { result ≡ is_open_at groups.now number }
-{
-    if number.0 == 0 {
-        return false;
-    }
-    match groups.get((number.0 - 1) as usize) {
-        Some(group) => group.is_open(),
-        None => false,
-    }
-}
-
-// Keeps the numbers of groups that are open.
-fn keep_open(numbers: &mut Vec<GroupNo>, groups: &[Group])
-    ensures { numbers.new.items ≡ filter (is_open_at groups.now) numbers.old.items }
-{
-    numbers.retain(|number| is_open_at(groups, *number));
 }

@@ -9,7 +9,7 @@ use plan_base::{ListOf, RequestNo, Sec};
 use std::alloc::{AllocError, Global};
 use std::collections::BTreeSet;
 
-/// The observations that have begun, or those that haven't.
+/// The observations that have begun.
 pub fn begun(
     alloc: Global,
     observations: &[Observation],

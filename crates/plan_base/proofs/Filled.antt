@@ -86,7 +86,7 @@ quota_room q n m d (Some p) free within = by (p == q) (λ e. free (ap (λ (k : �
     by false h = omega arith
 
 -- a free start of an unplaced request fits, where nothing of its ONEOF is placed
-fits_free : (s : Parts) (plan : List Placement) (p : Placement) → IsFeasibleSoFar s plan → IsFree s plan p → ¬ (Contains (requests_of plan) p.request.0)
+pub fits_free : (s : Parts) (plan : List Placement) (p : Placement) → IsFeasibleSoFar s plan → IsFree s plan p → ¬ (Contains (requests_of plan) p.request.0)
     → All (λ r. ¬ (AreOfOneOneOf s r p.request.0)) (requests_of plan) → FitsPlan s plan p
 fits_free s plan p feasible free unplaced apart = record {
   unplaced = λ i d l e. unplaced (i, l, get_or_default (requests_of plan) i p.request.0 d l ∙ e);
@@ -111,7 +111,7 @@ outside_oneofs s plan g r k kind other of i d l (h, one_of, left, right) =
     other (one_kind s k OneOf g (subst (λ (n : ℕ). n < length s.groups) of.1 (group_known s r of.0)) kind (subst (IsKind s OneOf) same one_of))
 
 -- nor with any placed where nothing of its own ONEOF is placed
-outside_untouched : (s : Parts) (plan : List Placement) (g r : ℕ) → HasNonePlaced s plan g → IsOf s g r → All (λ a. ¬ (AreOfOneOneOf s a r)) (requests_of plan)
+pub outside_untouched : (s : Parts) (plan : List Placement) (g r : ℕ) → HasNonePlaced s plan g → IsOf s g r → All (λ a. ¬ (AreOfOneOneOf s a r)) (requests_of plan)
 outside_untouched s plan g r none of i d l (h, one_of, left, right) =
     let same : h ≡ g = sym right.1 ∙ of.1 in
     let in_group : Contains (members s g) (slice_index_or (requests_of plan) i d) = member_is_of s g _ (subst (λ (n : ℕ). IsOf s n (slice_index_or (requests_of plan) i d)) same left) in

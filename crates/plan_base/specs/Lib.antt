@@ -22,3 +22,4 @@ pub mod Planned
 pub mod Solved
 pub mod FeasibleSoFar
 pub mod BySpans
+pub mod States

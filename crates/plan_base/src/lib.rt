@@ -19,6 +19,7 @@ mod slicing;
 mod snapshot;
 mod solved;
 mod span;
+mod state;
 mod taken;
 #[cfg(test)]
 mod tests;
@@ -44,6 +45,7 @@ pub use slicing::{faded, larger, least_from, slices_for};
 pub use snapshot::Snapshot;
 pub use solved::Solved;
 pub use span::Span;
+pub use state::RequestState;
 pub use taken::{Outcome, Taken};
 pub use unique::{
     one_best, one_bound, one_canonical_use, one_filled_plan, one_rebate, one_repaired_plan,

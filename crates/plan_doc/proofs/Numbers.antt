@@ -22,27 +22,6 @@ mapped f g (Err e) = refl
 pub member_number : (least most : ℕ) (ms : Members) (m : Member) → member_of (number_in least most) ms m ≡ result_map unsigned_abs (member_of (λ k. whole_in k (pos least) (pos most)) ms m)
 member_number least most ms m = mapped unsigned_abs (whole_in m (pos least) (pos most)) (ok_or (value_of ms m) (Missing m))
 
--- ---- numbers that were read
-
-within_between : (least most : ℕ) (m : Member) (z : ℤ) → Gives (within m (pos least) (pos most) z) (λ y. IsBetween least most (unsigned_abs y))
-within_between least most m (pos n) =
-    if_test (λ y. IsBetween least most (unsigned_abs y)) (nat_le least n && nat_le n most) (pos n) (OutOfRange m)
-    (λ h. let both = and_parts _ _ h in record { low = leb-true least n both.0; high = leb-true n most both.1 })
-within_between least most m (negsuc n) = record { ok = tt }
-
-num_between : (least most : ℕ) (m : Member) (n : Num) → Gives (whole_number m (pos least) (pos most) n) (λ y. IsBetween least most (unsigned_abs y))
-num_between least most m (unsigned n) = within_between least most m (pos n)
-num_between least most m (negative z) = within_between least most m z
-num_between least most m (float x) = record { ok = tt }
-
-pub number_between : (least most : ℕ) (m : Member) (d : Data) → Gives (number_in least most m d) (IsBetween least most)
-number_between least most m null = record { ok = tt }
-number_between least most m (boolean b) = record { ok = tt }
-number_between least most m (number n) = made (IsBetween least most) unsigned_abs (num_between least most m n) (λ z p. p)
-number_between least most m (string s) = record { ok = tt }
-number_between least most m (array ds) = record { ok = tt }
-number_between least most m (object ms) = record { ok = tt }
-
 -- ---- prices
 
 within_prices : (m : Member) (z : ℤ) → Gives (within m (neg_ℤ highest_price) highest_price z) IsPrice

@@ -68,7 +68,7 @@ num_between least most m (unsigned n) = within_between least most m (pos n)
 num_between least most m (negative z) = within_between least most m z
 num_between least most m (float x) = record { ok = tt }
 
-number_between : (least most : ℕ) (m : Member) (d : Data) → Gives (number_in least most m d) (IsBetween least most)
+pub number_between : (least most : ℕ) (m : Member) (d : Data) → Gives (number_in least most m d) (IsBetween least most)
 number_between least most m null = record { ok = tt }
 number_between least most m (boolean b) = record { ok = tt }
 number_between least most m (number n) = made (IsBetween least most) unsigned_abs (num_between least most m n) (λ z p. p)
@@ -94,7 +94,7 @@ early : (o : Option ℕ) → IfSome o (λ n. n ≤ last_moment) → IfSome (opti
 early None h = tt
 early (Some n) h = h
 
-moment_early : (m : Member) (d : Data) → Gives (moment_in m d) IsEarly
+pub moment_early : (m : Member) (d : Data) → Gives (moment_in m d) IsEarly
 moment_early m null = record { ok = tt }
 moment_early m (boolean b) = record { ok = tt }
 moment_early m (number n) = made IsEarly (λ z. moment_at (unsigned_abs z)) (num_between 0 last_moment m n) (λ z p. p.high)

@@ -69,7 +69,8 @@ pub struct RequestDoc {
 }
 
 impl Location {
-    fn copy(&self) -> Result<Location, AllocError>
+    /// The same once more. Fails only for want of memory.
+    pub fn copy(&self) -> Result<Location, AllocError>
         ensures { IfOk result (λ copy. copy ≡ self.now) }
     {
         self.clone()

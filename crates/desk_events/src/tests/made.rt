@@ -1,10 +1,10 @@
 // Entries of the third caller's seventh line.
 
-use crate::{AccountBalance, EventEntry, GroupRefund, MemberState, Reply, RequestState, What};
+use crate::{AccountBalance, EventEntry, GroupRefund, MemberState, Reply, What};
 use allocations::{Account, Key};
 use plan_base::{
-    Claim, GroupNo, ListOf, Name, Op, Placement, Prices, QuotaPrices, RequestNo, SliceNo,
-    TelescopeNo,
+    Claim, GroupNo, ListOf, Name, Op, Placement, Prices, QuotaPrices, RequestNo, RequestState,
+    SliceNo, TelescopeNo,
 };
 use request_model::{GroupDoc, ObsKind};
 use std::alloc::{AllocError, Global};

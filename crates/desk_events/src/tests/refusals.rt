@@ -1,8 +1,8 @@
 // Each refusal as bytes.
 
-use crate::{EventEntry, FullOf, Refusal, Reply, RequestState, What, entry_text};
+use crate::{EventEntry, FullOf, Refusal, Reply, What, entry_text};
 use allocations::Account;
-use plan_base::{GroupNo, Op, Reason, RequestNo, Sec};
+use plan_base::{GroupNo, Op, Reason, RequestNo, RequestState, Sec};
 use plan_json::Member;
 use std::alloc::{AllocError, Global};
 use std::test::Fail;

@@ -12,10 +12,9 @@ ghost use Rattle.desk_events.specs.declared.refusal.Refusal.TheVariants as refus
 
 use crate::entry::EventEntry;
 use crate::refusal::{FullOf, Refusal};
-use crate::state::RequestState;
-use crate::write::words::{AccountWord, MemberName};
+use crate::write::words::{AccountWord, MemberName, StateWord};
 use allocations::Account;
-use plan_base::{Op, RequestNo, Sec};
+use plan_base::{Op, RequestNo, RequestState, Sec};
 use plan_json::{Member, object, word, write_json};
 use std::alloc::AllocError;
 
@@ -244,7 +243,7 @@ pub(crate) fn group_closed(
         "line": entry.line,
         "no": 25u8,
         "refused": word!("GroupClosed"),
-        "state": state,
+        "state": StateWord(state),
         "version": entry.version,
     );
     write_json(&object, out)

@@ -9,9 +9,9 @@ ghost use Rattle.desk_events.specs.declared.reply.Reply.TheVariants as reply;
 
 use crate::entry::EventEntry;
 use crate::reply::{AccountBalance, GroupRefund, MemberState};
-use crate::state::RequestState;
 use crate::write::values::ByNumber;
-use plan_base::{Claim, GroupNo, ListOf, RequestNo, Snapshot, TelescopeNo};
+use crate::write::words::StateWord;
+use plan_base::{Claim, GroupNo, ListOf, RequestNo, RequestState, Snapshot, TelescopeNo};
 use plan_doc::{ClaimDoc, SnapshotDoc};
 use plan_json::{Each, object, word, write_json};
 use request_model::GroupDoc;
@@ -268,7 +268,7 @@ pub(crate) fn shown(
         "line": entry.line,
         "ok": word!("shown"),
         "requests": requests,
-        "state": state,
+        "state": StateWord(state),
         "version": entry.version,
     );
     write_json(&object, out)

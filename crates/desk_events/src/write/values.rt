@@ -4,7 +4,7 @@ ghost use Rattle.plan_json.specs.Values.{whole};
 ghost use Rattle.desk_events.specs.Replied.{refund_data, balance_data, member_state_data};
 
 use crate::reply::{AccountBalance, GroupRefund, MemberState};
-use crate::write::words::AccountWord;
+use crate::write::words::{AccountWord, StateWord};
 use plan_base::RequestNo;
 use plan_json::{Form, Json, object};
 use std::alloc::AllocError;
@@ -59,7 +59,7 @@ impl Json for MemberState {
     fn write(&self, out: &mut Vec<u8>) -> Result<(), AllocError> {
         object!(
             "request": self.request.0,
-            "state": self.state,
+            "state": StateWord(self.state),
         )
         .write(out)
     }

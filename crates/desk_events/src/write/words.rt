@@ -6,8 +6,8 @@ ghost use Rattle.plan_json.specs.Member.{name_of};
 ghost use Rattle.desk_events.specs.Words.{state_word, account_word, full_word};
 
 use crate::refusal::FullOf;
-use crate::state::RequestState;
 use allocations::Account;
+use plan_base::RequestState;
 use plan_json::{Json, Member};
 use std::alloc::AllocError;
 
@@ -22,13 +22,17 @@ fn state_word(state: RequestState) -> &'static str
     }
 }
 
-impl Json for RequestState {
-    ghost value = { λ state. string (state_word state) };
+/// A state by its word.
+#[derive(Drop)]
+pub(crate) struct StateWord(pub(crate) RequestState);
+
+impl Json for StateWord {
+    ghost value = { λ word. string (state_word word.0) };
 
     ghost levels = { 0 };
 
     fn write(&self, out: &mut Vec<u8>) -> Result<(), AllocError> {
-        state_word(*self).write(out)
+        state_word(self.0).write(out)
     }
 }
 

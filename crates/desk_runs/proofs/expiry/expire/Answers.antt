@@ -1,6 +1,6 @@
-use Rattle.std.proofs.Common.{◌≡◌, ◌∙◌, ℕ, ◌<◌, length, ap, sym, arith}
+use Rattle.std.proofs.Common.{◌<◌, length, arith}
 use Rattle.plan_base.specs.declared.number.GroupNo.{GroupNo}
-use Rattle.desk_runs.specs.States.{is_over}
+use Rattle.plan_base.specs.States.{is_over}
 use Rattle.desk_runs.specs.Clock.{became}
 use Rattle.desk_runs.specs.Turning.{turned, is_touched}
 use Rattle.desk_runs.proofs.Turns.{changed_more, gathered_more}

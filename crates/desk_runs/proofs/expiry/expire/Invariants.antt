@@ -1,6 +1,6 @@
 use Rattle.std.proofs.Common.{◌≡◌, map, filter, take}
 use Rattle.std.specs.List.{flat_map}
-use Rattle.desk_runs.specs.States.{is_over}
+use Rattle.plan_base.specs.States.{is_over}
 use Rattle.desk_runs.specs.Clock.{became}
 use Rattle.desk_runs.specs.Turning.{turned, is_touched, groups_of}
 use Rattle.desk_runs.proofs.expiry.expire.Given as goal

@@ -1,5 +1,5 @@
 use Rattle.std.proofs.Common.{◌≡◌, ◌++◌, drop}
-use Rattle.desk_runs.specs.States.{is_over}
+use Rattle.plan_base.specs.States.{is_over}
 use Rattle.desk_runs.specs.Clock.{became}
 use Rattle.desk_runs.proofs.expiry.extend_over.Given as goal
 

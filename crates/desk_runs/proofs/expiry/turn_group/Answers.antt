@@ -1,4 +1,4 @@
-use Rattle.std.proofs.Common.{◌≡◌, ◌∙◌, ◌++◌, ap, sym, List}
+use Rattle.std.proofs.Common.{◌∙◌, ◌++◌, ap, sym, List}
 use Rattle.std.proofs.lemmas.List.{append-nil}
 use Rattle.plan_base.specs.declared.number.RequestNo.{RequestNo}
 use Rattle.desk_runs.proofs.Turns.{untouched_over}

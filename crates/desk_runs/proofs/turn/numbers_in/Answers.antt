@@ -1,4 +1,4 @@
-use Rattle.std.proofs.Common.{◌≡◌, ◌∙◌, ap, sym, ℕ, ◌<◌, List, [], length, take, get_or, arith}
+use Rattle.std.proofs.Common.{◌∙◌, ap, sym, ℕ, ◌<◌, List, [], length, get_or, arith}
 use Rattle.std.specs.Ordering.{nat_cmp}
 use Rattle.std.specs.BTreeSet.{insert_key}
 use Rattle.std.proofs.lemmas.List.Sums.{fold_more}

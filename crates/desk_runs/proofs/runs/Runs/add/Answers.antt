@@ -1,4 +1,4 @@
-use Rattle.std.proofs.Common.{◌≡◌, ◌∙◌, ◌+◌, ◌<◌, ◌≤◌, ◌^◌, ◌++◌, ◌∷◌, [], ℕ, List, length, map, filter, replicate, ap, sym, subst, arith}
+use Rattle.std.proofs.Common.{◌≡◌, ◌∙◌, ◌+◌, ◌<◌, ◌^◌, ◌++◌, ◌∷◌, [], ℕ, List, length, map, filter, replicate, ap, sym, subst, arith}
 use Rattle.plan_base.specs.declared.number.GroupNo.{GroupNo}
 use Rattle.desk_runs.specs.declared.group.Group.{Group}
 use Rattle.desk_runs.specs.declared.group.Request.{Request}
@@ -6,10 +6,11 @@ use Rattle.desk_runs.specs.States.{is_open}
 use Rattle.desk_runs.specs.Numbers.{requests_of}
 use Rattle.desk_runs.specs.Progress.{Progress}
 use Rattle.desk_runs.specs.Adding.{requests_from, next_group, with_group}
-use Rattle.desk_runs.specs.Owners.{owners_from}
+use Rattle.desk_runs.specs.Owners.{owners_from, pending_count}
 use Rattle.desk_runs.specs.Inside.{progress_of}
 use Rattle.desk_runs.specs.Sound.{IsSound}
 use Rattle.desk_runs.proofs.Places.{owners_length}
+use Rattle.desk_runs.proofs.Counts.{pending_more}
 use Rattle.desk_runs.proofs.Adding.{added_sound, opened_more, owners_more, requests_more, groups_more, asked_length}
 use Rattle.desk_runs.proofs.runs.Runs.add.Goals as goal
 
@@ -45,6 +46,7 @@ invariant_of-self c =
       sound = subst (λ (l : List Group). IsSound (record { len = inside.len; moment = inside.moment; groups = l; kept = inside.kept; running = inside.running })) same c.self.invariant.sound;
       opened = c.self.invariant.opened ∙ ap (λ (l : List Group). map (λ g. g.number) (filter is_open l)) same;
       owners = c.self.invariant.owners ∙ ap (owners_from 0) same;
+      pending = c.self.invariant.pending ∙ ap pending_count same;
       few_groups = subst (λ (l : List Group). length l < 2 ^ 32) same c.self.invariant.few_groups;
       few_requests = subst (λ (l : List Group). length (requests_of l) < 2 ^ 32) same c.self.invariant.few_requests;
     }
@@ -84,6 +86,7 @@ invariant_of-self-2 c =
       sound = subst (λ (l : List Group). IsSound (record { len = inside.len; moment = inside.moment; groups = l; kept = inside.kept; running = inside.running })) are sound;
       opened = opened ∙ sym (opened_more op asks s c.requires.some) ∙ ap (λ (l : List Group). map (λ x. x.number) (filter is_open l)) are;
       owners = owners ∙ sym (owners_more 0 gs g) ∙ ap (owners_from 0) are;
+      pending = ap (λ (n : ℕ). n + length asks) c.self.invariant.pending ∙ sym (pending_more op asks s) ∙ ap pending_count are;
       few_groups = subst (λ (l : List Group). length l < 2 ^ 32) are (subst (λ (n : ℕ). n < 2 ^ 32) (sym (groups_more op asks s)) few_too);
       few_requests = subst (λ (l : List Group). length (requests_of l) < 2 ^ 32) are (subst (λ (n : ℕ). n < 2 ^ 32) (sym (requests_more op asks s)) few);
     }

@@ -1,12 +1,11 @@
 use Rattle.std.proofs.Common.{Bool, ◌≡◌, ◌∙◌, ◌++◌, ap, sym, List, filter, map, not}
 use Rattle.plan_base.specs.declared.number.GroupNo.{GroupNo}
 use Rattle.plan_base.specs.declared.number.RequestNo.{RequestNo}
-use Rattle.desk_runs.specs.declared.change.Change.{Change}
 use Rattle.desk_runs.specs.declared.group.Group.{Group}
 use Rattle.desk_runs.specs.declared.observation.Observation.{Observation}
-use Rattle.desk_runs.specs.States.{is_open, is_over}
-use Rattle.desk_runs.specs.Progress.{Progress}
-use Rattle.desk_runs.specs.Clock.{has_begun, has_ended, became, became_in, settle, at_moment}
+use Rattle.plan_base.specs.States.{is_over}
+use Rattle.desk_runs.specs.States.{is_open}
+use Rattle.desk_runs.specs.Clock.{has_begun, has_ended, became, settle, at_moment}
 use Rattle.desk_runs.specs.Turning.{turned, is_touched, groups_of}
 use Rattle.desk_runs.specs.Changes.{changed}
 use Rattle.desk_runs.specs.Inside.{progress_of}
@@ -71,7 +70,8 @@ returns-clause-moved c = rw (← c.self.view_is) (does c)
 
 pub returns-clause-can : goal.returns-clause-can
 returns-clause-can c =
-    rw (← c.self.view_is) (can_move (progress_of c.self.inside) c.args.now (change_of c.args.now c.from_vec-2.result c.from_vec-3.result c.from_vec-4.result) c.self.invariant.sound (does c))
+    rw (← c.self.view_is) (can_move (progress_of c.self.inside) c.args.now (change_of c.args.now c.from_vec-2.result c.from_vec-3.result c.from_vec-4.result) c.self.invariant.sound (does c)
+    (c.from_vec-2.ensures ∙ groups_then c ∙ ap (λ (l : List Observation). found_groups l c.args.now c.self.inside.groups.items) (running_then c)))
 
 pub returns-clause-expired : goal.returns-clause-expired
 returns-clause-expired c =

@@ -1,4 +1,4 @@
-use Rattle.std.proofs.Common.{◌≡◌, ◌∙◌, sym, ap, None, Some}
+use Rattle.std.proofs.Common.{◌∙◌, sym, ap}
 use Rattle.std.specs.Option.{option_copied}
 use Rattle.desk_runs.proofs.Known.{running_found, none_is_some}
 use Rattle.desk_runs.proofs.runs.Runs.group_of_running.Goals as goal

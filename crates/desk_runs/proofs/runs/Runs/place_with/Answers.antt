@@ -1,5 +1,4 @@
 use Rattle.std.proofs.Common.{◌≡◌, ◌∙◌, ℕ, ◌+◌, ◌-◌, ◌<◌, ◌≤◌, ap, length, map, sym, subst, get_or, arith, List, Some}
-use Rattle.std.proofs.lemmas.List.{get_or_default}
 use Rattle.desk_runs.specs.Numbers.{requests_of, group_with}
 use Rattle.desk_runs.specs.Turning.{no_group}
 use Rattle.desk_runs.specs.Owners.{owners_from}

@@ -1,6 +1,3 @@
-use Rattle.std.proofs.Common.{◌≡◌, sym, subst}
-use Rattle.desk_runs.specs.Progress.{Progress}
-use Rattle.desk_runs.specs.Adding.{CanPublish}
 use Rattle.desk_runs.specs.Inside.{progress_of}
 use Rattle.desk_runs.proofs.Adding.{published_sound}
 use Rattle.desk_runs.proofs.runs.Runs.publish.Goals as goal
@@ -12,6 +9,7 @@ invariant_of-self c =
       sound = published_sound (progress_of c.self.inside) c.args.observations c.self.invariant.sound can;
       opened = c.self.invariant.opened;
       owners = c.self.invariant.owners;
+      pending = c.self.invariant.pending;
       few_groups = c.self.invariant.few_groups;
       few_requests = c.self.invariant.few_requests;
     }

@@ -3,8 +3,8 @@ use Rattle.plan_base.specs.declared.number.RequestNo.{RequestNo}
 use Rattle.desk_runs.specs.declared.change.Change.{Change}
 use Rattle.desk_runs.specs.declared.group.Group.{Group}
 use Rattle.desk_runs.specs.declared.observation.Observation.{Observation}
-use Rattle.desk_runs.specs.declared.state.RunState.TheVariants.{WindowExpired, Canceled}
-use Rattle.desk_runs.specs.States.{is_in}
+use Rattle.plan_base.specs.declared.state.RequestState.TheVariants.{WindowExpired, Canceled}
+use Rattle.plan_base.specs.States.{is_in}
 use Rattle.desk_runs.specs.Numbers.{group_with, is_placed}
 use Rattle.desk_runs.specs.Progress.{Progress}
 use Rattle.desk_runs.specs.Clock.{became}
@@ -13,7 +13,7 @@ use Rattle.desk_runs.specs.Inside.{progress_of}
 use Rattle.desk_runs.specs.Sound.{IsLater}
 use Rattle.desk_runs.proofs.Moves.{is_among}
 use Rattle.desk_runs.proofs.Reporting.{others}
-use Rattle.desk_runs.proofs.ReportChange.{later_finished, finished, settled_group, later_settled, report_found, told_found, told_canceled, told_expired, IsReport}
+use Rattle.desk_runs.proofs.ReportChange.{later_finished, finished, settled_group, report_found, told_found, told_canceled, told_expired, IsReport}
 use Rattle.desk_runs.proofs.runs.Runs.report.Goals as goal
 
 pub group_of_running-group-requires : goal.group_of_running-group-requires

@@ -1,4 +1,4 @@
-use Rattle.std.proofs.Common.{◌≡◌, ◌∙◌, ap, length, sym}
+use Rattle.std.proofs.Common.{◌∙◌, ap, length}
 use Rattle.desk_runs.proofs.Places.{owners_length}
 use Rattle.desk_runs.proofs.runs.Runs.requests.Goals as goal
 
