@@ -59,7 +59,9 @@ fn add_seconds(sums: &mut Vec<u64>, quota: Option<u16>, seconds: u64)
 /// The first quota that its seconds pass.
 pub(crate) fn first_quota_over(sums: &[u64], quotas: &[u64]) -> Option<usize>
     requires { length sums.now ≡ length quotas.now }
-    ensures { MatchOption result ((q : ℕ) → q < length quotas.now → slice_index_or sums.now q 0 ≤ slice_index_or quotas.now q 0) (IsFirst (λ q. (q < length quotas.now) × (slice_index_or quotas.now q 0 < slice_index_or sums.now q 0))) }
+    ensures { MatchOption result
+        ((q : ℕ) → q < length quotas.now → slice_index_or sums.now q 0 ≤ slice_index_or quotas.now q 0)
+        (IsFirst (λ q. (q < length quotas.now) × (slice_index_or quotas.now q 0 < slice_index_or sums.now q 0))) }
 {
     for (place, quota) in quotas.iter().enumerate() {
         if sums[place] > *quota {

@@ -12,9 +12,12 @@ use plan_base::{ListOf, MOST_QUOTA_PRICE};
 pub(crate) fn move_prices(prices: &mut ListOf<i64>, uses: &[u32], taken: &[bool], step: i64)
     requires uses { length uses.now ≡ length prices.old }
     requires taken { length prices.old ≤ length taken.now }
-    requires stay { (i : ℕ) → i < length prices.old → IsPriceInRange (stepped_price step (slice_index_or prices.old i (pos 0)) (slice_index_or uses.now i 0) (slice_index_or taken.now i false)) }
+    requires stay { (i : ℕ) → i < length prices.old
+        → IsPriceInRange (stepped_price step (slice_index_or prices.old i (pos 0)) (slice_index_or uses.now i 0) (slice_index_or taken.now i false)) }
     ensures count { length prices.new ≡ length prices.old }
-    ensures moved { (i : ℕ) → i < length prices.old → slice_index_or prices.new i (pos 0) ≡ stepped_price step (slice_index_or prices.old i (pos 0)) (slice_index_or uses.now i 0) (slice_index_or taken.now i false) }
+    ensures moved { (i : ℕ) → i < length prices.old
+        → slice_index_or prices.new i (pos 0)
+        ≡ stepped_price step (slice_index_or prices.old i (pos 0)) (slice_index_or uses.now i 0) (slice_index_or taken.now i false) }
 {
     for place in 0..prices.len() {
         move_price(prices, place, uses[place], taken[place], step);
@@ -57,7 +60,9 @@ pub(crate) fn move_quota_prices(
     requires quotas { length quotas.now ≡ length quota_prices.old }
     requires demands { length quota_prices.old ≤ length demands.now }
     ensures count { length quota_prices.new ≡ length quota_prices.old }
-    ensures moved { (q : ℕ) → q < length quota_prices.old → slice_index_or quota_prices.new q 0 ≡ moved_quota_price step (slice_index_or quota_prices.old q 0) (slice_index_or demands.now q 0) (slice_index_or quotas.now q 0) }
+    ensures moved { (q : ℕ) → q < length quota_prices.old
+        → slice_index_or quota_prices.new q 0
+        ≡ moved_quota_price step (slice_index_or quota_prices.old q 0) (slice_index_or demands.now q 0) (slice_index_or quotas.now q 0) }
 {
     for quota in 0..quota_prices.len() {
         let price = quota_prices.as_slice()[quota];

@@ -36,7 +36,8 @@ pub fn advance(
     requires uses { length uses.now ≡ length (listed snapshot.now) }
     requires stay { All IsPriceInRange (prices_after snapshot.now step prices.old.0 (net_price snapshot.now prices.old.0 quota_prices.old.0) uses.now) }
     ensures after { prices.new.0 ≡ prices_after snapshot.now step prices.old.0 (net_price snapshot.now prices.old.0 quota_prices.old.0) uses.now }
-    ensures next { (starts : List Placement) → pos 0 ≤ℤ step → AreUses snapshot.now starts uses.now → prices.new.0 ≡ next_prices snapshot.now (step_size step) prices.old.0 (net_price snapshot.now prices.old.0 quota_prices.old.0) starts }
+    ensures next { (starts : List Placement) → pos 0 ≤ℤ step → AreUses snapshot.now starts uses.now
+        → prices.new.0 ≡ next_prices snapshot.now (step_size step) prices.old.0 (net_price snapshot.now prices.old.0 quota_prices.old.0) starts }
     ensures quotas { quota_prices.new.0 ≡ next_quota_prices snapshot.now (step_size step) quota_prices.old.0 (net_price snapshot.now prices.old.0 quota_prices.old.0) }
 {
     let taken = taken_flags(snapshot, net.0.as_slice());

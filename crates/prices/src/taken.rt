@@ -33,7 +33,8 @@ fn write_group(snapshot: &Snapshot, group: usize, first: usize, net: &[i64], tak
     requires room { length (listed snapshot.now) ≤ length taken.old }
     ensures count { length taken.new ≡ length taken.old }
     ensures before { (k : ℕ) → k < first → slice_index_or taken.new k false ≡ slice_index_or taken.old k false }
-    ensures group { (i : ℕ) → i < length (members snapshot.now group) → slice_index_or taken.new (first + i) false ≡ is_taken snapshot.now (price snapshot.now net.now) (slice_index (members snapshot.now group) i) }
+    ensures group { (i : ℕ) → i < length (members snapshot.now group)
+        → slice_index_or taken.new (first + i) false ≡ is_taken snapshot.now (price snapshot.now net.now) (slice_index (members snapshot.now group) i) }
 {
     let op = snapshot.parts().groups.as_slice()[group].op;
     let count = member_count(snapshot, group);

@@ -14,7 +14,8 @@ use Rattle.plan_base.specs.Saturated.{HasNonePlaced}
 use Rattle.plan_base.proofs.Members.{is_of_member, member_is_of, members_rise}
 use Rattle.repair.specs.declared.entry.Entry.{Entry}
 use Rattle.repair.specs.Entries.{numbers_of}
-use Rattle.repair.proofs.Trying.{outside_oneofs, outside_untouched}
+use Rattle.plan_base.proofs.Filled.{outside_untouched}
+use Rattle.repair.proofs.Trying.{outside_oneofs}
 
 -- of a group that isn't a ONEOF no request is of one ONEOF with any
 pub outside_all : (s : Parts) (g : ℕ) (k : Op) (rs : List ℕ) → IsOrderly s → IsKind s k g → k ≢ OneOf → rs ≡ members s g → All (λ r. (a : ℕ) → ¬ (AreOfOneOneOf s a r)) rs

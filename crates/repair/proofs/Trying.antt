@@ -14,6 +14,7 @@ use Rattle.plan_base.specs.Starts.{ShareSlice}
 use Rattle.plan_base.specs.Feasible.{requests_of, AreOfOneOneOf, is_quota, quota_seconds, quota_at}
 use Rattle.plan_base.specs.FeasibleSoFar.{IsFeasibleSoFar}
 use Rattle.plan_base.specs.Saturated.{IsFree, HasNoFree, HasNonePlaced, IsEarliestFree}
+use Rattle.plan_base.proofs.Filled.{fits_free}
 use Rattle.plan_base.proofs.Adding.{FitsPlan, so_far_push, fits_from_push, seconds_towards}
 use Rattle.plan_base.proofs.Known.{quota_known}
 use Rattle.plan_base.proofs.Members.{member_is_of}
@@ -21,24 +22,6 @@ use Rattle.plan_base.proofs.Rebates.{one_kind}
 use Rattle.plan_base.proofs.Tables.{share_symmetric}
 use Rattle.repair.specs.Apart.{HasNoneApart, IsEarliestApart}
 use Rattle.repair.specs.Steps.{AddsSome, Places}
-
-quota_room : (q n m d : ℕ) (o : Option ℕ) → (o ≡ Some q → n + d ≤ m) → n ≤ m → n + cond (is_quota q o) d 0 ≤ m
-quota_room q n m d None free within = omega arith
-quota_room q n m d (Some p) free within = by (p == q) (λ e. free (ap (λ (k : ℕ). Some k) (eqb-true p q e)))
-  where
-    by : (b : Bool) → (b ≡ true → n + d ≤ m) → n + cond b d 0 ≤ m
-    by true h = h refl
-    by false h = omega arith
-
--- a free start of an unplaced request fits, where nothing of its ONEOF is placed
-pub fits_free : (s : Parts) (plan : List Placement) (p : Placement) → IsFeasibleSoFar s plan → IsFree s plan p → ¬ (Contains (requests_of plan) p.request.0)
-    → All (λ r. ¬ (AreOfOneOneOf s r p.request.0)) (requests_of plan) → FitsPlan s plan p
-fits_free s plan p feasible free unplaced apart = record {
-  unplaced = λ i d l e. unplaced (i, l, get_or_default (requests_of plan) i p.request.0 d l ∙ e);
-  apart = All-weaker (λ q. ¬ (ShareSlice s p q)) (λ q. ¬ (ShareSlice s q p)) (λ q h share. h (share_symmetric s q p share)) plan free.apart;
-  oneof_free = apart;
-  quota_free = λ q l. quota_room q (quota_seconds s q (requests_of plan)) (quota_at s q) (seconds_of s p.request.0) (quota_of s p.request.0) (free.within_quota q) (feasible.within_quotas q l);
-}
 
 named_share : (s : Parts) (q r : ℕ) → quota_of s r ≡ Some q → seconds_towards s q r ≡ seconds_of s r
 named_share s q r named = ap (λ (o : Option ℕ). cond (is_quota q o) (seconds_of s r) 0) named ∙ by_test (q == q) (self q)
@@ -96,13 +79,6 @@ pub outside_oneofs : (s : Parts) (g r a : ℕ) (k : Op) → IsKind s k g → k �
 outside_oneofs s g r a k kind other of (h, one_of, left, right) =
     let same : h ≡ g = sym right.1 ∙ of.1 in
     other (one_kind s g k OneOf kind (subst (IsKind s OneOf) same one_of))
-
--- nor one of a ONEOF of which none is placed with one that is placed
-pub outside_untouched : (s : Parts) (plan : List Placement) (g r : ℕ) → HasNonePlaced s plan g → IsOf s g r → All (λ a. ¬ (AreOfOneOneOf s a r)) (requests_of plan)
-outside_untouched s plan g r none of i d l (h, one_of, left, right) =
-    let same : h ≡ g = sym right.1 ∙ of.1 in
-    let in_group : Contains (members s g) (slice_index_or (requests_of plan) i d) = member_is_of s g _ (subst (λ (n : ℕ). IsOf s n (slice_index_or (requests_of plan) i d)) same left) in
-    All-contains (λ a. ¬ (Contains (requests_of plan) a)) (members s g) _ none in_group (Contains-get_or (requests_of plan) i d l)
 
 -- ---- steps
 

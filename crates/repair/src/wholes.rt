@@ -22,7 +22,8 @@ pub(crate) fn add_wholes(draft: &mut Draft<'_>, trials: &Trials, firsts: &[Optio
     requires own { AreOwn draft.old.snapshot firsts.now }
     ensures same { draft.new.snapshot ≡ draft.old.snapshot }
     ensures feasible { IsFeasible draft.old.snapshot draft.new.placed }
-    ensures adds { (starts : List Placement) → AreFirsts draft.old.snapshot starts firsts.now → AddsWholes draft.old.snapshot starts draft.old.placed (group_places draft.old.snapshot) draft.new.placed }
+    ensures adds { (starts : List Placement) → AreFirsts draft.old.snapshot starts firsts.now
+        → AddsWholes draft.old.snapshot starts draft.old.placed (group_places draft.old.snapshot) draft.new.placed }
 {
     for group in 0..trials.groups.len() {
         add_whole(draft, group, &trials.groups[group], firsts);
