@@ -26,7 +26,6 @@ macro_rules! rounds {
     };
 }
 
-mod desk;
 mod play;
 mod quotas;
 mod rounds;

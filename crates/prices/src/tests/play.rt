@@ -3,10 +3,10 @@
 ghost use Rattle.std.specs.Prelude.{◌≡◌, ◌↔◌, ◌≤◌, ◌^◌, pos, neg_ℤ, ◌≤ℤ◌, length, unsigned_abs, IsTrue, IfOk, All};
 ghost use Rattle.plan_base.specs.NetPrices.{IsNetInRange, net_prices};
 
-use super::desk::{Desk, VALUE, snapshot_of};
 use crate::{advance, lagrangian, step_of, zero_prices};
 use groups::{net, rebate};
 use plan_base::{ListOf, Prices, QuotaPrices, Snapshot};
+use sample_snapshots::{Sample, VALUE};
 use std::alloc::Global;
 use std::process::Abort;
 use std::test::Fail;
@@ -32,10 +32,10 @@ pub(super) struct Round<'a> {
 pub(super) fn assert_rounds(
     rt: &impl Abort,
     alloc: Global,
-    desk: &Desk,
+    sample: &Sample,
     rounds: &[Round],
 ) -> Result<(), Fail> {
-    let snapshot = snapshot_of(rt, alloc, desk)?;
+    let snapshot = sample.snapshot(alloc)?;
     for round in rounds {
         assert_bound(rt, alloc, &snapshot, round)?;
     }

@@ -1,17 +1,16 @@
 // Rounds with a quota of 300 seconds, worked out by hand. The steps of its price are those of the prices over 3,600: 13,
 // 6, 4, 3, 2, 2, 1 and 1. The net price of a request of 300 seconds is its price less 300 times that of the quota.
 
-use super::desk::{Desk, ONE};
 use super::play::{Round, assert_rounds};
 use plan_base::Op;
+use sample_snapshots::{ONE, Sample, TWO};
 use std::test::Fail;
 
 #[test]
 fn a_quota_that_is_passed_gets_a_price(rt: HostRuntime) -> Result<(), Fail> {
-    let desk = Desk {
-        groups: &[(Op::Single, 1), (Op::Single, 1)],
+    let sample = Sample {
         quota: Some(300),
-        ..ONE
+        ..TWO
     };
     let rounds = rounds![
         0: [0, 0], [0] gives [600_000] + [0, 0] + [0] = 600_000, uses [12, 0];
@@ -24,12 +23,12 @@ fn a_quota_that_is_passed_gets_a_price(rt: HostRuntime) -> Result<(), Fail> {
         7: [20_357, 29_643], [12] gives [355_716] + [16_757, 26_043] + [3_600] = 402_116, uses [12, 0];
         8: [26_607, 23_393], [13] gives [319_284] + [22_707, 19_493] + [3_900] = 365_384, uses [0, 12];
     ];
-    assert_rounds(&rt, rt.alloc(), &desk, &rounds)
+    assert_rounds(&rt, rt.alloc(), &sample, &rounds)
 }
 
 #[test]
 fn a_quota_that_is_not_used_up_gets_cheaper(rt: HostRuntime) -> Result<(), Fail> {
-    let desk = Desk {
+    let sample = Sample {
         groups: &[(Op::And, 2)],
         window: (0, 300),
         quota: Some(300),
@@ -44,5 +43,5 @@ fn a_quota_that_is_not_used_up_gets_cheaper(rt: HostRuntime) -> Result<(), Fail>
         5: [5_834, 0], [11] gives [50_000] + [0] + [3_300] = 53_300, uses [0, 1];
         6: [5_834, 8_333], [9] gives [44_166] + [8_767] + [2_700] = 55_633, uses [1, 0];
     ];
-    assert_rounds(&rt, rt.alloc(), &desk, &rounds)
+    assert_rounds(&rt, rt.alloc(), &sample, &rounds)
 }

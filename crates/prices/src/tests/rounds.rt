@@ -2,9 +2,9 @@
 // price, the first of several, if that is above 0: so are the uses counted, and the best of a telescope is the sum. The
 // steps of the rounds are 50000, 25000, 16666, 12500, 10000, 8333, 7142 and 6250.
 
-use super::desk::{Desk, ONE};
 use super::play::{Round, assert_rounds};
 use plan_base::Op;
+use sample_snapshots::{ONE, Sample, TWO};
 use std::test::Fail;
 
 #[test]
@@ -19,7 +19,7 @@ fn one_request_takes_its_whole_value_as_price(rt: HostRuntime) -> Result<(), Fai
 
 #[test]
 fn uses_are_counted_over_all_telescopes(rt: HostRuntime) -> Result<(), Fail> {
-    let desk = Desk {
+    let sample = Sample {
         telescopes: 2,
         window: (0, 300),
         ..ONE
@@ -29,15 +29,11 @@ fn uses_are_counted_over_all_telescopes(rt: HostRuntime) -> Result<(), Fail> {
         1: [50_000] gives [0, 0] + [50_000] = 50_000, uses [0];
         2: [25_000] gives [25_000, 25_000] + [25_000] = 75_000, uses [2];
     ];
-    assert_rounds(&rt, rt.alloc(), &desk, &rounds)
+    assert_rounds(&rt, rt.alloc(), &sample, &rounds)
 }
 
 #[test]
 fn two_requests_share_a_telescope(rt: HostRuntime) -> Result<(), Fail> {
-    let desk = Desk {
-        groups: &[(Op::Single, 1), (Op::Single, 1)],
-        ..ONE
-    };
     let rounds = rounds![
         0: [0, 0] gives [600_000] + [0, 0] = 600_000, uses [12, 0];
         1: [50_000, 0] gives [600_000] + [50_000, 0] = 650_000, uses [0, 12];
@@ -49,13 +45,13 @@ fn two_requests_share_a_telescope(rt: HostRuntime) -> Result<(), Fail> {
         7: [20_357, 29_643] gives [355_716] + [20_357, 29_643] = 405_716, uses [12, 0];
         8: [26_607, 23_393] gives [319_284] + [26_607, 23_393] = 369_284, uses [0, 12];
     ];
-    assert_rounds(&rt, rt.alloc(), &desk, &rounds)
+    assert_rounds(&rt, rt.alloc(), &TWO, &rounds)
 }
 
 #[test]
 fn a_fading_request_is_used_while_it_is_worth_its_price(rt: HostRuntime) -> Result<(), Fail> {
     // It is worth 35,000 in its first slice, 5,000 less in each later one, and 1 in the last two.
-    let desk = Desk {
+    let sample = Sample {
         usable: (900, 3_600),
         fade: 100,
         ..ONE
@@ -70,12 +66,12 @@ fn a_fading_request_is_used_while_it_is_worth_its_price(rt: HostRuntime) -> Resu
         6: [30_833] gives [4_167] + [30_833] = 35_000, uses [1];
         7: [30_833] gives [4_167] + [30_833] = 35_000, uses [1];
     ];
-    assert_rounds(&rt, rt.alloc(), &desk, &rounds)
+    assert_rounds(&rt, rt.alloc(), &sample, &rounds)
 }
 
 #[test]
 fn an_and_takes_all_or_none(rt: HostRuntime) -> Result<(), Fail> {
-    let desk = Desk {
+    let sample = Sample {
         groups: &[(Op::And, 2)],
         window: (0, 300),
         ..ONE
@@ -89,12 +85,12 @@ fn an_and_takes_all_or_none(rt: HostRuntime) -> Result<(), Fail> {
         5: [5_834, 0] gives [50_000] + [5_834] = 55_834, uses [0, 1];
         6: [-2_499, 0] gives [52_499] + [0] = 52_499, uses [1, 0];
     ];
-    assert_rounds(&rt, rt.alloc(), &desk, &rounds)
+    assert_rounds(&rt, rt.alloc(), &sample, &rounds)
 }
 
 #[test]
 fn a_oneof_takes_the_first_of_its_greatest_price(rt: HostRuntime) -> Result<(), Fail> {
-    let desk = Desk {
+    let sample = Sample {
         groups: &[(Op::OneOf, 2)],
         telescopes: 2,
         window: (0, 300),
@@ -109,5 +105,5 @@ fn a_oneof_takes_the_first_of_its_greatest_price(rt: HostRuntime) -> Result<(), 
         5: [39_166, 27_500] gives [22_500, 22_500] + [39_166] = 84_166, uses [0, 2];
         6: [30_833, 35_833] gives [19_167, 19_167] + [35_833] = 74_167, uses [2, 0];
     ];
-    assert_rounds(&rt, rt.alloc(), &desk, &rounds)
+    assert_rounds(&rt, rt.alloc(), &sample, &rounds)
 }

@@ -1,0 +1,19 @@
+// The rounds of all lanes, and the plan with its bound that they come to.
+#![tactic(auto)]
+
+mod found;
+mod lane;
+mod lane_prices;
+mod solve;
+mod solving;
+mod steps;
+mod sums;
+mod task;
+#[cfg(test)]
+mod tests;
+mod worker;
+mod worth;
+
+pub use lane::Lane;
+pub use solve::solve_plan;
+pub use steps::RoundAnswer;

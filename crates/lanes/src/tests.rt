@@ -1,0 +1,5 @@
+// Rounds, claims and the points that workers pass.
+
+mod claims;
+mod gates;
+mod rounds;
