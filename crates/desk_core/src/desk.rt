@@ -1,0 +1,69 @@
+// What an opened desk keeps.
+
+use allocations::Ledger;
+use desk_runs::Runs;
+use plan_base::{Claim, ListOf, Name, Settings, Snapshot, Span, TargetNo};
+use request_model::{GroupDoc, Location};
+use site_model::Network;
+
+/// What a desk was opened with, beside its moment.
+#[derive(Clone, Copy, Debug)]
+pub struct Opening {
+    /// How long a slice is, 60 to 3,600 seconds.
+    pub slice: u32,
+    /// How many slices the horizon has, 1 to 1,440.
+    pub horizon: u32,
+    /// All windows of all requests lie in it.
+    pub semester: Span,
+    /// How plans are sought.
+    pub settings: Settings,
+    /// The most seconds of one proposal in a plan, 1 to 100,000,000, where there is such a limit.
+    pub quota: Option<u64>,
+}
+
+/// What is kept of a request beside its number, its seconds and its state.
+#[derive(Debug, Drop)]
+pub struct Wanted {
+    /// Where it may be observed.
+    pub location: Location,
+    /// The instrument type that takes it.
+    pub instrument: Name,
+    /// The least percent, 0 to 100, that has to be taken for it to be completed.
+    pub threshold: u8,
+    /// The thousandths of the value, 0 to 1,000, that are lost with each slice of delay.
+    pub fade: u16,
+    /// What it is worth at its earliest slice, 1 to 288,000,000.
+    pub value: u32,
+    /// It lies inside one of these: those of its document, or the one that its cadence gave it.
+    pub windows: ListOf<Span>,
+    /// The numbers of its targets, each once, rising.
+    pub targets: ListOf<TargetNo>,
+}
+
+/// A group as it was submitted.
+#[derive(Debug, Drop)]
+pub struct Submitted {
+    pub document: GroupDoc,
+    /// The seconds that its proposal's ipp account was charged when it was submitted.
+    pub charged: u64,
+    /// The requests that were made from the document, in the order of their numbers.
+    pub requests: ListOf<Wanted>,
+}
+
+/// A claim that was published, and the snapshot that it was published for.
+#[derive(Debug, Drop)]
+pub struct Publication {
+    pub snapshot: Snapshot,
+    pub claim: Claim,
+}
+
+/// An opened desk. Its groups stand twice, in one order: as they were submitted, and how far they have come.
+#[derive(Debug, Drop)]
+pub struct Desk {
+    pub(crate) opening: Opening,
+    pub(crate) network: Network,
+    pub(crate) ledger: Ledger,
+    pub(crate) submitted: Vec<Submitted>,
+    pub(crate) runs: Runs,
+    pub(crate) published: Option<Publication>,
+}
