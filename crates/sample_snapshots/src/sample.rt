@@ -3,7 +3,7 @@
 use crate::fault::SampleFault;
 use crate::make::parts_of;
 use plan_base::{Op, Snapshot};
-use std::alloc::Global;
+use std::alloc::{AllocError, Global};
 
 /// The value of each request, in thousandths.
 pub const VALUE: u32 = 50_000;
@@ -56,6 +56,6 @@ impl<'a> Sample<'a> {
         let snapshot = Snapshot::build(alloc, Box::into_inner(parts)).map_err(
             SampleFault::NoSnapshot,
         )?;
-        Ok(Box::new(alloc, snapshot)?)
+        Ok(Box::new(alloc, snapshot).map_err(AllocError::from)?)
     }
 }
