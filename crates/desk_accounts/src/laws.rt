@@ -1,0 +1,9 @@
+// A law of histories, the contract of a function that does nothing.
+
+ghost use Rattle.desk_accounts.specs.Laws.{BalancesAreTold};
+
+/// A law: after every legal history each account has in the replayed state what the lines and the printed replies say: the
+/// seconds of its accepted grants, less the charges and net of the refunds that replies record; none before its first grant.
+pub fn balances_are_told()
+    ensures { BalancesAreTold }
+{}

@@ -1,0 +1,6 @@
+// What the printed replies tell of the accounts: balances are grants less recorded charges, net of refunds.
+#![tactic(auto)]
+
+mod laws;
+
+pub use laws::balances_are_told;
