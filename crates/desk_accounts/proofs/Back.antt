@@ -11,7 +11,7 @@ use Rattle.allocations.specs.declared.entry.Entry.{Entry}
 use Rattle.allocations.specs.declared.entry.Hold.{Hold}
 use Rattle.allocations.specs.declared.key.Key.{Key}
 use Rattle.allocations.specs.Books.{Books, GroupHolds}
-use Rattle.allocations.specs.Changes.{ipp_of, refund_entry}
+use Rattle.allocations.specs.Changes.{refund_entry}
 use Rattle.allocations.specs.Refusals.{ipp_key}
 use Rattle.desk_runs.specs.declared.group.Group.{Group}
 use Rattle.desk_runs.specs.Progress.{Progress}
@@ -148,21 +148,3 @@ progress_adds accounts d after h later paid =
     refunds_all all_of 0 d.books.entries [] ps d.books.holds (All-nil (λ x. x.group.0 ≤ 0)) along (λ k e l no. let bad : true ≡ false = no in cc)
     ∙ ap (filter_map (refund_of d.books)) (pairs_are d.groups d.progress.groups after.groups (as_submitted d h)) in
     record { more = a.more; entries = a.entries; tallies = λ key. a.tallies key ∙ ap (λ (rs : List GroupRefund). back_by accounts rs key) told }
-
--- ---- nothing is given back
-
--- what is told of a group's charge, if it stands
-abbrev refund_there : Books → Group → Option GroupRefund
-refund_there books g = option_map (λ h. record { group = g.number; seconds = h.seconds }) (ipp_of g.number books.holds)
-
-pub none_back : (books : Books) (ws : List Submitted) (gs hs : List Group) → length ws ≡ length gs → All (λ p. is_refunded p.1.0 p.1.1 ≡ false) (zip ws (zip gs hs))
-    → filter_map (refund_of books) (zip gs hs) ≡ []
-none_back books [] [] hs n h = refl
-none_back books [] (g ∷ gs) hs n h = absurd (omega arith)
-none_back books (w ∷ ws) [] hs n h = absurd (omega arith)
-none_back books (w ∷ ws) (g ∷ gs) [] n h = refl
-none_back books (w ∷ ws) (g ∷ gs) (x ∷ hs) n h =
-    let first : is_refunded g x ≡ false = All-head (λ p. is_refunded p.1.0 p.1.1 ≡ false) (w, (g, x)) (zip ws (zip gs hs)) h in
-    let one : refund_of books (g, x) ≡ None = ap (λ (b : Bool). let o : Option GroupRefund = cond b (refund_there books x) None in o) first in
-    ap (λ (o : Option GroupRefund). cons_option o (filter_map (refund_of books) (zip gs hs))) one
-    ∙ none_back books ws gs hs (omega arith) (All-tail (λ p. is_refunded p.1.0 p.1.1 ≡ false) (w, (g, x)) (zip ws (zip gs hs)) h)

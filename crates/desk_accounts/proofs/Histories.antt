@@ -1,5 +1,5 @@
 -- After each legal history the ledger's entries say what the history's entries tell.
-use Rattle.std.proofs.Common.{◌≡◌, ◌∙◌, ap, sym, subst, refl, ℕ, ◌+◌, List, [], ◌∷◌, ◌++◌, map, Option, Some, None, Result, Ok, Err}
+use Rattle.std.proofs.Common.{◌≡◌, ◌∙◌, ap, sym, subst, refl, ℕ, ◌+◌, ◌≤◌, arith, List, [], ◌∷◌, ◌++◌, Option, Some, None, Result, Ok, Err}
 use Rattle.std.specs.Prelude.{option_and_then}
 use Rattle.std.specs.List.{cons_option}
 use Rattle.std.specs.Option.{IfSome, option_to_list}
@@ -28,10 +28,11 @@ use Rattle.desk_core.specs.Publishing.{with_publication}
 use Rattle.desk_core.specs.Step.{IsSnapshotOf, step, balance_in, opened}
 use Rattle.desk_core.proofs.KeptPublishing.{snapshot_is}
 use Rattle.desk_core.proofs.Publications.{publication_keeps}
-use Rattle.desk_accounts.specs.Balance.{Told, told_by, GroupTold, group_told, groups_told, balance_after}
+use Rattle.desk_accounts.specs.Balance.{Told, told_by, GroupTold, group_told, groups_told, told_of, granted_told, charged_told, refunded_told, balance_after}
 use Rattle.desk_accounts.proofs.Known.{AreKnown, none_known}
 use Rattle.desk_accounts.proofs.Lines.{line_goes, told_step}
-use Rattle.desk_accounts.proofs.Steps.{entries_of, groups_of, Goes, refused_quiet, quiet_goes}
+use Rattle.desk_accounts.proofs.Covered.{IsCovered}
+use Rattle.desk_accounts.proofs.Goes.{books_of, groups_of, Goes, refused_quiet, quiet_goes}
 use Rattle.desk_accounts.proofs.Tallies.{Tally, plus, balance_from, tally_of, tally_by, tally_told, tally-append, told-push, Adds}
 
 -- ---- what an entry does
@@ -77,11 +78,13 @@ what_entry scripts before e Publish known h k r = published_entry known (replay 
 
 -- ---- what entries tell of a state
 
--- the desk is one, its groups are those that were told, and its ledger says what was told of each account, whatever is told later
+-- the desk is one, its groups are those that were told, its accounts are covered, and its ledger says what was told of each account,
+-- whatever is told later
 pub record AreTold (entries : List Told) (s : StateSeen) : Type 0 where
   pub desk : IfSome s.desk IsDesk
   pub groups : AreKnown (groups_told entries) (groups_of s)
-  pub tallies : (later : List GroupTold) (key : Key) → tally_of (entries_of s) key ≡ tally_told (groups_told entries ++ later) entries key
+  pub covered : IsCovered (books_of s)
+  pub tallies : (later : List GroupTold) (key : Key) → tally_of (books_of s).entries key ≡ tally_told (groups_told entries ++ later) entries key
 
 one_told : (o : Option GroupTold) → cons_option o [] ≡ option_to_list o
 one_told None = refl
@@ -94,13 +97,14 @@ told_more : (entries : List Told) (t : Told) (before after : StateSeen) → AreT
 told_more entries t before after h g = record {
   desk = g.desk;
   groups = subst (λ (l : List GroupTold). AreKnown l (groups_of after)) (sym (groups-push entries t)) g.groups;
+  covered = g.covers h.covered;
   tallies = λ later key.
       let own : List GroupTold = option_to_list (group_told t) in
       let all : List GroupTold = groups_told entries ++ (own ++ later) in
-      let adds : Adds (entries_of before) (entries_of after) (tally_by all t) = g.adds later in
+      let adds : Adds (books_of before).entries (books_of after).entries (tally_by all t) = g.adds later in
       let same : all ≡ groups_told (entries ++ t ∷ []) ++ later = sym (append_assoc (groups_told entries) own later) ∙ ap (λ (l : List GroupTold). l ++ later) (sym (groups-push entries t)) in
       ap (λ (l : List Entry). tally_of l key) adds.entries
-      ∙ tally-append (entries_of before) adds.more key
+      ∙ tally-append (books_of before).entries adds.more key
       ∙ ap (λ (x : Tally). plus x (tally_of adds.more key)) (h.tallies (own ++ later) key)
       ∙ ap (plus (tally_told all entries key)) (adds.tallies key)
       ∙ sym (told-push all entries t key)
@@ -108,9 +112,6 @@ told_more entries t before after h g = record {
 }
 
 -- ---- histories
-
-abbrev told_of : List (List ScriptLine) → List EventEntry → List Told
-told_of scripts history = map (told_by scripts) history
 
 entry_told : (scripts : List (List ScriptLine)) (before : List EventEntry) (e : EventEntry) → IsEntry scripts before e → AreTold (told_of scripts before) (replay scripts before)
     → AreTold (told_of scripts (before ++ e ∷ [])) (replay scripts (before ++ e ∷ []))
@@ -127,20 +128,33 @@ told_after scripts history before (e ∷ after) each is h =
     told_after scripts history (before ++ e ∷ []) after each (is ∙ sym (append_assoc before (e ∷ []) after)) (entry_told scripts before e (each before after e is) h)
 
 -- of every legal history
-pub legal_told : (scripts : List (List ScriptLine)) (history : List EventEntry) → IsLegal scripts history → AreTold (map (told_by scripts) history) (replay scripts history)
-legal_told scripts history h = told_after scripts history [] history h.each refl (record { desk = tt; groups = none_known; tallies = λ later key. refl })
+pub legal_told : (scripts : List (List ScriptLine)) (history : List EventEntry) → IsLegal scripts history → AreTold (told_of scripts history) (replay scripts history)
+legal_told scripts history h = told_after scripts history [] history h.each refl (record { desk = tt; groups = none_known; covered = λ key. omega arith; tallies = λ later key. refl })
 
 -- ---- balances
 
-balance_is : (o : Option DeskSeen) (version : ℕ) (key : Key) → option_and_then (λ d. balance_in d key) o ≡ balance_from (tally_of (entries_of (record { version = version; desk = o })) key)
+balance_is : (o : Option DeskSeen) (version : ℕ) (key : Key) → option_and_then (λ d. balance_in d key) o ≡ balance_from (tally_of (books_of (record { version = version; desk = o })).entries key)
 balance_is None version key = refl
 balance_is (Some d) version key = refl
+
+-- what the ledger says of an account after a legal history
+tally_is : (scripts : List (List ScriptLine)) (history : List EventEntry) (key : Key) → AreTold (told_of scripts history) (replay scripts history)
+    → tally_of (books_of (replay scripts history)).entries key ≡ tally_told (groups_told (told_of scripts history)) (told_of scripts history) key
+tally_is scripts history key told = told.tallies [] key ∙ ap (λ (l : List GroupTold). tally_told l (told_of scripts history) key) (append-nil (groups_told (told_of scripts history)))
 
 pub balances_told : (scripts : List (List ScriptLine)) (history : List EventEntry) (key : Key) → IsLegal scripts history
     → option_and_then (λ d. balance_in d key) (replay scripts history).desk ≡ balance_after scripts history key
 balances_told scripts history key h =
-    let entries : List Told = map (told_by scripts) history in
     let s : StateSeen = replay scripts history in
-    let told : AreTold entries s = legal_told scripts history h in
-    balance_is s.desk s.version key
-    ∙ ap balance_from (told.tallies [] key ∙ ap (λ (l : List GroupTold). tally_told l entries key) (append-nil (groups_told entries)))
+    balance_is s.desk s.version key ∙ ap balance_from (tally_is scripts history key (legal_told scripts history h))
+
+pub charges_covered : (scripts : List (List ScriptLine)) (history : List EventEntry) (key : Key) → IsLegal scripts history
+    → charged_told (told_of scripts history) key ≤ granted_told (told_of scripts history) key + refunded_told (told_of scripts history) key
+charges_covered scripts history key h =
+    let told : AreTold (told_of scripts history) (replay scripts history) = legal_told scripts history h in
+    let tally = tally_is scripts history key told in
+    let granted = ap (λ (t : Tally). t.granted) tally in
+    let charged = ap (λ (t : Tally). t.charged) tally in
+    let back = ap (λ (t : Tally). t.back) tally in
+    let covered = told.covered key in
+    omega (arith, granted, charged, back, covered)

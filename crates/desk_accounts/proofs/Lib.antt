@@ -3,7 +3,11 @@ pub mod Tallies
 pub mod Back
 pub mod Known
 pub mod Requests
-pub mod Steps
+pub mod Covered
+pub mod Booked
+pub mod Goes
+pub mod Submitting
+pub mod Reporting
 pub mod Lines
 pub mod Histories
 mod Examples

@@ -9,6 +9,7 @@ use Rattle.plan_base.specs.declared.verdict.Verdict.{Verdict}
 use Rattle.plan_base.specs.declared.verdict.Verdict.TheVariants.{Yes, No}
 use Rattle.plan_json.specs.Moment.{last_moment}
 use Rattle.site_model.specs.declared.changes.Change.TheVariants.{Close, Reopen}
+use Rattle.site_model.specs.declared.code.Code.{Code}
 use Rattle.desk_runs.specs.Clock.{at_moment, settle}
 use Rattle.desk_runs.specs.declared.group.Group.{Group}
 use Rattle.desk_runs.specs.Reports.{withdrawn}
@@ -40,21 +41,23 @@ use Rattle.desk_core.proofs.KeptTiming.{clock_keeps, withdraw_keeps}
 use Rattle.desk_core.proofs.Publications.{publish_keeps}
 use Rattle.desk_accounts.specs.Balance.{GroupTold}
 use Rattle.desk_accounts.proofs.Known.{groups_in, AreKnown}
-use Rattle.desk_accounts.proofs.Steps.{groups_of, Goes, IsQuiet, refused_quiet, quiet_goes, decided_goes, progress_goes, grant_goes, submit_goes, amend_goes, report_goes}
+use Rattle.desk_accounts.proofs.Goes.{groups_of, Goes, told_at, IsQuiet, refused_quiet, quiet_goes, quiet_line, decided_goes, progress_line, grant_line}
+use Rattle.desk_accounts.proofs.Reporting.{report_line}
+use Rattle.desk_accounts.proofs.Submitting.{submit_line, amend_line}
 
 -- ---- what is only told
 
 -- a step that is quiet and leaves the state
-same_goes : (known : List GroupTold) (s : StateSeen) (line : Result Command CommandFault) (now stepped : Stepped) → IfSome s.desk IsDesk → AreKnown known (groups_of s)
-    → IsQuiet (record { line = line; reply = now.reply }) → s ≡ now.state → Some now ≡ Some stepped → Goes known (record { line = line; reply = stepped.reply }) s stepped.state
-same_goes known s line now stepped h k quiet same is =
-    subst (λ (x : Stepped). Goes known (record { line = line; reply = x.reply }) s x.state) (same_Some now stepped is)
-    (subst (λ (after : StateSeen). Goes known (record { line = line; reply = now.reply }) s after) same (quiet_goes known (record { line = line; reply = now.reply }) s s quiet h k refl refl))
+same_goes : (known : List GroupTold) (s : StateSeen) (c : Command) (now stepped : Stepped) → IfSome s.desk IsDesk → AreKnown known (groups_of s) → IsQuiet (told_at c now.reply) → s ≡ now.state
+    → Some now ≡ Some stepped → Goes known (told_at c stepped.reply) s stepped.state
+same_goes known s c now stepped h k quiet same is =
+    subst (λ (x : Stepped). Goes known (told_at c x.reply) s x.state) (same_Some now stepped is)
+    (subst (Goes known (told_at c now.reply) s) same (quiet_goes known (told_at c now.reply) s s quiet h k refl refl))
 
-told_goes : (known : List GroupTold) (version : ℕ) (d : DeskSeen) (line : Result Command CommandFault) (answer : Result Reply Refusal) (stepped : Stepped) → IsDesk d → AreKnown known (groups_in d)
-    → IfOk answer (λ r. IsQuiet (record { line = line; reply = r })) → Some (told (opened version d) answer) ≡ Some stepped → Goes known (record { line = line; reply = stepped.reply }) (opened version d) stepped.state
-told_goes known version d line (Ok r) stepped h k quiet is = same_goes known (opened version d) line (record { reply = r; state = opened version d }) stepped h k quiet refl is
-told_goes known version d line (Err refusal) stepped h k quiet is = same_goes known (opened version d) line (refused (opened version d) refusal) stepped h k (refused_quiet line refusal) refl is
+told_goes : (known : List GroupTold) (version : ℕ) (d : DeskSeen) (c : Command) (answer : Result Reply Refusal) (stepped : Stepped) → IsDesk d → AreKnown known (groups_in d)
+    → IfOk answer (λ r. IsQuiet (told_at c r)) → Some (told (opened version d) answer) ≡ Some stepped → Goes known (told_at c stepped.reply) (opened version d) stepped.state
+told_goes known version d c (Ok r) stepped h k quiet is = same_goes known (opened version d) c (record { reply = r; state = opened version d }) stepped h k quiet refl is
+told_goes known version d c (Err refusal) stepped h k quiet is = same_goes known (opened version d) c (refused (opened version d) refusal) stepped h k (refused_quiet (Ok c) refusal) refl is
 
 export_quiet : (line : Result Command CommandFault) (o : Option Publication) → IfOk (on_export o) (λ r. IsQuiet (record { line = line; reply = r }))
 export_quiet line None = tt
@@ -67,59 +70,58 @@ shown_quiet line (Some p) = record { group = refl; tally = λ groups key. refl }
 -- ---- an opened desk
 
 line_opened : (known : List GroupTold) (version : ℕ) (d : DeskSeen) (c : Command) (stepped : Stepped) → IsDesk d → AreKnown known (groups_in d) → IsCommand c → IsStep (opened version d) c stepped
-    → Goes known (record { line = Ok c; reply = stepped.reply }) (opened version d) stepped.state
+    → Goes known (told_at c stepped.reply) (opened version d) stepped.state
 line_opened known version d (command.Open now slice horizon semester lanes rounds workers quota) stepped h k ranges s =
-    same_goes known (opened version d) (Ok (command.Open now slice horizon semester lanes rounds workers quota)) (refused (opened version d) AlreadyOpened) stepped h k
+    same_goes known (opened version d) (command.Open now slice horizon semester lanes rounds workers quota) (refused (opened version d) AlreadyOpened) stepped h k
     (refused_quiet (Ok (command.Open now slice horizon semester lanes rounds workers quota)) AlreadyOpened) refl s.2
 line_opened known version d (command.Instrument name front config readout change) stepped h k ranges s =
-    decided_goes known version d (Ok (command.Instrument name front config readout change)) (on_instrument d name (times front config readout change)) stepped h k s.2
-    (λ none. quiet_goes known _ (opened version d) (opened (version + 1) _) (record { group = refl; tally = λ groups key. refl }) (instrument_keeps d name (times front config readout change) h) k refl refl)
+    decided_goes known version d (command.Instrument name front config readout change) (on_instrument d name (times front config readout change)) stepped h k s.2
+    (λ none. quiet_line known version d _ (command.Instrument name front config readout change) _ (record { group = refl; tally = λ groups key. refl }) (instrument_keeps d name (times front config readout change) h) k refl refl)
 line_opened known version d (command.Telescope site enclosure telescope class instruments) stepped h k ranges s =
-    decided_goes known version d (Ok (command.Telescope site enclosure telescope class instruments)) (on_telescope d record { site = site; enclosure = enclosure; telescope = telescope } class instruments) stepped h k s.2
+    let code : Code = record { site = site; enclosure = enclosure; telescope = telescope } in
+    decided_goes known version d (command.Telescope site enclosure telescope class instruments) (on_telescope d code class instruments) stepped h k s.2
     (λ none.
-    quiet_goes known _ (opened version d) (opened (version + 1) _) (record { group = refl; tally = λ groups key. refl })
-    (telescope_keeps d record { site = site; enclosure = enclosure; telescope = telescope } class instruments h none) k refl refl)
+    quiet_line known version d _ (command.Telescope site enclosure telescope class instruments) _ (record { group = refl; tally = λ groups key. refl })
+    (telescope_keeps d code class instruments h none) k refl refl)
 line_opened known version d (command.Night site spans) stepped h k ranges s =
-    decided_goes known version d (Ok (command.Night site spans)) (on_night d site spans) stepped h k s.2
-    (λ none. quiet_goes known _ (opened version d) (opened (version + 1) _) (record { group = refl; tally = λ groups key. refl }) (night_keeps d site spans h) k refl refl)
+    decided_goes known version d (command.Night site spans) (on_night d site spans) stepped h k s.2
+    (λ none. quiet_line known version d _ (command.Night site spans) _ (record { group = refl; tally = λ groups key. refl }) (night_keeps d site spans h) k refl refl)
 line_opened known version d (command.Visibility target site spans) stepped h k ranges s =
-    decided_goes known version d (Ok (command.Visibility target site spans)) (on_visibility d target site spans) stepped h k s.2
-    (λ none. quiet_goes known _ (opened version d) (opened (version + 1) _) (record { group = refl; tally = λ groups key. refl }) (visibility_keeps d target site spans h) k refl refl)
+    decided_goes known version d (command.Visibility target site spans) (on_visibility d target site spans) stepped h k s.2
+    (λ none. quiet_line known version d _ (command.Visibility target site spans) _ (record { group = refl; tally = λ groups key. refl }) (visibility_keeps d target site spans h) k refl refl)
 line_opened known version d (command.Close scope spans) stepped h k ranges s =
-    decided_goes known version d (Ok (command.Close scope spans)) (on_closure d Close scope spans reply.Closed) stepped h k s.2
-    (λ none. quiet_goes known _ (opened version d) (opened (version + 1) _) (record { group = refl; tally = λ groups key. refl }) (closure_keeps d Close scope spans reply.Closed h none) k refl refl)
+    decided_goes known version d (command.Close scope spans) (on_closure d Close scope spans reply.Closed) stepped h k s.2
+    (λ none. quiet_line known version d _ (command.Close scope spans) _ (record { group = refl; tally = λ groups key. refl }) (closure_keeps d Close scope spans reply.Closed h none) k refl refl)
 line_opened known version d (command.Reopen scope spans) stepped h k ranges s =
-    decided_goes known version d (Ok (command.Reopen scope spans)) (on_closure d Reopen scope spans reply.Reopened) stepped h k s.2
-    (λ none. quiet_goes known _ (opened version d) (opened (version + 1) _) (record { group = refl; tally = λ groups key. refl }) (closure_keeps d Reopen scope spans reply.Reopened h none) k refl refl)
+    decided_goes known version d (command.Reopen scope spans) (on_closure d Reopen scope spans reply.Reopened) stepped h k s.2
+    (λ none. quiet_line known version d _ (command.Reopen scope spans) _ (record { group = refl; tally = λ groups key. refl }) (closure_keeps d Reopen scope spans reply.Reopened h none) k refl refl)
 line_opened known version d (command.Grant key seconds) stepped h k ranges s =
-    decided_goes known version d (Ok (command.Grant key seconds)) (on_grant d key seconds) stepped h k s.2
-    (λ none. grant_goes known version d (on_grant d key seconds).desk key seconds _ (grant_keeps d key seconds h) k refl refl)
+    decided_goes known version d (command.Grant key seconds) (on_grant d key seconds) stepped h k s.2
+    (λ none. grant_line known version d (on_grant d key seconds).desk key seconds _ (grant_keeps d key seconds h) k refl refl)
 line_opened known version d (command.Submit document) stepped h k ranges s =
-    decided_goes known version d (Ok (command.Submit document)) (on_submit d document) stepped h k s.2 (submit_goes known version d document h ranges k)
+    decided_goes known version d (command.Submit document) (on_submit d document) stepped h k s.2 (submit_line known version d document h ranges k)
 line_opened known version d (command.Amend old document) stepped h k ranges s =
-    decided_goes known version d (Ok (command.Amend old document)) (on_amend d old document) stepped h k s.2 (amend_goes known version d old document h ranges k)
+    decided_goes known version d (command.Amend old document) (on_amend d old document) stepped h k s.2 (amend_line known version d old document h ranges k)
 line_opened known version d (command.Withdraw group) stepped h k ranges s =
-    decided_goes known version d (Ok (command.Withdraw group)) (on_withdraw d group) stepped h k s.2
+    decided_goes known version d (command.Withdraw group) (on_withdraw d group) stepped h k s.2
     (λ none.
-    progress_goes known version d (withdrawn group d.progress) (record { line = Ok (command.Withdraw group); reply = (on_withdraw d group).reply }) h (withdraw_keeps d group h none)
+    progress_line known version d (withdrawn group d.progress) (command.Withdraw group) (on_withdraw d group).reply h (withdraw_keeps d group h none)
     (withdrawal_goes_on d.progress group).later k refl (λ groups key. refl))
 line_opened known version d (command.Clock at) stepped h k ranges s =
-    decided_goes known version d (Ok (command.Clock at)) (on_clock d at) stepped h k s.2
+    decided_goes known version d (command.Clock at) (on_clock d at) stepped h k s.2
     (λ none.
-    progress_goes known version d (settle (at_moment at d.progress)) (record { line = Ok (command.Clock at); reply = (on_clock d at).reply }) h (clock_keeps d at h ranges)
+    progress_line known version d (settle (at_moment at d.progress)) (command.Clock at) (on_clock d at).reply h (clock_keeps d at h ranges)
     (moment_goes_on d.progress at).later k refl (λ groups key. refl))
 line_opened known version d (command.Report request percent used) stepped h k ranges s =
-    decided_goes known version d (Ok (command.Report request percent used)) (on_report d request percent used) stepped h k s.2 (report_goes known version d request percent used h k)
+    decided_goes known version d (command.Report request percent used) (on_report d request percent used) stepped h k s.2 (report_line known version d request percent used h k)
 line_opened known version d command.Plan stepped h k ranges s = absurd (cc)
 line_opened known version d (command.Publish asked claim) stepped h k ranges s =
-    decided_goes known version d (Ok (command.Publish asked claim)) (on_publish s.0 version d asked claim) stepped h k s.2
-    (λ none.
-    quiet_goes known _ (opened version d) (opened (version + 1) _) (record { group = refl; tally = λ groups key. refl })
-    (publish_keeps s.0 version d asked claim h (λ same. s.1 same _ (d, refl, refl)) none) k refl refl)
-line_opened known version d command.Export stepped h k ranges s = told_goes known version d (Ok command.Export) (on_export d.published) stepped h k (export_quiet (Ok command.Export) d.published) s.2
+    decided_goes known version d (command.Publish asked claim) (on_publish s.0 version d asked claim) stepped h k s.2
+    (λ none. quiet_line known version d _ (command.Publish asked claim) _ (record { group = refl; tally = λ groups key. refl }) (publish_keeps s.0 version d asked claim h (λ same. s.1 same _ (d, refl, refl)) none) k refl refl)
+line_opened known version d command.Export stepped h k ranges s = told_goes known version d command.Export (on_export d.published) stepped h k (export_quiet (Ok command.Export) d.published) s.2
 line_opened known version d command.Balances stepped h k ranges s =
-    told_goes known version d (Ok command.Balances) (on_balances d.books) stepped h k (record { group = refl; tally = λ groups key. refl }) s.2
-line_opened known version d (command.Show group) stepped h k ranges s = told_goes known version d (Ok (command.Show group)) (on_show d group) stepped h k (shown_quiet (Ok (command.Show group)) _) s.2
+    told_goes known version d command.Balances (on_balances d.books) stepped h k (record { group = refl; tally = λ groups key. refl }) s.2
+line_opened known version d (command.Show group) stepped h k ranges s = told_goes known version d (command.Show group) (on_show d group) stepped h k (shown_quiet (Ok (command.Show group)) _) s.2
 
 -- ---- before the desk is opened
 
@@ -149,7 +151,7 @@ line_unopened known version (command.Open now slice horizon semester lanes round
     })
     ranges.moment s.2
 line_unopened known version c stepped k ranges s =
-    same_goes known (record { version = version; desk = None }) (Ok c) (refused (record { version = version; desk = None }) NotOpened) stepped tt k (refused_quiet (Ok c) NotOpened) refl s.2
+    same_goes known (record { version = version; desk = None }) c (refused (record { version = version; desk = None }) NotOpened) stepped tt k (refused_quiet (Ok c) NotOpened) refl s.2
 
 -- a line's step adds to the ledger what its entry tells
 pub line_goes : (known : List GroupTold) (version : ℕ) (o : Option DeskSeen) (c : Command) (stepped : Stepped) → IfSome o IsDesk → AreKnown known (groups_of (record { version = version; desk = o }))

@@ -214,7 +214,7 @@ nothing_on key (Some k) = by (is_key k key)
     by false = refl
 
 -- the ipp charge, if there is one
-abbrev charge_if : Bool → List ℕ → ℕ → Option Hold
+abbrev pub charge_if : Bool → List ℕ → ℕ → Option Hold
 charge_if b proposal charged = cond b (Some (record { key = ipp_key proposal; seconds = charged })) None
 
 abbrev pub only_charged : ℕ → Tally

@@ -159,18 +159,28 @@ refunded_by groups key t = sum_by (refund_on (group_accounts groups) key) (refun
 
 -- ---- balances
 
+-- the entries of a history as they are told
+abbrev pub told_of : List (List ScriptLine) → List EventEntry → List Told
+told_of scripts history = map (told_by scripts) history
+
 -- whether an account was granted seconds
 abbrev pub has_grant_told : List Told → Key → Bool
 has_grant_told entries key = list_any (grants_to key) entries
 
--- the seconds that were granted and given back to an account, less those that were charged
-abbrev pub seconds_told : List GroupTold → List Told → Key → ℕ
-seconds_told groups entries key = sum_by (granted_by key) entries + sum_by (refunded_by groups key) entries - sum_by (charged_by groups key) entries
+-- the seconds that it was granted, that it was charged, and that it got back
+abbrev pub granted_told : List Told → Key → ℕ
+granted_told entries key = sum_by (granted_by key) entries
 
--- the balance that entries tell of an account, none where it has no grant
+abbrev pub charged_told : List Told → Key → ℕ
+charged_told entries key = sum_by (charged_by (groups_told entries) key) entries
+
+abbrev pub refunded_told : List Told → Key → ℕ
+refunded_told entries key = sum_by (refunded_by (groups_told entries) key) entries
+
+-- its balance: grants less charges, net of refunds; none where it has no grant
 abbrev pub balance_told : List Told → Key → Option ℕ
-balance_told entries key = if has_grant_told entries key then Some (seconds_told (groups_told entries) entries key) else None
+balance_told entries key = if has_grant_told entries key then Some (granted_told entries key + refunded_told entries key - charged_told entries key) else None
 
 -- the balance of an account after a history
 abbrev pub balance_after : List (List ScriptLine) → List EventEntry → Key → Option ℕ
-balance_after scripts history key = balance_told (map (told_by scripts) history) key
+balance_after scripts history key = balance_told (told_of scripts history) key

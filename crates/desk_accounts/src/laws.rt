@@ -1,9 +1,14 @@
-// A law of histories, the contract of a function that does nothing.
+// Laws of histories, each the contract of a function that does nothing.
 
-ghost use Rattle.desk_accounts.specs.Laws.{BalancesAreTold};
+ghost use Rattle.desk_accounts.specs.Laws.{BalancesAreTold, ChargesAreCovered};
 
 /// A law: after every legal history each account has in the replayed state what the lines and the printed replies say: the
 /// seconds of its accepted grants, less the charges and net of the refunds that replies record; none before its first grant.
 pub fn balances_are_told()
     ensures { BalancesAreTold }
+{}
+
+/// A law: no account is charged more than it was granted and got back, so that a balance has nothing cut off.
+pub fn charges_are_covered()
+    ensures { ChargesAreCovered }
 {}
