@@ -80,19 +80,23 @@ one_back accounts p key later paid =
     refund_tally p.1.1.number (record { key = ipp_key p.0.document.proposal; seconds = p.0.charged }) key
     ∙ ap (λ (n : ℕ). let t : Tally = record { granted = 0; has = false; charged = 0; back = n } in t) (sym (sum ∙ seconds))
 
+-- what is told of a charge that is given back
+abbrev refund_told : Submitted × (Group × Group) → Option Hold → Option GroupRefund
+refund_told p o = option_map (λ h. record { group = p.1.1.number; seconds = h.seconds }) o
+
 -- what the ledger's entries of one group say is what is told of it
 one_group : (accounts : List (ℕ × Key)) (p : Submitted × (Group × Group)) (e : GroupHolds) (key : Key) → IsLater p.1.0 p.1.1 → IsHeldFor (p.0, p.1.0) e → IsPaidBy accounts p
     → tally_of (more_after p e) key ≡ back_by accounts (option_to_list (back_in p)) key
 one_group accounts p e key later held paid = by (is_open p.1.0) (is_refunded p.1.0 p.1.1) refl
   where
     stands : (c : Bool) → (let o : Option Hold = cond c (Some (record { key = ipp_key p.0.document.proposal; seconds = p.0.charged })) None in
-        tally_of (map (refund_entry p.1.1.number) (option_to_list o)) key ≡ back_by accounts (option_to_list (option_map (λ h. let r : GroupRefund = record { group = p.1.1.number; seconds = h.seconds } in r) o)) key)
+        tally_of (map (refund_entry p.1.1.number) (option_to_list o)) key ≡ back_by accounts (option_to_list (refund_told p o)) key)
     stands true = one_back accounts p key later paid
     stands false = refl
 
     by : (a b : Bool) → is_open p.1.0 ≡ a
         → tally_of (cond a (cond b (map (refund_entry p.1.1.number) (option_to_list e.ipp)) []) []) key
-        ≡ back_by accounts (option_to_list (cond a (option_map (λ h. let r : GroupRefund = record { group = p.1.1.number; seconds = h.seconds } in r) (cond b (standing p.0.document.proposal p.0.charged) None)) None)) key
+        ≡ back_by accounts (option_to_list (cond a (refund_told p (cond b (standing p.0.document.proposal p.0.charged) None)) None)) key
     by true true opened = ap (λ (o : Option Hold). tally_of (map (refund_entry p.1.1.number) (option_to_list o)) key) (held.charge opened) ∙ stands (nat_lt 0 p.0.charged)
     by true false opened = refl
     by false b opened = refl

@@ -1,5 +1,6 @@
 -- A group that is submitted finds what it holds and is charged available.
-use Rattle.std.proofs.Common.{◌≡◌, ◌≢◌, ◌∙◌, ap, sym, subst, refl, ℕ, suc, ◌+◌, ◌<◌, ◌≤◌, nat_lt, nat_le, Bool, true, false, cond, ◌&&◌, List, [], ◌∷◌, ◌++◌, length, get_or, map, All, arith, inl, inr, Some, None}
+use Rattle.std.proofs.Common.{◌≡◌, ◌≢◌, ◌∙◌, ap, sym, subst, refl, ℕ, suc, ◌+◌, ◌<◌, ◌≤◌, nat_lt, nat_le, Bool, true, false, cond, ◌&&◌, List, [], ◌∷◌, ◌++◌, length, get_or, map, All, arith}
+use Rattle.std.proofs.Common.{inl, inr, Option, Some, None}
 use Rattle.std.specs.Prelude.{option_and_then}
 use Rattle.std.specs.List.{slice_get, filter_map, cons_option}
 use Rattle.std.specs.Option.{option_to_list}
@@ -15,6 +16,7 @@ use Rattle.allocations.specs.declared.entry.Entry.{Entry}
 use Rattle.allocations.specs.declared.entry.EntryKind.{EntryKind}
 use Rattle.allocations.specs.declared.entry.EntryKind.TheVariants.{Grant, Charge, Refund}
 use Rattle.allocations.specs.declared.entry.Hold.{Hold}
+use Rattle.allocations.specs.declared.fault.LedgerFault.{LedgerFault}
 use Rattle.allocations.specs.declared.fault.LedgerFault.TheVariants.{NoSuchAllocation, NotEnoughTime}
 use Rattle.allocations.specs.declared.key.Account.TheVariants.{Ipp}
 use Rattle.allocations.specs.declared.key.Key.{Key}
@@ -43,16 +45,21 @@ use Rattle.desk_accounts.proofs.Tallies.{Tally, charge_tally}
 abbrev IsAvailable : Books → Hold → Type 0
 IsAvailable b n = n.seconds ≤ available_of b n.key
 
+-- why it is refused, by whether its account has a grant and enough is available
+abbrev refusal_by : Books → Hold → Bool → Bool → Option LedgerFault
+refusal_by b n granted enough =
+    cond granted (cond enough None (Some (NotEnoughTime n.seconds (available_of b n.key)))) (Some (NoSuchAllocation n.key.account))
+
 all_available : (b : Books) (needs : List Hold) → option_and_then refusal_of_ledger (first_refusal b needs) ≡ None → All (IsAvailable b) needs
 all_available b [] e = All-nil (IsAvailable b)
-all_available b (n ∷ ns) e = by (has_grant b.entries n.key) (nat_le n.seconds (available_of b n.key)) refl refl e (all_available b ns)
+all_available b (n ∷ ns) e = by (has_grant b.entries n.key) (nat_le n.seconds (available_of b n.key)) refl e (all_available b ns)
   where
-    by : (g a : Bool) → has_grant b.entries n.key ≡ g → nat_le n.seconds (available_of b n.key) ≡ a
-        → option_and_then refusal_of_ledger (slice_get (cons_option (cond (has_grant b.entries n.key) (cond (nat_le n.seconds (available_of b n.key)) None (Some (NotEnoughTime n.seconds (available_of b n.key)))) (Some (NoSuchAllocation n.key.account))) (filter_map (refusal_at b) ns)) 0) ≡ None
+    by : (granted enough : Bool) → nat_le n.seconds (available_of b n.key) ≡ enough
+        → option_and_then refusal_of_ledger (slice_get (cons_option (refusal_by b n granted enough) (filter_map (refusal_at b) ns)) 0) ≡ None
         → (option_and_then refusal_of_ledger (first_refusal b ns) ≡ None → All (IsAvailable b) ns) → All (IsAvailable b) (n ∷ ns)
-    by false a x y e rest = let bad = rw x at e in absurd (cc)
-    by true false x y e rest = let bad = rw y at (rw x at e) in absurd (cc)
-    by true true x y e rest = All-cons (IsAvailable b) n ns (leb-true n.seconds (available_of b n.key) y) (rest (rw y at (rw x at e)))
+    by false enough is f rest = absurd (cc)
+    by true false is f rest = absurd (cc)
+    by true true is f rest = All-cons (IsAvailable b) n ns (leb-true n.seconds (available_of b n.key) is) (rest f)
 
 ledger_available : (b : Books) (hs : List Hold) (ipp : ℕ) → option_and_then refusal_of_ledger (refusal_of b hs ipp) ≡ None → All (IsAvailable b) (hs ++ option_to_list (ipp_need hs ipp))
 ledger_available b hs ipp e = by (knows_proposal b.entries (proposal_of hs)) refl e
@@ -139,7 +146,9 @@ charge_refunds n proposal c key true = ap (λ (t : Tally). t.back) (charge_tally
 charge_refunds n proposal c key false = refl
 
 at_key : (b : Books) (key : Key) (hs : List Hold) → All (IsAvailable b) hs → All (λ x. is_key x.key key ≡ true → x.seconds ≤ available_of b key) hs
-at_key b key hs h = All-weaker (IsAvailable b) (λ x. is_key x.key key ≡ true → x.seconds ≤ available_of b key) (λ x few on. subst (λ (k : Key). x.seconds ≤ available_of b k) (is_key-true x.key key on) few) hs h
+at_key b key hs h =
+    All-weaker (IsAvailable b) (λ x. is_key x.key key ≡ true → x.seconds ≤ available_of b key)
+    (λ x few on. subst (λ (k : Key). x.seconds ≤ available_of b k) (is_key-true x.key key on) few) hs h
 
 -- of any account, no more than is available
 fits : (b : Books) (key : Key) (hs : List Hold) (proposal : List ℕ) (c : ℕ) (q : Bool) → Rises key_cmp (map (λ y. y.key) hs) → All (λ x. x.key.account ≢ Ipp) hs

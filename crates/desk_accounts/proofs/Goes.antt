@@ -139,6 +139,7 @@ grant_line known version d e account seconds balance h k groups books =
     record {
       desk = h;
       groups = stay_known known (groups_in e) (told_at (command.Grant account seconds) (reply.Granted balance)) refl (subst (AreKnown known) (sym groups) k);
-      covers = still_covered d.books e.books given adds (λ key. let same : held_of e.books.holds key ≡ held_of d.books.holds key = ap (λ (b : Books). held_of b.holds key) books in omega (arith, same));
+      covers = still_covered d.books e.books given adds (λ key.
+          let same : held_of e.books.holds key ≡ held_of d.books.holds key = ap (λ (b : Books). held_of b.holds key) books in omega (arith, same));
       adds = λ later. adds;
     }

@@ -22,7 +22,8 @@ use Rattle.desk_events.specs.declared.reply.Reply.TheVariants as reply
 use Rattle.desk_events.specs.Line.{command_of_line}
 use Rattle.desk_events.proofs.InRange.{in_range}
 use Rattle.desk_core.specs.Desk.{DeskSeen, StateSeen, Stepped, start}
-use Rattle.desk_core.specs.History.{line_of, read_at, verdict_told, left_by, after_line, with_published, after_publish, after_what, after_entry, replay, IsLineReply, IsPublication, IsReply, IsEntry, EachAfter, IsLegal}
+use Rattle.desk_core.specs.History.{line_of, read_at, verdict_told, left_by, after_line, with_published, after_publish, after_what, after_entry, replay, IsLineReply, IsPublication, IsReply}
+use Rattle.desk_core.specs.History.{IsEntry, EachAfter, IsLegal}
 use Rattle.desk_core.specs.Kept.{IsDesk}
 use Rattle.desk_core.specs.Publishing.{with_publication}
 use Rattle.desk_core.specs.Step.{IsSnapshotOf, step, balance_in, opened}
@@ -41,7 +42,8 @@ use Rattle.desk_accounts.proofs.Tallies.{Tally, plus, balance_from, tally_of, ta
 line_entry : (known : List GroupTold) (s : StateSeen) (l : ScriptLine) (read : Result Command CommandFault) (answer : Reply) → IfSome s.desk IsDesk → AreKnown known (groups_of s)
     → command_of_line l ≡ read → IsLineReply s read answer → Goes known (record { line = read; reply = answer }) s (after_line s read answer)
 line_entry known s l (Err fault) answer h k is r =
-    subst (λ (a : Reply). Goes known (record { line = Err fault; reply = a }) s s) (sym r.2) (quiet_goes known (record { line = Err fault; reply = reply.Refused r.0 }) s s (refused_quiet (Err fault) r.0) h k refl refl)
+    subst (λ (a : Reply). Goes known (record { line = Err fault; reply = a }) s s) (sym r.2)
+    (quiet_goes known (record { line = Err fault; reply = reply.Refused r.0 }) s s (refused_quiet (Err fault) r.0) h k refl refl)
 line_entry known s l (Ok c) answer h k is r =
     let stepped : Stepped = r.0 in
     let goes : Goes known (record { line = Ok c; reply = stepped.reply }) s stepped.state = line_goes known s.version s.desk c stepped h k (in_range l c is) r.1 in
@@ -57,17 +59,19 @@ claim_entry : (known : List GroupTold) (version : ℕ) (o : Option DeskSeen) (li
 claim_entry known version None line claim parts h k of certified = let none = of.1 in absurd (cc)
 claim_entry known version (Some d) line claim parts h k of certified =
     let is : parts ≡ _ = snapshot_is (opened version d) version d parts refl of in
-    quiet_goes known (record { line = line; reply = reply.Published claim }) (opened version d) (opened (version + 1) (with_publication version claim d)) (record { group = refl; tally = λ groups key. refl })
+    let after : StateSeen = opened (version + 1) (with_publication version claim d) in
+    quiet_goes known (record { line = line; reply = reply.Published claim }) (opened version d) after (record { group = refl; tally = λ groups key. refl })
     (publication_keeps version d claim h (subst (λ (p : Parts). IsCertified p claim) is certified)) k refl refl
 
-published_entry : (known : List GroupTold) (s : StateSeen) (v : ℕ) (line : Result Command CommandFault) (answer : Reply) → IfSome s.desk IsDesk → AreKnown known (groups_of s) → IsPublication s v answer
-    → Goes known (record { line = line; reply = answer }) s (after_publish s answer)
+published_entry : (known : List GroupTold) (s : StateSeen) (v : ℕ) (line : Result Command CommandFault) (answer : Reply) → IfSome s.desk IsDesk → AreKnown known (groups_of s)
+    → IsPublication s v answer → Goes known (record { line = line; reply = answer }) s (after_publish s answer)
 published_entry known s v line (reply.Published claim) h k p = claim_entry known s.version s.desk line claim p.1.0 h k p.1.1 p.1.3
 published_entry known s v line (reply.Refused r) h k p = quiet_goes known (record { line = line; reply = reply.Refused r }) s s (refused_quiet line r) h k refl refl
 published_entry known s v line _ h k p = absurd p
 
 -- an entry that is this much of its line
-what_entry : (scripts : List (List ScriptLine)) (before : List EventEntry) (e : EventEntry) (what : What) (known : List GroupTold) → IfSome (replay scripts before).desk IsDesk → AreKnown known (groups_of (replay scripts before))
+what_entry : (scripts : List (List ScriptLine)) (before : List EventEntry) (e : EventEntry) (what : What) (known : List GroupTold) → IfSome (replay scripts before).desk IsDesk
+    → AreKnown known (groups_of (replay scripts before))
     → IsReply scripts before e what → Goes known (told_by scripts e) (replay scripts before) (after_what (replay scripts before) (read_at scripts e) what e.reply)
 what_entry scripts before e Line known h k r = line_entry known (replay scripts before) (line_of scripts e) (read_at scripts e) e.reply h k refl r.1
 what_entry scripts before e Take known h k r =
@@ -116,12 +120,15 @@ told_more entries t before after h g = record {
 entry_told : (scripts : List (List ScriptLine)) (before : List EventEntry) (e : EventEntry) → IsEntry scripts before e → AreTold (told_of scripts before) (replay scripts before)
     → AreTold (told_of scripts (before ++ e ∷ [])) (replay scripts (before ++ e ∷ []))
 entry_told scripts before e is h =
+    let told : List Told = told_of scripts before in
+    let s : StateSeen = replay scripts before in
+    let more : AreTold (told ++ told_by scripts e ∷ []) (after_entry scripts s e) =
+    told_more told (told_by scripts e) s (after_entry scripts s e) h (what_entry scripts before e e.what (groups_told told) h.desk h.groups is.reply) in
     subst (λ (l : List Told). AreTold l (replay scripts (before ++ e ∷ []))) (sym (map-append (told_by scripts) before (e ∷ [])))
-    (subst (AreTold (told_of scripts before ++ told_by scripts e ∷ [])) (sym (fold_push (after_entry scripts) start before e))
-    (told_more (told_of scripts before) (told_by scripts e) (replay scripts before) (after_entry scripts (replay scripts before) e) h (what_entry scripts before e e.what (groups_told (told_of scripts before)) h.desk h.groups is.reply)))
+    (subst (AreTold (told ++ told_by scripts e ∷ [])) (sym (fold_push (after_entry scripts) start before e)) more)
 
-told_after : (scripts : List (List ScriptLine)) (history before after : List EventEntry) → EachAfter (IsEntry scripts) history → history ≡ before ++ after → AreTold (told_of scripts before) (replay scripts before)
-    → AreTold (told_of scripts history) (replay scripts history)
+told_after : (scripts : List (List ScriptLine)) (history before after : List EventEntry) → EachAfter (IsEntry scripts) history → history ≡ before ++ after
+    → AreTold (told_of scripts before) (replay scripts before) → AreTold (told_of scripts history) (replay scripts history)
 told_after scripts history before [] each is h =
     subst (λ (l : List EventEntry). AreTold (told_of scripts l) (replay scripts l)) (sym (is ∙ append-nil before)) h
 told_after scripts history before (e ∷ after) each is h =

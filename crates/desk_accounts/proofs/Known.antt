@@ -54,7 +54,8 @@ pub none_known : AreKnown [] []
 none_known = record { groups = refl; requests = refl }
 
 -- with one more
-pub known_more : (told : List GroupTold) (ps : List (Submitted × Group)) (g : GroupTold) (p : Submitted × Group) → AreKnown told ps → AreKnown (g ∷ []) (p ∷ []) → AreKnown (told ++ g ∷ []) (ps ++ p ∷ [])
+pub known_more : (told : List GroupTold) (ps : List (Submitted × Group)) (g : GroupTold) (p : Submitted × Group) → AreKnown told ps → AreKnown (g ∷ []) (p ∷ [])
+    → AreKnown (told ++ g ∷ []) (ps ++ p ∷ [])
 known_more told ps g p h one = record {
   groups =
       map-append (λ (x : GroupTold). let a : ℕ × Key = (x.number.0, ipp_key x.document.proposal) in a) told (g ∷ [])
@@ -154,7 +155,8 @@ in_group : (document : GroupDoc) (ms : List (Request × Wanted)) (n : RequestNo)
 in_group document [] n m e = cc
 in_group document (x ∷ ms) n m e = by (is_request n x.0) e (in_group document ms n m)
   where
-    by : (b : Bool) → cond b (Some x) (find (λ y. is_request n y.0) ms) ≡ Some m → (find (λ y. is_request n y.0) ms ≡ Some m → account_at (map (member_account document) ms) n.0 ≡ Some (key_of document m.1))
+    by : (b : Bool) → cond b (Some x) (find (λ y. is_request n y.0) ms) ≡ Some m
+        → (find (λ y. is_request n y.0) ms ≡ Some m → account_at (map (member_account document) ms) n.0 ≡ Some (key_of document m.1))
         → option_map (λ (a : ℕ × Key). a.1) (cond b (Some (member_account document x)) (find (λ a. a.0 == n.0) (map (member_account document) ms))) ≡ Some (key_of document m.1)
     by true f rest = let same : x ≡ m = cc in ap (λ (y : Request × Wanted). Some (key_of document y.1)) same
     by false f rest = rest f
@@ -173,14 +175,16 @@ member_found : (ps : List (Submitted × Group)) (n : RequestNo) (w : Submitted) 
 member_found [] n w m e = cc
 member_found (p ∷ ps) n w m e = by (has_request n p.1) refl e (member_found ps n w m)
   where
-    first : (o : Option (Request × Wanted)) → find (λ x. is_request n x.0) (zip p.1.requests p.0.requests) ≡ o → option_map (λ x. let y : Submitted × (Request × Wanted) = (p.0, x) in y) o ≡ Some (w, m)
+    first : (o : Option (Request × Wanted)) → find (λ x. is_request n x.0) (zip p.1.requests p.0.requests) ≡ o
+        → option_map (λ x. let y : Submitted × (Request × Wanted) = (p.0, x) in y) o ≡ Some (w, m)
         → account_at (flat_map member_accounts (p ∷ ps)) n.0 ≡ Some (key_of w.document m.1)
     first None is f = cc
     first (Some x) is f =
         let same : p.0 ≡ w = ap (λ (o : Option (Submitted × (Request × Wanted))). option_map_or (λ y. y.0) o w) f in
         let same_too : x ≡ m = ap (λ (o : Option (Submitted × (Request × Wanted))). option_map_or (λ y. y.1) o m) f in
-        in_front (member_accounts p) (flat_map member_accounts ps) n.0 (key_of w.document m.1)
-        (in_group p.0.document (zip p.1.requests p.0.requests) n x is ∙ ap (λ (y : Submitted). Some (key_of y.document x.1)) same ∙ ap (λ (y : Request × Wanted). Some (key_of w.document y.1)) same_too)
+        let key : Some (key_of p.0.document x.1) ≡ Some (key_of w.document m.1) =
+        ap (λ (y : Submitted). Some (key_of y.document x.1)) same ∙ ap (λ (y : Request × Wanted). Some (key_of w.document y.1)) same_too in
+        in_front (member_accounts p) (flat_map member_accounts ps) n.0 (key_of w.document m.1) (in_group p.0.document (zip p.1.requests p.0.requests) n x is ∙ key)
 
     by : (b : Bool) → has_request n p.1 ≡ b → option_map_or (member_of n) (cond b (Some p) (find (λ x. has_request n x.1) ps)) None ≡ Some (w, m)
         → (option_map_or (member_of n) (find (λ x. has_request n x.1) ps) None ≡ Some (w, m) → account_at (flat_map member_accounts ps) n.0 ≡ Some (key_of w.document m.1))

@@ -76,7 +76,9 @@ line_opened known version d (command.Open now slice horizon semester lanes round
     (refused_quiet (Ok (command.Open now slice horizon semester lanes rounds workers quota)) AlreadyOpened) refl s.2
 line_opened known version d (command.Instrument name front config readout change) stepped h k ranges s =
     decided_goes known version d (command.Instrument name front config readout change) (on_instrument d name (times front config readout change)) stepped h k s.2
-    (λ none. quiet_line known version d _ (command.Instrument name front config readout change) _ (record { group = refl; tally = λ groups key. refl }) (instrument_keeps d name (times front config readout change) h) k refl refl)
+    (λ none.
+    quiet_line known version d _ (command.Instrument name front config readout change) _ (record { group = refl; tally = λ groups key. refl })
+    (instrument_keeps d name (times front config readout change) h) k refl refl)
 line_opened known version d (command.Telescope site enclosure telescope class instruments) stepped h k ranges s =
     let code : Code = record { site = site; enclosure = enclosure; telescope = telescope } in
     decided_goes known version d (command.Telescope site enclosure telescope class instruments) (on_telescope d code class instruments) stepped h k s.2
@@ -117,7 +119,9 @@ line_opened known version d (command.Report request percent used) stepped h k ra
 line_opened known version d command.Plan stepped h k ranges s = absurd (cc)
 line_opened known version d (command.Publish asked claim) stepped h k ranges s =
     decided_goes known version d (command.Publish asked claim) (on_publish s.0 version d asked claim) stepped h k s.2
-    (λ none. quiet_line known version d _ (command.Publish asked claim) _ (record { group = refl; tally = λ groups key. refl }) (publish_keeps s.0 version d asked claim h (λ same. s.1 same _ (d, refl, refl)) none) k refl refl)
+    (λ none.
+    quiet_line known version d _ (command.Publish asked claim) _ (record { group = refl; tally = λ groups key. refl })
+    (publish_keeps s.0 version d asked claim h (λ same. s.1 same _ (d, refl, refl)) none) k refl refl)
 line_opened known version d command.Export stepped h k ranges s = told_goes known version d command.Export (on_export d.published) stepped h k (export_quiet (Ok command.Export) d.published) s.2
 line_opened known version d command.Balances stepped h k ranges s =
     told_goes known version d command.Balances (on_balances d.books) stepped h k (record { group = refl; tally = λ groups key. refl }) s.2
@@ -126,13 +130,14 @@ line_opened known version d (command.Show group) stepped h k ranges s = told_goe
 -- ---- before the desk is opened
 
 -- `open` opens it
-open_goes : (known : List GroupTold) (version : ℕ) (opening : Opening) (now : Sec) (line : Result Command CommandFault) (stepped : Stepped) → AreKnown known [] → IsOpenedWith opening → now.0 ≤ last_moment
-    → Some (accepted (record { version = version; desk = None }) reply.Opened (new_desk opening now)) ≡ Some stepped
+open_goes : (known : List GroupTold) (version : ℕ) (opening : Opening) (now : Sec) (line : Result Command CommandFault) (stepped : Stepped) → AreKnown known [] → IsOpenedWith opening
+    → now.0 ≤ last_moment → Some (accepted (record { version = version; desk = None }) reply.Opened (new_desk opening now)) ≡ Some stepped
     → Goes known (record { line = line; reply = stepped.reply }) (record { version = version; desk = None }) stepped.state
 open_goes known version opening now line stepped k ranges moment is =
     let before : StateSeen = record { version = version; desk = None } in
     subst (λ (x : Stepped). Goes known (record { line = line; reply = x.reply }) before x.state) (same_Some (accepted before reply.Opened (new_desk opening now)) stepped is)
-    (quiet_goes known (record { line = line; reply = reply.Opened }) before (opened (version + 1) (new_desk opening now)) (record { group = refl; tally = λ groups key. refl }) (new_is_desk opening now ranges moment) k refl refl)
+    (quiet_goes known (record { line = line; reply = reply.Opened }) before (opened (version + 1) (new_desk opening now)) (record { group = refl; tally = λ groups key. refl })
+    (new_is_desk opening now ranges moment) k refl refl)
 
 -- any other command is refused
 line_unopened : (known : List GroupTold) (version : ℕ) (c : Command) (stepped : Stepped) → AreKnown known [] → IsCommand c → IsStep (record { version = version; desk = None }) c stepped

@@ -40,12 +40,17 @@ use Rattle.desk_accounts.proofs.Tallies.{Tally, tally_by, request_tally, Adds, a
 abbrev charge_on : Key → ℕ → Key → Tally
 charge_on account used key = only_charged (if is_key account key then used else 0)
 
+-- at least this is held less of an account once the report is made
+abbrev IsLessBy : DeskSeen → RequestNo → ℕ → Key → Type 0
+IsLessBy d number used key = used + held_of (with_progress (reported number true d.progress) d).books.holds key ≤ held_of d.books.holds key
+
 -- the books then: one entry more, and no refund
 pub record IsCharged (d : DeskSeen) (number : RequestNo) (used : ℕ) (account : Key) (books : Books) : Type 0 where
   pub adds : Adds d.books.entries books.entries (charge_on account used)
   pub covers : IsCovered d.books → IsCovered books
 
-is_charged : (d : DeskSeen) (number : RequestNo) (used : ℕ) (w : Submitted) (v : Wanted) (g : Group) → IsDesk d → group_with d.progress.groups number ≡ Some g → CanCharge d number used (key_of w.document v)
+is_charged : (d : DeskSeen) (number : RequestNo) (used : ℕ) (w : Submitted) (v : Wanted) (g : Group) → IsDesk d → group_with d.progress.groups number ≡ Some g
+    → CanCharge d number used (key_of w.document v)
     → IsCharged d number used (key_of w.document v) (with_progress (reported number true d.progress) (charged number used w v d)).books
 is_charged d number used w v g h there can =
     let account : Key = key_of w.document v in
@@ -69,7 +74,7 @@ is_charged d number used w v g h there can =
     no_more : (key : Key) (b : Bool) → is_key (key_of w.document v) key ≡ b
         → held_of (with_progress (reported number true d.progress) d).books.holds key + cond b used 0 ≤ held_of d.books.holds key + (0 + 0)
     no_more key true on =
-        let less = subst (λ (k : Key). used + held_of (with_progress (reported number true d.progress) d).books.holds k ≤ held_of d.books.holds k) (is_key-true (key_of w.document v) key on) can.less in
+        let less = subst (IsLessBy d number used) (is_key-true (key_of w.document v) key on) can.less in
         omega (arith, less)
     no_more key false on = let less = held_less d (reported number true d.progress) key h (report_goes_on d.progress number true).later in omega (arith, less)
 

@@ -60,7 +60,9 @@ asked_with q seconds (l ∷ lists) = ap (λ (qs : List RequestDoc). q ∷ qs) (a
 tested_is : (d : DeskSeen) (index : ℕ) (q : RequestDoc) (seconds : ℕ) (lists : List (List Span)) (made : List MadeSeen) → tested d index q seconds lists ≡ Ok made → made_with q seconds lists ≡ made
 tested_is d index q seconds lists made e = by (is_outside d.opening.semester lists) (list_any (is_past d.progress.moment) lists) (is_fitted d.network.registry q) e
   where
-    by : (a b c : Bool) → (let r : Result (List MadeSeen) Refusal = cond a (Err (OutsideSemester index)) (cond b (Err (WindowPast index)) (cond c (Ok (made_with q seconds lists)) (Err (NoTelescope index)))) in r) ≡ Ok made
+    by : (a b c : Bool)
+        → (let r : Result (List MadeSeen) Refusal =
+        cond a (Err (OutsideSemester index)) (cond b (Err (WindowPast index)) (cond c (Ok (made_with q seconds lists)) (Err (NoTelescope index)))) in r) ≡ Ok made
         → made_with q seconds lists ≡ made
     by true b c f = cc
     by false true c f = cc
@@ -105,7 +107,8 @@ one_each d op index [] made other e = let same : [] ≡ made = cc in ap asked_of
 one_each d op index (q ∷ qs) made other e = by (made_from d op (index, q)) refl e (λ rest. one_each d op (index + 1) qs rest other)
   where
     then : (first : List MadeSeen) (r : Result (List MadeSeen) Refusal) → gathered (map (made_from d op) (enumerate_from (index + 1) qs)) ≡ r → made_from d op (index, q) ≡ Ok first
-        → turned_into r (λ rest. first ++ rest) ≡ Ok made → ((rest : List MadeSeen) → gathered (map (made_from d op) (enumerate_from (index + 1) qs)) ≡ Ok rest → asked_of rest ≡ qs) → asked_of made ≡ q ∷ qs
+        → turned_into r (λ rest. first ++ rest) ≡ Ok made → ((rest : List MadeSeen) → gathered (map (made_from d op) (enumerate_from (index + 1) qs)) ≡ Ok rest → asked_of rest ≡ qs)
+        → asked_of made ≡ q ∷ qs
     then first (Err refusal) t is f others = cc
     then first (Ok rest) t is f others =
         let same : first ++ rest ≡ made = cc in
@@ -115,7 +118,8 @@ one_each d op index (q ∷ qs) made other e = by (made_from d op (index, q)) ref
         ∙ ap (λ (l : List RequestDoc). l ++ asked_of rest) (from.asked ∙ only_one q from.lists (from.one other))
         ∙ ap (λ (l : List RequestDoc). q ∷ l) (others rest t)
 
-    by : (r : Result (List MadeSeen) Refusal) → made_from d op (index, q) ≡ r → follows r (λ first. turned_into (gathered (map (made_from d op) (enumerate_from (index + 1) qs))) (λ rest. first ++ rest)) ≡ Ok made
+    by : (r : Result (List MadeSeen) Refusal) → made_from d op (index, q) ≡ r
+        → follows r (λ first. turned_into (gathered (map (made_from d op) (enumerate_from (index + 1) qs))) (λ rest. first ++ rest)) ≡ Ok made
         → ((rest : List MadeSeen) → gathered (map (made_from d op) (enumerate_from (index + 1) qs)) ≡ Ok rest → asked_of rest ≡ qs) → asked_of made ≡ q ∷ qs
     by (Err refusal) is f others = cc
     by (Ok first) is f others = then first (gathered (map (made_from d op) (enumerate_from (index + 1) qs))) refl is f others
