@@ -3,4 +3,4 @@
 
 mod laws;
 
-pub use laws::{balances_are_told, charges_are_covered};
+pub use laws::{balances_are_told, charges_are_covered, desks_are_kept};
