@@ -38,6 +38,10 @@ use Rattle.desk_accounts.proofs.Tallies.{Tally, plus, balance_from, tally_of, ta
 
 -- ---- what an entry does
 
+-- a line leaves what its step leaves
+pub line_leaves : (s : StateSeen) (c : Command) (answer : Reply) → (r : IsLineReply s (Ok c) answer) → after_line s (Ok c) answer ≡ r.0.state
+line_leaves s c answer r = ap (λ (a : Reply). left_by s (step (verdict_told a) s c)) (sym r.2) ∙ ap (left_by s) (told_step r.1.0 s s.desk c r.0 r.1.2)
+
 -- a line with a reply: its fault or its step
 line_entry : (known : List GroupTold) (s : StateSeen) (l : ScriptLine) (read : Result Command CommandFault) (answer : Reply) → IfSome s.desk IsDesk → AreKnown known (groups_of s)
     → command_of_line l ≡ read → IsLineReply s read answer → Goes known (record { line = read; reply = answer }) s (after_line s read answer)
@@ -47,9 +51,7 @@ line_entry known s l (Err fault) answer h k is r =
 line_entry known s l (Ok c) answer h k is r =
     let stepped : Stepped = r.0 in
     let goes : Goes known (record { line = Ok c; reply = stepped.reply }) s stepped.state = line_goes known s.version s.desk c stepped h k (in_range l c is) r.1 in
-    let left : left_by s (step (verdict_told answer) s c) ≡ stepped.state =
-    ap (λ (a : Reply). left_by s (step (verdict_told a) s c)) (sym r.2) ∙ ap (left_by s) (told_step r.1.0 s s.desk c stepped r.1.2) in
-    subst (λ (after : StateSeen). Goes known (record { line = Ok c; reply = answer }) s after) (sym left)
+    subst (λ (after : StateSeen). Goes known (record { line = Ok c; reply = answer }) s after) (sym (line_leaves s c answer r))
     (subst (λ (a : Reply). Goes known (record { line = Ok c; reply = a }) s stepped.state) r.2 goes)
 
 -- a claim that is published for the snapshot
@@ -117,6 +119,7 @@ told_more entries t before after h g = record {
 
 -- ---- histories
 
+-- after one entry more
 entry_told : (scripts : List (List ScriptLine)) (before : List EventEntry) (e : EventEntry) → IsEntry scripts before e → AreTold (told_of scripts before) (replay scripts before)
     → AreTold (told_of scripts (before ++ e ∷ [])) (replay scripts (before ++ e ∷ []))
 entry_told scripts before e is h =
@@ -127,6 +130,7 @@ entry_told scripts before e is h =
     subst (λ (l : List Told). AreTold l (replay scripts (before ++ e ∷ []))) (sym (map-append (told_by scripts) before (e ∷ [])))
     (subst (AreTold (told ++ told_by scripts e ∷ [])) (sym (fold_push (after_entry scripts) start before e)) more)
 
+-- after all entries
 told_after : (scripts : List (List ScriptLine)) (history before after : List EventEntry) → EachAfter (IsEntry scripts) history → history ≡ before ++ after
     → AreTold (told_of scripts before) (replay scripts before) → AreTold (told_of scripts history) (replay scripts history)
 told_after scripts history before [] each is h =
@@ -134,26 +138,45 @@ told_after scripts history before [] each is h =
 told_after scripts history before (e ∷ after) each is h =
     told_after scripts history (before ++ e ∷ []) after each (is ∙ sym (append_assoc before (e ∷ []) after)) (entry_told scripts before e (each before after e is) h)
 
--- of every legal history
+-- each entry of a beginning is one of the whole
+each_before : (R : List EventEntry → EventEntry → Type 0) (before after : List EventEntry) → EachAfter R (before ++ after) → EachAfter R before
+each_before R before after each b a e is = each b (a ++ after) e (ap (λ (l : List EventEntry). l ++ after) is ∙ append_assoc b (e ∷ a) after)
+
+-- so it is after each beginning of a legal history
+pub begun_told : (scripts : List (List ScriptLine)) (history before after : List EventEntry) → IsLegal scripts history → history ≡ before ++ after
+    → AreTold (told_of scripts before) (replay scripts before)
+begun_told scripts history before after h is =
+    told_after scripts before [] before (each_before (IsEntry scripts) before after (subst (EachAfter (IsEntry scripts)) is h.each)) refl
+    (record { desk = tt; groups = none_known; covered = λ key. omega arith; tallies = λ later key. refl })
+
+-- and after all of it
 pub legal_told : (scripts : List (List ScriptLine)) (history : List EventEntry) → IsLegal scripts history → AreTold (told_of scripts history) (replay scripts history)
-legal_told scripts history h = told_after scripts history [] history h.each refl (record { desk = tt; groups = none_known; covered = λ key. omega arith; tallies = λ later key. refl })
+legal_told scripts history h = begun_told scripts history history [] h (sym (append-nil history))
 
 -- ---- balances
 
+-- a balance is what the ledger's entries make
 balance_is : (o : Option DeskSeen) (version : ℕ) (key : Key) → option_and_then (λ d. balance_in d key) o ≡ balance_from (tally_of (books_of (record { version = version; desk = o })).entries key)
 balance_is None version key = refl
 balance_is (Some d) version key = refl
 
--- what the ledger says of an account after a legal history
+-- what the ledger says of an account
 tally_is : (scripts : List (List ScriptLine)) (history : List EventEntry) (key : Key) → AreTold (told_of scripts history) (replay scripts history)
     → tally_of (books_of (replay scripts history)).entries key ≡ tally_told (groups_told (told_of scripts history)) (told_of scripts history) key
 tally_is scripts history key told = told.tallies [] key ∙ ap (λ (l : List GroupTold). tally_told l (told_of scripts history) key) (append-nil (groups_told (told_of scripts history)))
 
+-- an account's balance is what is told
+pub told_balance : (scripts : List (List ScriptLine)) (history : List EventEntry) (key : Key) → AreTold (told_of scripts history) (replay scripts history)
+    → option_and_then (λ d. balance_in d key) (replay scripts history).desk ≡ balance_after scripts history key
+told_balance scripts history key told =
+    let s : StateSeen = replay scripts history in
+    balance_is s.desk s.version key ∙ ap balance_from (tally_is scripts history key told)
+
+-- ---- laws
+
 pub balances_told : (scripts : List (List ScriptLine)) (history : List EventEntry) (key : Key) → IsLegal scripts history
     → option_and_then (λ d. balance_in d key) (replay scripts history).desk ≡ balance_after scripts history key
-balances_told scripts history key h =
-    let s : StateSeen = replay scripts history in
-    balance_is s.desk s.version key ∙ ap balance_from (tally_is scripts history key (legal_told scripts history h))
+balances_told scripts history key h = told_balance scripts history key (legal_told scripts history h)
 
 pub charges_covered : (scripts : List (List ScriptLine)) (history : List EventEntry) (key : Key) → IsLegal scripts history
     → charged_told (told_of scripts history) key ≤ granted_told (told_of scripts history) key + refunded_told (told_of scripts history) key

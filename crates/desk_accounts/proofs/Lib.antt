@@ -9,5 +9,8 @@ pub mod Goes
 pub mod Submitting
 pub mod Reporting
 pub mod Lines
+pub mod Shows
+pub mod Listed
 pub mod Histories
+pub mod Printed
 mod Examples

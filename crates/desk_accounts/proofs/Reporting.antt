@@ -120,7 +120,7 @@ completed_line known version d number percent used w m h k is placed few desk = 
     by_group (Some g) there = found g there (position (is_request number) g.requests) refl
 
 -- a report on a request, by whether it runs, whether it used too much, and whether it completes
-abbrev by_tests : DeskSeen → RequestNo → ℕ → Submitted × (Request × Wanted) → Bool → Bool → Bool → Decision
+abbrev pub by_tests : DeskSeen → RequestNo → ℕ → Submitted × (Request × Wanted) → Bool → Bool → Bool → Decision
 by_tests d number used p placed long enough =
     if not placed then on_refused d number NotRunning
     else (if long then on_refused d number (UsedTooLong p.1.0.seconds used) else (if enough then on_completed d number used p.0 p.1.1 else on_failed d number))

@@ -3,4 +3,4 @@
 
 mod laws;
 
-pub use laws::{balances_are_told, charges_are_covered, desks_are_kept};
+pub use laws::{balances_are_shown, balances_are_told, charges_are_covered, desks_are_kept};
