@@ -2,9 +2,9 @@
 use Rattle.std.proofs.Common.{◌≡◌, List, [], ◌∷◌, ◌++◌, refl, sym, ◌∙◌, ap, subst, append_assoc, ◌⊎◌, inl, inr}
 use Rattle.std.proofs.lemmas.List.Sums.{fold-append}
 use Rattle.plan_io.specs.declared.lines.ScriptLine.{ScriptLine}
-use Rattle.session.specs.declared.entry.EventEntry.{EventEntry}
-use Rattle.session.specs.Step.{start}
-use Rattle.session.specs.History.{after_entry, replay, EachAfter}
+use Rattle.desk_events.specs.declared.entry.EventEntry.{EventEntry}
+use Rattle.desk_core.specs.Desk.{start}
+use Rattle.desk_core.specs.History.{after_entry, replay, EachAfter}
 
 pub replay_more : (scripts : List (List ScriptLine)) (history : List EventEntry) (e : EventEntry) → replay scripts (history ++ e ∷ []) ≡ after_entry scripts (replay scripts history) e
 replay_more scripts history e = fold-append (after_entry scripts) start history (e ∷ [])

@@ -3,10 +3,10 @@ use Rattle.std.proofs.Common.{◌≡◌, ℕ, zero, suc, ◌+◌, List, [], ◌�
 use Rattle.std.specs.List.{AllByRecursion, last_or}
 use Rattle.std.proofs.lemmas.Bool.{ne_eqb}
 use Rattle.plan_io.specs.declared.lines.ScriptLine.{ScriptLine}
-use Rattle.session.specs.declared.entry.EventEntry.{EventEntry}
-use Rattle.session.specs.declared.entry.What.{What}
-use Rattle.session.specs.declared.entry.What.TheVariants.{Line, Take, Publish}
-use Rattle.session.specs.History.{entries_of, turns_of, Answers, AnswersPrefix, IsInterleaving, IsWhole, script_of}
+use Rattle.desk_events.specs.declared.entry.EventEntry.{EventEntry}
+use Rattle.desk_events.specs.declared.entry.What.{What}
+use Rattle.desk_events.specs.declared.entry.What.TheVariants.{Line, Take, Publish}
+use Rattle.desk_core.specs.History.{entries_of, turns_of, Answers, AnswersPrefix, IsInterleaving, IsWhole, script_of}
 
 -- the entries are caller 0's
 abbrev IsMine : EventEntry → Type 0

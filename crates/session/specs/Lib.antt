@@ -1,12 +1,3 @@
 pub mod Words
-pub mod Refusals
-pub mod Numbers
-pub mod Claims
-pub mod Commands
-pub mod StateSeen
-pub mod DeskSnapshot
-pub mod Step
-pub mod Texts
-pub mod History
-pub mod Laws
+pub mod Line
 pub mod Session

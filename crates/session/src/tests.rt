@@ -7,15 +7,15 @@ use std::test::Fail;
 use std::thread::Threads;
 
 const LINES: &[u8] = b"\
-    {\"do\":\"open\",\"now\":0,\"slice\":300,\"horizon\":12}\n\
+    {\"do\":\"open\",\"now\":0,\"slice\":300,\"horizon\":12,\"semester\":[0,86400],\"lanes\":1,\"rounds\":1,\"workers\":1}\n\
     {\"do\":\"plan\"}\n\
-    {\"do\":\"open\"}\n";
+    {\"do\":\"balances\"}\n";
 
 const REPLIES: &[u8] = b"\
     {\"caller\":0,\"line\":1,\"ok\":\"opened\",\"version\":0}\n\
     {\"caller\":0,\"line\":2,\"ok\":\"taken\",\"version\":1}\n\
     {\"caller\":0,\"claim\":{\"bound\":0,\"placements\":[],\"prices\":[],\"value\":0},\"line\":2,\"ok\":\"published\",\"version\":1}\n\
-    {\"caller\":0,\"line\":3,\"no\":39,\"refused\":\"NotBuilt\",\"version\":2}\n";
+    {\"balances\":[],\"caller\":0,\"line\":3,\"ok\":\"balances\",\"version\":2}\n";
 
 /// A source of these bytes, 40 a call, of which the call with this number fails.
 fn source_of(alloc: Global, bytes: &[u8], failing: u32) -> Result<MemSource, AllocError> {
@@ -56,14 +56,17 @@ fn ends_so<R: Threads + Sync>(
 
 #[test]
 fn faults_end_a_session(rt: HostRuntime) -> Result<(), Fail> {
-    // The lines take two reads, and one more for the end. The first reply takes two writes, and so does the second.
+    // Three reads give the first two lines, the fourth the third line, and the fifth none. The first three replies take six
+    // writes, of 204 bytes in all, and the last one takes two.
     for (fails, ending) in [
-        ((3, 99), (Status::Done, 1_000)),
+        ((9, 99), (Status::Done, 1_000)),
         ((0, 99), (Status::ReadFault, 0)),
         ((2, 99), (Status::ReadFault, 0)),
-        ((3, 0), (Status::WriteFault, 0)),
-        ((3, 1), (Status::WriteFault, 40)),
-        ((3, 3), (Status::WriteFault, 88)),
+        ((3, 99), (Status::ReadFault, 204)),
+        ((4, 99), (Status::ReadFault, 1_000)),
+        ((9, 0), (Status::WriteFault, 0)),
+        ((9, 3), (Status::WriteFault, 120)),
+        ((9, 7), (Status::WriteFault, 244)),
     ] {
         let found = ends_so(&rt, rt.alloc(), fails, ending)?;
         assert!(rt; found, "calls {} and {}", fails.0, fails.1);
@@ -98,7 +101,7 @@ fn spaces_end_so<R: Threads + Sync>(
 #[test]
 fn one_byte_too_many_ends_a_session(rt: HostRuntime) -> Result<(), Fail> {
     for (count, ending) in [
-        (67_108_864, (Status::Done, 63)),
+        (67_108_864, (Status::Done, 66)),
         (67_108_865, (Status::InputOver, 0)),
     ] {
         let found = spaces_end_so(&rt, rt.alloc(), count, ending)?;

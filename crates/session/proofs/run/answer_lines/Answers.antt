@@ -1,0 +1,190 @@
+use Rattle.std.proofs.Common.{◌≡◌, [], ap, sym, ◌∙◌, subst, arith}
+use Rattle.plan_io.specs.LinesSeen.{LinesSeen}
+use Rattle.plan_io.specs.declared.lines.LineAnswer.TheVariants as answer
+use Rattle.plan_io.specs.Next.{IsNext}
+use Rattle.session.proofs.Going.{going_first, going_due, going_line, later_read, later_written, next_line, few_done, gathered_none, gathered_here, gathered_line, cut_by_due, all_answered, no_line_left, on_err}
+use Rattle.session.proofs.run.answer_lines.Goals as goal
+
+pub loop-reader-init : goal.loop-reader-init
+loop-reader-init g c = record {
+  going = going_first (g.S.Source.left c.args.source.now) (g.K.Sink.written c.args.sink.now) c.in_ok-reader.reader c.args.replies.now.items c.args.state.now c.in_ok-reader.ensures c.requires.none c.requires.start;
+  steady = ap (λ (r : LinesSeen). r.failed) c.in_ok-reader.ensures;
+  reads = omega arith;
+  writes = omega arith;
+}
+
+pub do_line-requires-clause-version : goal.do_line-requires-clause-version
+do_line-requires-clause-version g c κs sub =
+    let a = g.S.Source.left c.args.source.now in
+    let b = g.S.Source.left c.loop-reader.source in
+    let w = g.K.Sink.written c.args.sink.now in
+    let x = g.K.Sink.written c.loop-reader.sink in
+    let y = g.K.Sink.written c.write_due.new.sink in
+    let r = c.loop-reader.reader in
+    let s = c.loop-reader.state in
+    let n = c.loop-reader.done in
+    let old = c.loop-reader.replies.items in
+    let now = c.write_due.new.replies.items in
+    let was = c.loop-reader.invariant in
+    let after = g.S.Source.left c.next.new.source in
+    let due = going_due a b w x y r old now n s c.write_due.result c.in-Done.is was.going c.write_due.ensures.bytes in
+    let line = c.in-Line.line in
+    let next = next_line a b after w y r c.next.new.self now n s line c.in_ok-line.field-0 c.in-Line.is due c.in_ok-line.ensures.next (λ e f. (c.in_ok-line.ensures.stays_ended e f).1.0) in
+    omega (arith, few_done a b after w y r c.next.new.self now n s line next, was.going.version)
+
+pub loop-reader-preserved : goal.loop-reader-preserved
+loop-reader-preserved g c =
+    let a = g.S.Source.left c.args.source.now in
+    let b = g.S.Source.left c.loop-reader.source in
+    let w = g.K.Sink.written c.args.sink.now in
+    let x = g.K.Sink.written c.loop-reader.sink in
+    let y = g.K.Sink.written c.write_due.new.sink in
+    let r = c.loop-reader.reader in
+    let s = c.loop-reader.state in
+    let n = c.loop-reader.done in
+    let old = c.loop-reader.replies.items in
+    let now = c.write_due.new.replies.items in
+    let was = c.loop-reader.invariant in
+    let after = g.S.Source.left c.next.new.source in
+    let due = going_due a b w x y r old now n s c.write_due.result c.in-Done.is was.going c.write_due.ensures.bytes in
+    let line = c.in-Line.line in
+    let next = next_line a b after w y r c.next.new.self now n s line c.in_ok-line.field-0 c.in-Line.is due c.in_ok-line.ensures.next (λ e f. (c.in_ok-line.ensures.stays_ended e f).1.0) in
+    record {
+      going = going_line a b after w y r c.next.new.self now c.do_line.new.replies.items n s c.do_line.new.state line c.in_ok-do_line-in-Line.field-0 next c.in_ok-do_line-in-Line.ensures;
+      steady = next.steady;
+      reads = omega (arith, was.reads, later_read r (g.S.Source.faults c.loop-reader.source) (g.S.Source.faults c.next.new.source) c.in_ok-line.field-0 line c.in-Line.is c.in_ok-line.ensures.cause);
+      writes = omega (arith, was.writes, later_written (g.K.Sink.faults c.loop-reader.sink) (g.K.Sink.faults c.write_due.new.sink) c.write_due.result c.in-Done.is c.write_due.ensures.cause);
+    }
+
+pub loop-reader-preserved-in_ok-do_line-in-Line : goal.loop-reader-preserved-in_ok-do_line-in-Line
+loop-reader-preserved-in_ok-do_line-in-Line g c =
+    let a = g.S.Source.left c.args.source.now in
+    let b = g.S.Source.left c.loop-reader.source in
+    let w = g.K.Sink.written c.args.sink.now in
+    let x = g.K.Sink.written c.loop-reader.sink in
+    let y = g.K.Sink.written c.write_due.new.sink in
+    let r = c.loop-reader.reader in
+    let s = c.loop-reader.state in
+    let n = c.loop-reader.done in
+    let old = c.loop-reader.replies.items in
+    let now = c.write_due.new.replies.items in
+    let was = c.loop-reader.invariant in
+    let after = g.S.Source.left c.next.new.source in
+    let due = going_due a b w x y r old now n s c.write_due.result c.in-Done.is was.going c.write_due.ensures.bytes in
+    let line = c.in-Line.line in
+    let next = next_line a b after w y r c.next.new.self now n s line c.in_ok-line.field-0 c.in-Line.is due c.in_ok-line.ensures.next (λ e f. (c.in_ok-line.ensures.stays_ended e f).1.0) in
+    record {
+      going = going_line a b after w y r c.next.new.self now c.do_line.new.replies.items n s c.do_line.new.state line c.in_ok-do_line-in-Line.field-0 next c.in_ok-do_line-in-Line.ensures;
+      steady = next.steady;
+      reads = omega (arith, was.reads, later_read r (g.S.Source.faults c.loop-reader.source) (g.S.Source.faults c.next.new.source) c.in_ok-line.field-0 line c.in-Line.is c.in_ok-line.ensures.cause);
+      writes = omega (arith, was.writes, later_written (g.K.Sink.faults c.loop-reader.sink) (g.K.Sink.faults c.write_due.new.sink) c.write_due.result c.in-Done.is c.write_due.ensures.cause);
+    }
+
+pub returns-in_err-reader-clause-gathered : goal.returns-in_err-reader-clause-gathered
+returns-in_err-reader-clause-gathered g c =
+    on_err _ c.from_residual.result (gathered_none (g.S.Source.left c.args.source.now) (g.K.Sink.written c.args.sink.now) c.args.replies.now.items c.requires.none)
+
+pub returns-in-WriteFault-clause-session : goal.returns-in-WriteFault-clause-session
+returns-in-WriteFault-clause-session g c =
+    let a = g.S.Source.left c.args.source.now in
+    let b = g.S.Source.left c.loop-reader.source in
+    let w = g.K.Sink.written c.args.sink.now in
+    let x = g.K.Sink.written c.loop-reader.sink in
+    let y = g.K.Sink.written c.write_due.new.sink in
+    let r = c.loop-reader.reader in
+    let s = c.loop-reader.state in
+    let n = c.loop-reader.done in
+    let old = c.loop-reader.replies.items in
+    let now = c.write_due.new.replies.items in
+    let was = c.loop-reader.invariant in
+    cut_by_due a b w x y r old now n s c.write_due.result c.in-WriteFault.is was.going c.write_due.ensures.bytes
+
+pub returns-in_err-line-clause-gathered : goal.returns-in_err-line-clause-gathered
+returns-in_err-line-clause-gathered g c =
+    let a = g.S.Source.left c.args.source.now in
+    let b = g.S.Source.left c.loop-reader.source in
+    let w = g.K.Sink.written c.args.sink.now in
+    let x = g.K.Sink.written c.loop-reader.sink in
+    let y = g.K.Sink.written c.write_due.new.sink in
+    let r = c.loop-reader.reader in
+    let s = c.loop-reader.state in
+    let n = c.loop-reader.done in
+    let old = c.loop-reader.replies.items in
+    let now = c.write_due.new.replies.items in
+    let was = c.loop-reader.invariant in
+    let due = going_due a b w x y r old now n s c.write_due.result c.in-Done.is was.going c.write_due.ensures.bytes in
+    on_err _ c.from_residual-in_err-line.result (gathered_here a b w y r now n s due)
+
+pub returns-in_err-do_line-in-Line-clause-gathered : goal.returns-in_err-do_line-in-Line-clause-gathered
+returns-in_err-do_line-in-Line-clause-gathered g c =
+    let a = g.S.Source.left c.args.source.now in
+    let b = g.S.Source.left c.loop-reader.source in
+    let w = g.K.Sink.written c.args.sink.now in
+    let x = g.K.Sink.written c.loop-reader.sink in
+    let y = g.K.Sink.written c.write_due.new.sink in
+    let r = c.loop-reader.reader in
+    let s = c.loop-reader.state in
+    let n = c.loop-reader.done in
+    let old = c.loop-reader.replies.items in
+    let now = c.write_due.new.replies.items in
+    let was = c.loop-reader.invariant in
+    let after = g.S.Source.left c.next.new.source in
+    let due = going_due a b w x y r old now n s c.write_due.result c.in-Done.is was.going c.write_due.ensures.bytes in
+    let line = c.in-Line.line in
+    let next = next_line a b after w y r c.next.new.self now n s line c.in_ok-line.field-0 c.in-Line.is due c.in_ok-line.ensures.next (λ e f. (c.in_ok-line.ensures.stays_ended e f).1.0) in
+    on_err _ c.from_residual-in_err-do_line-in-Line.result
+    (gathered_line a b after w y r c.next.new.self now c.do_line.new.replies.items n s c.do_line.new.state line c.in_err-do_line-in-Line.field-0.0 next c.in_err-do_line-in-Line.ensures)
+
+pub returns-in-End-clause-session : goal.returns-in-End-clause-session
+returns-in-End-clause-session g c =
+    let a = g.S.Source.left c.args.source.now in
+    let b = g.S.Source.left c.loop-reader.source in
+    let w = g.K.Sink.written c.args.sink.now in
+    let x = g.K.Sink.written c.loop-reader.sink in
+    let y = g.K.Sink.written c.write_due.new.sink in
+    let r = c.loop-reader.reader in
+    let s = c.loop-reader.state in
+    let n = c.loop-reader.done in
+    let old = c.loop-reader.replies.items in
+    let now = c.write_due.new.replies.items in
+    let was = c.loop-reader.invariant in
+    let after = g.S.Source.left c.next.new.source in
+    let due = going_due a b w x y r old now n s c.write_due.result c.in-Done.is was.going c.write_due.ensures.bytes in
+    let none : now ≡ [] = no_line_left r now c.in_ok-line.field-0 answer.End (λ line e. cc) c.in-End.is c.write_due.ensures.due (λ has. (c.in_ok-line.ensures.at_hand has).1) in
+    all_answered a b after w y r c.next.new.self now n s answer.End none due (subst (IsNext r b c.next.new.self after) c.in-End.is c.in_ok-line.ensures.next) (λ e f. sym c.in-End.is ∙ (c.in_ok-line.ensures.stays_ended e f).1.0) (λ line e. cc)
+
+pub returns-in-ReadFault-clause-session : goal.returns-in-ReadFault-clause-session
+returns-in-ReadFault-clause-session g c =
+    let a = g.S.Source.left c.args.source.now in
+    let b = g.S.Source.left c.loop-reader.source in
+    let w = g.K.Sink.written c.args.sink.now in
+    let x = g.K.Sink.written c.loop-reader.sink in
+    let y = g.K.Sink.written c.write_due.new.sink in
+    let r = c.loop-reader.reader in
+    let s = c.loop-reader.state in
+    let n = c.loop-reader.done in
+    let old = c.loop-reader.replies.items in
+    let now = c.write_due.new.replies.items in
+    let was = c.loop-reader.invariant in
+    let after = g.S.Source.left c.next.new.source in
+    let due = going_due a b w x y r old now n s c.write_due.result c.in-Done.is was.going c.write_due.ensures.bytes in
+    let none : now ≡ [] = no_line_left r now c.in_ok-line.field-0 answer.ReadFault (λ line e. cc) c.in-ReadFault.is c.write_due.ensures.due (λ has. (c.in_ok-line.ensures.at_hand has).1) in
+    all_answered a b after w y r c.next.new.self now n s answer.ReadFault none due (subst (IsNext r b c.next.new.self after) c.in-ReadFault.is c.in_ok-line.ensures.next) (λ e f. sym c.in-ReadFault.is ∙ (c.in_ok-line.ensures.stays_ended e f).1.0) (λ line e. cc)
+
+pub returns-in-InputOver-clause-session : goal.returns-in-InputOver-clause-session
+returns-in-InputOver-clause-session g c =
+    let a = g.S.Source.left c.args.source.now in
+    let b = g.S.Source.left c.loop-reader.source in
+    let w = g.K.Sink.written c.args.sink.now in
+    let x = g.K.Sink.written c.loop-reader.sink in
+    let y = g.K.Sink.written c.write_due.new.sink in
+    let r = c.loop-reader.reader in
+    let s = c.loop-reader.state in
+    let n = c.loop-reader.done in
+    let old = c.loop-reader.replies.items in
+    let now = c.write_due.new.replies.items in
+    let was = c.loop-reader.invariant in
+    let after = g.S.Source.left c.next.new.source in
+    let due = going_due a b w x y r old now n s c.write_due.result c.in-Done.is was.going c.write_due.ensures.bytes in
+    let none : now ≡ [] = no_line_left r now c.in_ok-line.field-0 answer.InputOver (λ line e. cc) c.in-InputOver.is c.write_due.ensures.due (λ has. (c.in_ok-line.ensures.at_hand has).1) in
+    all_answered a b after w y r c.next.new.self now n s answer.InputOver none due (subst (IsNext r b c.next.new.self after) c.in-InputOver.is c.in_ok-line.ensures.next) (λ e f. sym c.in-InputOver.is ∙ (c.in_ok-line.ensures.stays_ended e f).1.0) (λ line e. cc)

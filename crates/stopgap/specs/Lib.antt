@@ -1,4 +1,0 @@
-pub mod Stopgap
-pub mod Timeline
-pub mod Order
-pub mod Desks
