@@ -12,16 +12,13 @@ from typing import Any, Iterator
 from campaign import CAMERAS, GRANTS, Campaign
 from purvelj import lines
 from purvelj.chart import draw_plan, draw_shares, plan_view, save, shares, story_of
-from purvelj.desk import Desk, run_script
-from purvelj.documents import compact
-from purvelj.errors import PurveljError, Status
+from purvelj.desk import Desk
+from purvelj.errors import PurveljError
 from purvelj.lines import Line
 from purvelj.model import Claim
-from purvelj.moments import LAST, seconds_of
-from purvelj.pipes import DeskError
+from purvelj.moments import seconds_of
 from purvelj.portal import convert, summary, targets_of
 from purvelj.portal.notes import Note, Notes
-from purvelj.replies import Refused
 from purvelj.places import Limits, Site
 from purvelj.sky import Almanac
 from purvelj.tighten import tighten
@@ -30,20 +27,6 @@ HERE = Path(__file__).resolve().parent
 SLICE, DAY = 300, 86_400
 #: Milliseconds: before the first exposure, for each configuration, to read out, and to change.
 OVERHEADS = {"front_ms": 90_000, "config_ms": 16_000, "readout_ms": 28_000, "change_ms": 2_000}
-#: The number of the refusal of a command that the desk doesn't run yet.
-NOT_BUILT = 39
-
-
-class NotBuilt(DeskError):
-    """The desk doesn't run a command yet."""
-
-    status = Status.NOT_BUILT
-
-    def __init__(self, command: object) -> None:
-        super().__init__(
-            f"this desk doesn't run the command `{command}` yet (it is refused as {NOT_BUILT} NotBuilt), "
-            "so the example ends here; it goes on with a desk that does, or with another --program"
-        )
 
 
 def main() -> int:
@@ -73,7 +56,6 @@ def run(options: argparse.Namespace) -> None:
     options.out.mkdir(parents=True, exist_ok=True)
     start = seconds_of(options.date, "--date")
     script = list(set_up(options.date, options.days, start))
-    test_program(script, options.program)
     with Desk(options.program) as desk:
         try:
             for line in script:
@@ -116,15 +98,6 @@ def set_up(date: str, days: int, start: int) -> Iterator[Line]:
     tell_notes(tuple(note for conversion in conversions for note in conversion.notes) + notes.all())
     for conversion in conversions:
         yield conversion.line()
-
-
-def test_program(script: list[Line], program: list[str] | None) -> None:
-    """Runs the script through the program at once; ``NotBuilt`` where a command isn't run yet."""
-    last = [lines.plan_line(), lines.export_line(), lines.balances_line(), lines.clock_line(LAST)]
-    history = run_script([compact(line) for line in [*script, *last]], program)
-    for exchange in history.exchanges:
-        if isinstance(exchange.reply, Refused) and exchange.reply.number == NOT_BUILT:
-            raise NotBuilt(exchange.command["do"])
 
 
 def publish_tightened(desk: Desk, seconds: float) -> None:

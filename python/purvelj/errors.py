@@ -25,8 +25,6 @@ class Status(IntEnum):
     TIME = 8
     #: The session program ended, refused a line or can't be started.
     DESK = 9
-    #: The session program doesn't run a command yet.
-    NOT_BUILT = 10
 
 
 class PurveljError(Exception):

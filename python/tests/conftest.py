@@ -1,7 +1,39 @@
-"""Finds the package and the tests' own modules, from whatever folder the tests are run."""
+"""Finds the package, the tests' own modules and the programs to talk to, from whatever folder the tests are run."""
 
+from __future__ import annotations
+
+import os
+import shutil
+import subprocess
 import sys
 from pathlib import Path
 
+import pytest
+
 HERE = Path(__file__).resolve().parent
+TOP = HERE.parents[1]
 sys.path[:0] = [str(HERE.parent), str(HERE)]
+
+
+def built(name: str) -> str:
+    """Where a program of the repository is: the proved one, or else one that is built without proof.
+
+    Where there is no toolchain to build it, the test that asks for it is left out.
+    """
+    if shutil.which("rt") is None:
+        pytest.skip("the Rattle toolchain isn't there")
+    command = ["sh", "-c", '. "$top/bin/lib.sh" && program "$1"', "python/check", name]
+    ran = subprocess.run(command, env={**os.environ, "top": str(TOP)}, stdout=subprocess.PIPE, text=True, check=True)
+    return ran.stdout.strip()
+
+
+@pytest.fixture(scope="session")
+def netsched() -> list[str]:
+    """The command of the session program."""
+    return [built("netsched"), "session"]
+
+
+@pytest.fixture(scope="session")
+def plancheck() -> list[str]:
+    """The command of the program that checks a claim."""
+    return [built("plancheck"), "check"]

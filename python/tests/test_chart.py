@@ -5,7 +5,6 @@ from __future__ import annotations
 import json
 import re
 import struct
-import sys
 from collections import Counter
 from dataclasses import replace
 from itertools import combinations
@@ -29,14 +28,14 @@ from purvelj.spans import Span
 from script import LINES, REPLIES
 from snapshots import single, snapshot
 
-STANDIN = [sys.executable, str(Path(__file__).parent / "standin")]
 GROUP = json.loads(LINES[6])["group"]
 CAMERA = "1M0-SCICAM-SINISTRO"
 
 
-def session() -> History:
+@pytest.fixture(scope="module")
+def history(netsched: list[str]) -> History:
     """Two proposals on two telescopes, of which one is closed at first; one request runs, one was reported."""
-    with Desk(STANDIN, timeout=30) as desk:
+    with Desk(netsched, timeout=30) as desk:
         desk.replay(LINES[:3])
         desk.telescope("coj", "domb", "1m0a", "1m0", [CAMERA])
         desk.replay(LINES[3:7])
@@ -52,11 +51,6 @@ def session() -> History:
         desk.export()
         desk.balances()
         return desk.history
-
-
-@pytest.fixture(scope="module")
-def history() -> History:
-    return session()
 
 
 def test_a_history_with_its_script_tells_names_nights_and_what_runs(history: History) -> None:
@@ -92,8 +86,8 @@ def test_shares_are_of_the_grants(history: History) -> None:
     )
 
 
-def test_closures_are_known_with_the_script() -> None:
-    with Desk(STANDIN, timeout=30) as desk:
+def test_closures_are_known_with_the_script(netsched: list[str]) -> None:
+    with Desk(netsched, timeout=30) as desk:
         desk.replay(LINES[:7])
         desk.close_site("coj", [(0, 900), (1200, 5000)])
         desk.reopen_site("coj", [(0, 300)])
@@ -122,8 +116,8 @@ def test_what_has_nothing_to_draw() -> None:
         shares(story)
 
 
-def test_a_report_among_several_that_run_needs_the_script() -> None:
-    with Desk(STANDIN, timeout=30) as desk:
+def test_a_report_among_several_that_run_needs_the_script(netsched: list[str]) -> None:
+    with Desk(netsched, timeout=30) as desk:
         desk.replay(LINES[:3])
         desk.telescope("coj", "domb", "1m0a", "1m0", [CAMERA])
         desk.replay(LINES[3:7])

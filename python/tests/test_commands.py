@@ -4,6 +4,7 @@ from __future__ import annotations
 
 import json
 import os
+import shlex
 import subprocess
 import sys
 from pathlib import Path
@@ -19,7 +20,6 @@ from script import CLAIM, LINES, REPLIES, SNAPSHOT
 from snapshots import ONE
 
 TOP = Path(__file__).resolve().parents[1]
-STANDIN = f"{sys.executable} {TOP}/tests/standin"
 SITES = [
     {"site": "lsc", "latitude": -30.1674, "longitude": -70.8048, "height": 2201},
     {"site": "tfn", "latitude": 28.3003, "longitude": -16.5117, "height": 2390},
@@ -105,9 +105,9 @@ def test_portal_takes_lists_and_pages(run, wrap) -> None:
     assert (ran.status, len(ran.lines()), ran.err) == (0, 2, "")
 
 
-def test_replay_prints_the_replies(run) -> None:
+def test_replay_prints_the_replies(run, netsched: list[str]) -> None:
     files = {"script.jsonl": "\n".join([*LINES, '{"do":"sing"}'])}
-    ran = run("replay", "script.jsonl", "--program", STANDIN, files=files)
+    ran = run("replay", "script.jsonl", "--program", shlex.join(netsched), files=files)
     assert ran.status == 0
     assert ran.out.splitlines()[:-1] == REPLIES
     assert ran.err == "purvelj: 1 of 10 lines were refused\n"
@@ -150,12 +150,12 @@ def test_tighten_says_where_the_desk_went_on(run) -> None:
     assert (ran.lines()[0]["version"], ran.err.count("changed")) == (9, 0)
 
 
-def test_a_tightened_claim_is_published_by_the_desk(run) -> None:
+def test_a_tightened_claim_is_published_by_the_desk(run, netsched: list[str]) -> None:
     script = [*LINES[:6], LINES[6], LINES[6], *LINES[7:]]
-    ran = run("replay", "script.jsonl", "--program", STANDIN, files={"script.jsonl": "\n".join(script)})
+    ran = run("replay", "script.jsonl", "--program", shlex.join(netsched), files={"script.jsonl": "\n".join(script)})
     tightened = run("tighten", "output.jsonl", files={"output.jsonl": ran.out})
     again = "\n".join([*script, tightened.out.strip()])
-    ran = run("replay", "script.jsonl", "--program", STANDIN, files={"script.jsonl": again})
+    ran = run("replay", "script.jsonl", "--program", shlex.join(netsched), files={"script.jsonl": again})
     assert ran.lines()[-1]["ok"] == "published"
     assert (ran.lines()[-1]["claim"]["value"], ran.lines()[-1]["claim"]["bound"]) == (100_000, 100_000)
 

@@ -1,4 +1,4 @@
-"""The desk over pipes, against the stand-in and against programs that misbehave."""
+"""The desk over pipes, with the built program and with programs that misbehave."""
 
 from __future__ import annotations
 
@@ -21,7 +21,6 @@ from purvelj.pipes import DeskEnded, DeskError, NoReply
 from purvelj.replies import Balance, Completed, Failed, Refused, Submitted
 from script import LINES, REPLIES, SNAPSHOT
 
-STANDIN = [sys.executable, str(Path(__file__).parent / "standin")]
 GROUP = json.loads(LINES[6])["group"]
 
 
@@ -31,8 +30,8 @@ def group(**members) -> dict:
 
 
 @pytest.fixture
-def desk():
-    with Desk(STANDIN, timeout=20) as opened:
+def desk(netsched: list[str]):
+    with Desk(netsched, timeout=20) as opened:
         yield opened
 
 
@@ -146,12 +145,12 @@ def test_a_claim_is_published_for_the_version_of_the_desk(ready: Desk) -> None:
     assert (caught.value.name, caught.value.members) == ("Stale", {"asked": 8, "newer": 9})
 
 
-def test_a_saved_script_is_replayed_to_the_same_output(ready: Desk, tmp_path: Path) -> None:
+def test_a_saved_script_is_replayed_to_the_same_output(ready: Desk, netsched: list[str], tmp_path: Path) -> None:
     ready.plan()
     ready.send("[]")
     ready.balances()
     ready.save(tmp_path / "script.jsonl")
-    with Desk(STANDIN, timeout=20) as again, open(tmp_path / "script.jsonl", encoding="utf-8") as script:
+    with Desk(netsched, timeout=20) as again, open(tmp_path / "script.jsonl", encoding="utf-8") as script:
         replies = again.replay(script)
         assert again.history.output() == ready.history.output()
     assert isinstance(replies[8][0], Refused) and replies[8][0].name == "NotObject"
@@ -235,16 +234,16 @@ def _is_zombie(process: int) -> bool:
     return Path(f"/proc/{process}/stat").read_text().rsplit(")", 1)[1].split()[0] == "Z"
 
 
-def test_a_fault_in_the_with_statement_ends_the_program() -> None:
+def test_a_fault_in_the_with_statement_ends_the_program(netsched: list[str]) -> None:
     with pytest.raises(ZeroDivisionError):
-        with Desk(STANDIN) as desk:
+        with Desk(netsched) as desk:
             process = desk._program._process
             1 / 0
     assert process.returncode == 0
 
 
-def test_a_forgotten_desk_leaves_no_process() -> None:
-    desk = Desk(STANDIN)
+def test_a_forgotten_desk_leaves_no_process(netsched: list[str]) -> None:
+    desk = Desk(netsched)
     process = desk._program._process
     del desk
     assert process.returncode == 0

@@ -3,29 +3,20 @@
 from __future__ import annotations
 
 import json
+import shlex
 import subprocess
-import sys
 from pathlib import Path
 
-HERE = Path(__file__).resolve().parent
-EXAMPLE = HERE.parents[1] / "examples" / "sky"
-REFUSE = """
-import json, sys
-for line, text in enumerate(sys.stdin.readlines(), start=1):
-    reply = {"caller": 0, "line": line, "version": min(1, line - 1)}
-    opened = json.loads(text)["do"] == "open"
-    reply.update({"ok": "opened"} if opened else {"no": 39, "refused": "NotBuilt"})
-    print(json.dumps(reply), flush=True)
-"""
+EXAMPLE = Path(__file__).resolve().parents[2] / "examples" / "sky"
 
 
-def run(folder: Path, program: str, *words: str) -> subprocess.CompletedProcess:
-    command = [EXAMPLE / "run", "--program", program, "--out", folder, "--seconds", "10", *words]
+def run(folder: Path, program: list[str], *words: str) -> subprocess.CompletedProcess:
+    command = [EXAMPLE / "run", "--program", shlex.join(program), "--out", folder, "--seconds", "10", *words]
     return subprocess.run(command, capture_output=True, text=True, check=False)
 
 
-def test_the_example_runs_to_its_end(tmp_path: Path) -> None:
-    done = run(tmp_path, f"{sys.executable} {HERE}/standin", "--days", "1")
+def test_the_example_runs_to_its_end(netsched: list[str], tmp_path: Path) -> None:
+    done = run(tmp_path, netsched, "--days", "1")
     assert done.returncode == 0, done.stderr
     assert done.stderr.count("\n") == 1 and "warning: constraints: M1 in three colours" in done.stderr
     assert done.stdout.count("tightened: ") == 2
@@ -41,9 +32,9 @@ def test_the_example_runs_to_its_end(tmp_path: Path) -> None:
     assert len(script) == replies[-1]["line"]
 
 
-def test_a_desk_that_is_not_built_ends_the_example(tmp_path: Path) -> None:
-    (tmp_path / "refuse.py").write_text(REFUSE)
-    done = run(tmp_path / "out", f"{sys.executable} {tmp_path}/refuse.py")
-    assert (done.returncode, done.stdout) == (10, "")
-    assert "this desk doesn't run the command `instrument` yet (it is refused as 39 NotBuilt)" in done.stderr
-    assert list((tmp_path / "out").iterdir()) == []
+def test_a_refusal_ends_the_example(tmp_path: Path) -> None:
+    text = """input(); print('{"caller":0,"line":1,"no":6,"refused":"OutOfRange","member":"horizon","version":0}')"""
+    done = run(tmp_path, ["/usr/bin/python3", "-c", text])
+    assert (done.returncode, done.stdout) == (9, "")
+    assert done.stderr.endswith('line 1 is refused: 6 OutOfRange {"member":"horizon"}\n')
+    assert (tmp_path / "output.jsonl").exists()

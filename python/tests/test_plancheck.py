@@ -1,15 +1,9 @@
-"""The proved checker, on the claims that the package makes and checks.
-
-``bin/plancheck`` runs the program that was proved, or else one that the toolchain builds without
-proof; where there is no toolchain, these tests are left out.
-"""
+"""The desk's own checker, on the claims that the package makes and checks."""
 
 from __future__ import annotations
 
-import shutil
 import subprocess
 from dataclasses import replace
-from pathlib import Path
 from random import Random
 
 import pytest
@@ -22,45 +16,41 @@ from purvelj.tighten import tighten
 from test_checker import CERTIFIED, REFUSED
 from test_tighten import greedy_claim
 
-PLANCHECK = Path(__file__).resolve().parents[2] / "bin" / "plancheck"
 
-pytestmark = pytest.mark.skipif(shutil.which("rt") is None, reason="the Rattle toolchain isn't there")
-
-
-def verdict_of(shot: Snapshot, sent: Claim) -> tuple[int, str]:
+def verdict_of(plancheck: list[str], shot: Snapshot, sent: Claim) -> tuple[int, str]:
     """The exit status of ``plancheck check`` and the line that it writes."""
     document = compact({"snapshot": shot.document(), "claim": sent.document()})
-    ran = subprocess.run([PLANCHECK, "check"], input=document, capture_output=True, text=True, timeout=600, check=False)
+    ran = subprocess.run(plancheck, input=document, capture_output=True, text=True, timeout=600, check=False)
     return ran.returncode, ran.stdout
 
 
-def assert_same_verdict(shot: Snapshot, sent: Claim) -> None:
+def assert_same_verdict(plancheck: list[str], shot: Snapshot, sent: Claim) -> None:
     verdict = check(shot, sent)
-    assert verdict_of(shot, sent) == (0 if verdict.yes else 7, verdict.text() + "\n")
+    assert verdict_of(plancheck, shot, sent) == (0 if verdict.yes else 7, verdict.text() + "\n")
 
 
 @pytest.mark.parametrize("case", CERTIFIED)
-def test_certified_claims_are_certified_by_both(case: str) -> None:
-    assert_same_verdict(*CERTIFIED[case])
+def test_certified_claims_are_certified_by_both(plancheck: list[str], case: str) -> None:
+    assert_same_verdict(plancheck, *CERTIFIED[case])
 
 
 @pytest.mark.parametrize("shot, sent, text", REFUSED)
-def test_both_tell_the_same_reason(shot: Snapshot, sent: Claim, text: str) -> None:
-    assert verdict_of(shot, sent) == (7, text + "\n")
+def test_both_tell_the_same_reason(plancheck: list[str], shot: Snapshot, sent: Claim, text: str) -> None:
+    assert verdict_of(plancheck, shot, sent) == (7, text + "\n")
 
 
 @pytest.mark.parametrize("quotas", [False, True])
-def test_tightened_claims_are_certified(quotas: bool) -> None:
+def test_tightened_claims_are_certified(plancheck: list[str], quotas: bool) -> None:
     draw = Random(23)
     for _ in range(30):
         shot = drawn_snapshot(draw, quotas=quotas)
         found = tighten(shot, greedy_claim(shot)).claim
-        assert verdict_of(shot, found) == (0, compact({"bound": found.bound, "ok": "yes", "value": found.value}) + "\n")
-        assert_same_verdict(shot, replace(found, value=found.value + 1))
-        assert_same_verdict(shot, replace(found, bound=max(0, found.bound - 1)))
+        assert verdict_of(plancheck, shot, found) == (0, compact({"bound": found.bound, "ok": "yes", "value": found.value}) + "\n")
+        assert_same_verdict(plancheck, shot, replace(found, value=found.value + 1))
+        assert_same_verdict(plancheck, shot, replace(found, bound=max(0, found.bound - 1)))
 
 
-def test_a_tightened_network_is_certified() -> None:
+def test_a_tightened_network_is_certified(plancheck: list[str]) -> None:
     shot = drawn_network(Random(5))
     found = tighten(shot, greedy_claim(shot)).claim
-    assert_same_verdict(shot, found)
+    assert_same_verdict(plancheck, shot, found)
