@@ -18,12 +18,13 @@ sys.path[:0] = [str(HERE.parent), str(HERE)]
 def built(name: str) -> str:
     """Where a program of the repository is: the proved one, or else one that is built without proof.
 
-    Where there is no toolchain to build it, the test that asks for it is left out.
+    Where it isn't there, nor a toolchain to build it, the test that asks for it is left out.
     """
-    if shutil.which("rt") is None:
-        pytest.skip("the Rattle toolchain isn't there")
     command = ["sh", "-c", '. "$top/bin/lib.sh" && program "$1"', "python/check", name]
-    ran = subprocess.run(command, env={**os.environ, "top": str(TOP)}, stdout=subprocess.PIPE, text=True, check=True)
+    ran = subprocess.run(command, env={**os.environ, "top": str(TOP)}, stdout=subprocess.PIPE, text=True, check=False)
+    if ran.returncode and shutil.which("rt") is None:
+        pytest.skip("the Rattle toolchain isn't there")
+    ran.check_returncode()
     return ran.stdout.strip()
 
 

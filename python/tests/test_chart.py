@@ -28,6 +28,7 @@ from purvelj.spans import Span
 from script import LINES, REPLIES
 from snapshots import single, snapshot
 
+EXAMPLES = Path(__file__).resolve().parents[2] / "examples"
 GROUP = json.loads(LINES[6])["group"]
 CAMERA = "1M0-SCICAM-SINISTRO"
 
@@ -72,6 +73,22 @@ def test_an_output_alone_tells_numbers(history: History) -> None:
     assert [row.name for row in view.rows] == ["telescope 0, site 0", "telescope 1, site 0"]
     assert view.bars == (Bar(0, Span(600, 900), 3, None),)
     assert story.notes == ["request 2 is running, and how long isn't known without the lines that were sent"]
+
+
+def test_a_night_is_told_from_what_was_kept_of_it() -> None:
+    output, script = ((EXAMPLES / f"night.{ending}").read_text(encoding="utf-8") for ending in ("replies", "jsonl"))
+    story = story_of(read_history(output, script))
+    view = plan_view(story)
+    assert story.notes == []
+    assert [(bar.request, bar.running) for bar in sorted(view.bars, key=lambda bar: bar.request)] == [
+        (3, False),
+        (7, False),
+        (9, False),
+        (10, False),
+        (11, False),
+        (14, True),
+    ]
+    assert Share(("2026B-TRANSITS", "time_critical", CAMERA), 2700, 2748, 2748, 552) in shares(story)
 
 
 def test_shares_are_of_the_grants(history: History) -> None:

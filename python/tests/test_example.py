@@ -5,9 +5,11 @@ from __future__ import annotations
 import json
 import shlex
 import subprocess
+import sys
 from pathlib import Path
 
-EXAMPLE = Path(__file__).resolve().parents[2] / "examples" / "sky"
+TOP = Path(__file__).resolve().parents[2]
+EXAMPLE = TOP / "examples" / "sky"
 
 
 def run(folder: Path, program: list[str], *words: str) -> subprocess.CompletedProcess:
@@ -15,11 +17,15 @@ def run(folder: Path, program: list[str], *words: str) -> subprocess.CompletedPr
     return subprocess.run(command, capture_output=True, text=True, check=False)
 
 
-def test_the_example_runs_to_its_end(netsched: list[str], tmp_path: Path) -> None:
-    done = run(tmp_path, netsched, "--days", "1")
+def test_the_example_prints_what_its_page_says(netsched: list[str], tmp_path: Path) -> None:
+    done = run(tmp_path, netsched)
     assert done.returncode == 0, done.stderr
     assert done.stderr.count("\n") == 1 and "warning: constraints: M1 in three colours" in done.stderr
-    assert done.stdout.count("tightened: ") == 2
+    page = (TOP / "docs" / "sky.md").read_text(encoding="utf-8")
+    *claims, _ = done.stdout.splitlines()
+    assert len(claims) == 4
+    for claim in claims:
+        assert claim.partition(", in ")[0] in page
     names = {
         "script.jsonl",
         "output.jsonl",
@@ -33,8 +39,8 @@ def test_the_example_runs_to_its_end(netsched: list[str], tmp_path: Path) -> Non
 
 
 def test_a_refusal_ends_the_example(tmp_path: Path) -> None:
-    text = """input(); print('{"caller":0,"line":1,"no":6,"refused":"OutOfRange","member":"horizon","version":0}')"""
-    done = run(tmp_path, ["/usr/bin/python3", "-c", text])
+    reply = '{"caller":0,"line":1,"member":"horizon","no":6,"refused":"OutOfRange","version":0}'
+    done = run(tmp_path, [sys.executable, "-c", f"input(); print({reply!r})"])
     assert (done.returncode, done.stdout) == (9, "")
     assert done.stderr.endswith('line 1 is refused: 6 OutOfRange {"member":"horizon"}\n')
     assert (tmp_path / "output.jsonl").exists()
