@@ -4,6 +4,7 @@ from __future__ import annotations
 
 import argparse
 import json
+import os
 import shlex
 import sys
 from pathlib import Path
@@ -69,7 +70,7 @@ def run(options: argparse.Namespace) -> None:
         finally:
             desk.save(options.out / "script.jsonl")
             (options.out / "output.jsonl").write_text(desk.history.output(), encoding="utf-8")
-    print(f"script, output and pictures are in {options.out}")
+    print(f"script, output and pictures are in {os.path.relpath(options.out)}")
 
 
 def set_up(date: str, days: int, start: int) -> Iterator[Line]:
