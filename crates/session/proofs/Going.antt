@@ -1,5 +1,5 @@
 -- The lines that are read and done, what was written of their replies, and what is gathered.
-use Rattle.std.proofs.Common.{◌≡◌, ℕ, suc, ◌+◌, ◌≤◌, ◌<◌, List, [], ◌∷◌, ◌++◌, length, slice_get, Bool, true, false, ◌⊎◌, refl, sym, ◌∙◌, ap, subst, arith, inl, inr, Some, None, Result, Ok, Err, OnErr, append_assoc, append-nil, length-append, IfSome}
+use Rattle.std.proofs.Common.{◌≡◌, ℕ, ◌+◌, ◌≤◌, List, [], ◌∷◌, ◌++◌, length, slice_get, true, false, ◌⊎◌, refl, sym, ◌∙◌, ap, subst, arith, inl, inr, Some, None, Result, Ok, Err, OnErr, append_assoc, append-nil, length-append}
 use Rattle.std.specs.declared.option.Option.{Option}
 use Rattle.std.specs.declared.alloc.AllocError.{AllocError}
 use Rattle.plan_io.specs.declared.lines.ScriptLine.{ScriptLine}
@@ -11,7 +11,7 @@ use Rattle.plan_io.specs.declared.status.Status.{Status}
 use Rattle.plan_io.specs.LinesOf.{lines_of, lines_left}
 use Rattle.plan_io.specs.LinesSeen.{LinesSeen, IsFresh, HasLine}
 use Rattle.plan_io.specs.Next.{IsNext, IsNextCause, IsLine}
-use Rattle.plan_io.specs.Reading.{HasAnswered, ReadsAll}
+use Rattle.plan_io.specs.Reading.{HasAnswered}
 use Rattle.plan_io.specs.Sink.{Adds, Puts, IsPutCause}
 use Rattle.plan_io.proofs.Loops.{so_far_start, so_far_line, so_far_ends}
 use Rattle.desk_events.specs.declared.command.Command.{Command}
@@ -22,7 +22,7 @@ use Rattle.desk_events.specs.Entry.{text_of_entry, text_of_history}
 use Rattle.desk_core.specs.Desk.{StateSeen, start}
 use Rattle.desk_core.specs.History.{IsWhole}
 use Rattle.session.specs.Line.{DoesLine, BeginsLine, AddsLine}
-use Rattle.session.specs.Session.{IsSound, AreFirst, WritesFront, Gathers, IsGathered, IsCutOff, IsAnswered, IsEnded, IsWrittenOn}
+use Rattle.session.specs.Session.{IsSound, AreFirst, WritesFront, Gathers, IsGathered, IsCutOff, IsEnded, IsWrittenOn}
 use Rattle.session.proofs.Stepping.{line_more, plan_more}
 use Rattle.session.proofs.Written.{adds_none, adds_twice, front_all, front_after, front_put}
 use Rattle.session.proofs.Played.{Played, played_none, played_line, sound_played, sound_begun, whole_played}

@@ -1,5 +1,5 @@
 -- Histories and one entry more.
-use Rattle.std.proofs.Common.{◌≡◌, List, [], ◌∷◌, ◌++◌, refl, sym, ◌∙◌, ap, subst, append_assoc, ◌⊎◌, inl, inr}
+use Rattle.std.proofs.Common.{◌≡◌, List, [], ◌∷◌, ◌++◌, refl, sym, ap, subst, ◌⊎◌, inl, inr}
 use Rattle.std.proofs.lemmas.List.Sums.{fold-append}
 use Rattle.plan_io.specs.declared.lines.ScriptLine.{ScriptLine}
 use Rattle.desk_events.specs.declared.entry.EventEntry.{EventEntry}
@@ -8,11 +8,6 @@ use Rattle.desk_core.specs.History.{after_entry, replay, EachAfter}
 
 pub replay_more : (scripts : List (List ScriptLine)) (history : List EventEntry) (e : EventEntry) → replay scripts (history ++ e ∷ []) ≡ after_entry scripts (replay scripts history) e
 replay_more scripts history e = fold-append (after_entry scripts) start history (e ∷ [])
-
--- what holds of each entry of a history holds of each of its front
-pub each_front : (R : List EventEntry → EventEntry → Type 0) (xs ys : List EventEntry) → EachAfter R (xs ++ ys) → EachAfter R xs
-each_front R xs ys h before after e is =
-    h before (after ++ ys) e (ap (λ (zs : List EventEntry). zs ++ ys) is ∙ append_assoc before (e ∷ after) ys)
 
 -- where a list with one more entry at its end is cut at an entry, that is the last one, or stands before it
 abbrev CutMore : List EventEntry → EventEntry → List EventEntry → List EventEntry → EventEntry → Type 0

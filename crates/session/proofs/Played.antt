@@ -20,7 +20,7 @@ use Rattle.plan_io.specs.declared.lines.ScriptLine.TheVariants.{TooLong}
 use Rattle.desk_events.specs.declared.refusal.Refusal.TheVariants.{TooManyStarts}
 use Rattle.desk_core.specs.Step.{IsSnapshotOf}
 use Rattle.desk_core.specs.History.{IsPlanning, IsLineReply, after_line, after_publish, read_at, after_what, replay, Answers, HasTaken, IsPublication, IsReply, IsEntry, EachAfter, IsLegal, IsWhole, Publishes}
-use Rattle.session.specs.Line.{IsPublishedClaim, IsBoundedReply, IsDeskClaim, IsPlanReply, IsStepDone, step_entry, take_entry, publish_entry, DoesLine, BeginsLine}
+use Rattle.session.specs.Line.{IsPublishedClaim, IsBoundedReply, IsPlanReply, IsStepDone, step_entry, take_entry, publish_entry, DoesLine, BeginsLine}
 use Rattle.session.specs.Session.{IsSound}
 use Rattle.session.proofs.Histories.{replay_more, each_more, each_none}
 use Rattle.session.proofs.Turns.{AreMine, mine_more, entries_mine, turns, turns_more, answers_more, last_more, one_caller, one_whole}

@@ -18,7 +18,7 @@ use Rattle.desk_events.specs.declared.command.Command.{Command}
 use Rattle.desk_events.specs.declared.command.Command.TheVariants as command
 use Rattle.desk_events.specs.declared.fault.CommandFault.{CommandFault}
 use Rattle.desk_events.specs.declared.refusal.Refusal.{Refusal}
-use Rattle.desk_events.specs.declared.refusal.Refusal.TheVariants.{Stale, Rejected, NotOpened, AlreadyOpened, NotRunning, UsedTooLong}
+use Rattle.desk_events.specs.declared.refusal.Refusal.TheVariants.{Stale, Rejected, AlreadyOpened, NotRunning, UsedTooLong}
 use Rattle.desk_events.specs.declared.reply.Reply.{Reply}
 use Rattle.desk_events.specs.declared.reply.Reply.TheVariants as reply
 use Rattle.desk_core.specs.declared.desk.Submitted.{Submitted}
@@ -26,21 +26,20 @@ use Rattle.desk_core.specs.declared.desk.Wanted.{Wanted}
 use Rattle.request_model.specs.declared.group.GroupDoc.{GroupDoc}
 use Rattle.plan_base.specs.declared.number.RequestNo.{RequestNo}
 use Rattle.desk_core.specs.Asking.{MadeSeen, made_of}
-use Rattle.desk_core.specs.Desk.{DeskSeen, StateSeen, Stepped, Decision, refused, accepted, decided, told}
+use Rattle.desk_core.specs.Desk.{DeskSeen, StateSeen, Stepped, Decision, refused, decided, told}
 use Rattle.desk_core.specs.DeskSnapshot.{snapshot_of}
 use Rattle.desk_core.specs.Registering.{times, on_instrument, on_telescope, on_night, on_visibility, on_closure, on_grant}
 use Rattle.desk_core.specs.Submitting.{on_submit, on_made}
-use Rattle.desk_core.specs.Closing.{on_withdraw, on_amend, on_freed}
+use Rattle.desk_core.specs.Closing.{on_withdraw, on_amend}
 use Rattle.desk_core.specs.Timing.{on_clock, on_report, on_reported, on_refused, on_completed, on_failed}
 use Rattle.desk_core.specs.Publishing.{with_publication, rejection, on_publish}
 use Rattle.desk_core.specs.Showing.{on_export, on_balances, on_show, shown_group}
-use Rattle.desk_core.specs.Refusals.{refusal_in}
 use Rattle.desk_core.specs.declared.desk.Publication.{Publication}
 use Rattle.desk_runs.specs.declared.group.Group.{Group}
 use Rattle.desk_runs.specs.Numbers.{is_placed}
 use Rattle.desk_core.specs.Timing.{request_with}
-use Rattle.desk_core.specs.Step.{step, step_by, step_unopened, step_opened, IsAsked, IsStep, IsSnapshotOf, opened}
-use Rattle.desk_core.specs.History.{IsPlanning, IsLineReply, verdict_told, left_by, after_line, with_published, after_publish}
+use Rattle.desk_core.specs.Step.{step, step_by, step_unopened, IsAsked, IsStep, IsSnapshotOf, opened}
+use Rattle.desk_core.specs.History.{IsPlanning, verdict_told, left_by, after_line, with_published, after_publish}
 use Rattle.desk_core.proofs.Publications.{certified_by}
 use Rattle.session.specs.Line.{IsBoundedClaim, IsBoundedReply, IsStepDone, IsPlanReply}
 
@@ -103,9 +102,6 @@ IsCurrent v s o c claim stepped =
 decided_publishes : (s : StateSeen) (refusal : Option Refusal) (r : Reply) (e : DeskSeen) → publishes r ≡ false → publishes (decided s record { refusal = refusal; reply = r; desk = e }).reply ≡ false
 decided_publishes s None r e h = h
 decided_publishes s (Some refusal) r e h = refl
-
-told_publishes : (s : StateSeen) (r : Reply) → publishes r ≡ false → publishes (told s (Ok r)).reply ≡ false
-told_publishes s r h = h
 
 -- no other step does
 other : {X : Type 0} (now stepped : Stepped) (claim : Claim) → publishes now.reply ≡ false → Some now ≡ Some stepped → stepped.reply ≡ reply.Published claim → X
@@ -229,15 +225,6 @@ step_done s t c r differs h o = record {
   replied = (record { reply = r; state = t }, h, refl);
   bounded = bounded_step s t c r h o;
   left = sym (step_left s c record { reply = r; state = t } h);
-}
-
--- a line with a fault
-pub fault_done : (s : StateSeen) (f : CommandFault) (r : Refusal) → refusal_in f ≡ Some r → IsStepDone s (Err f) (reply.Refused r) s
-fault_done s f r is = record {
-  differs = λ asks. absurd (cc);
-  replied = (r, is, refl);
-  bounded = λ claim e. absurd (cc);
-  left = refl;
 }
 
 -- ---- a line raises the version by one at most

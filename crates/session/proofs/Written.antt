@@ -28,9 +28,6 @@ take_whole (x ∷ xs) = ap (λ (ys : List ℕ). x ∷ ys) (take_whole xs)
 pub front_all : (a b : Option (List ℕ)) (text : List ℕ) → Adds a b text → WritesFront a b text
 front_all a b text h = (length text, omega arith, subst (λ (xs : List ℕ). Adds a b xs) (sym (take_whole text)) h)
 
-pub front_none : (a : Option (List ℕ)) (text : List ℕ) → WritesFront a a text
-front_none a text = (0, omega arith, adds_none a)
-
 -- a whole text, and then a front of another
 pub front_after : (a b c : Option (List ℕ)) (xs ys : List ℕ) → Adds a b xs → WritesFront b c ys → WritesFront a c (xs ++ ys)
 front_after a b c xs ys h w =
