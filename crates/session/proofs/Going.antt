@@ -1,5 +1,6 @@
 -- The lines that are read and done, what was written of their replies, and what is gathered.
-use Rattle.std.proofs.Common.{◌≡◌, ℕ, ◌+◌, ◌≤◌, List, [], ◌∷◌, ◌++◌, length, slice_get, true, false, ◌⊎◌, refl, sym, ◌∙◌, ap, subst, arith, inl, inr, Some, None, Result, Ok, Err, OnErr, append_assoc, append-nil, length-append}
+use Rattle.std.proofs.Common.{◌≡◌, ℕ, ◌+◌, ◌≤◌, List, [], ◌∷◌, ◌++◌, length, slice_get, true, false, ◌⊎◌, refl, sym}
+use Rattle.std.proofs.Common.{◌∙◌, ap, subst, arith, inl, inr, Some, None, Result, Ok, Err, OnErr, append_assoc, append-nil, length-append}
 use Rattle.std.specs.declared.option.Option.{Option}
 use Rattle.std.specs.declared.alloc.AllocError.{AllocError}
 use Rattle.plan_io.specs.declared.lines.ScriptLine.{ScriptLine}
@@ -114,7 +115,8 @@ text_more : (xs ys : List EventEntry) → text_of_history (xs ++ ys) ≡ text_of
 text_more [] ys = refl
 text_more (x ∷ xs) ys = ap (λ (text : List ℕ). text_of_entry x ++ text) (text_more xs ys) ∙ sym (append_assoc (text_of_entry x) (text_of_history xs) (text_of_history ys))
 
-gathers_more : (w w' : Option (List ℕ)) (old new : List ℕ) (h es : List EventEntry) → Gathers w w' old (text_of_history h) → new ≡ old ++ text_of_history es → Gathers w w' new (text_of_history (h ++ es))
+gathers_more : (w w' : Option (List ℕ)) (old new : List ℕ) (h es : List EventEntry) → Gathers w w' old (text_of_history h) → new ≡ old ++ text_of_history es
+    → Gathers w w' new (text_of_history (h ++ es))
 gathers_more w w' old new h es g e =
     (g.0, g.1, text_more h es ∙ ap (λ (text : List ℕ). text ++ text_of_history es) g.2 ∙ append_assoc g.0 old (text_of_history es) ∙ ap (λ (text : List ℕ). g.0 ++ text) (sym e))
 
@@ -166,7 +168,8 @@ next_line a b c w w' old new replies done s line found is d next stays =
 pub later_read : (old : LinesSeen) (before now : ℕ) (found : LineAnswer) (line : ScriptLine) → found ≡ answer.Line line → IsNextCause old before now found → before ≤ now
 later_read old before now found line is h = subst (IsNextCause old before now) is h
 
-pub few_done : (a b c w w' : Option (List ℕ)) (old new : LinesSeen) (replies : List ℕ) (done : ℕ) (s : StateSeen) (line : ScriptLine) → NextLine a b c w w' old new replies done s line → done + 1 ≤ 65536
+pub few_done : (a b c w w' : Option (List ℕ)) (old new : LinesSeen) (replies : List ℕ) (done : ℕ) (s : StateSeen) (line : ScriptLine)
+    → NextLine a b c w w' old new replies done s line → done + 1 ≤ 65536
 few_done a b c w w' old new replies done s line n = omega (arith, n.few, one_more n.going.lines line, n.going.count)
 
 -- the line was done
@@ -223,10 +226,12 @@ pub gathered_none : (a w : Option (List ℕ)) (replies : List ℕ) → replies �
 gathered_none a w replies none = gathered_here a a w w first_reader replies 0 start (going_start a w replies none)
 
 -- memory was wanting within a line
-sound_line : (lines : List ScriptLine) (line : ScriptLine) (h es : List EventEntry) (s : StateSeen) → AreDone lines h s → BeginsLine s (length lines + 1) (command_of_line line) es → IsSound (lines ++ line ∷ []) (h ++ es)
+sound_line : (lines : List ScriptLine) (line : ScriptLine) (h es : List EventEntry) (s : StateSeen) → AreDone lines h s → BeginsLine s (length lines + 1) (command_of_line line) es
+    → IsSound (lines ++ line ∷ []) (h ++ es)
 sound_line lines line h es s d l = sound_begun (lines ++ line ∷ []) (length lines) h s line es (d (line ∷ [])) (omega (arith, one_more lines line)) (at_end lines [] line) l
 
-pub gathered_line : (a b c w w' : Option (List ℕ)) (old new : LinesSeen) (replies after : List ℕ) (done : ℕ) (s t : StateSeen) (line : ScriptLine) (error : AllocError) → NextLine a b c w w' old new replies done s line
+pub gathered_line : (a b c w w' : Option (List ℕ)) (old new : LinesSeen) (replies after : List ℕ) (done : ℕ) (s t : StateSeen) (line : ScriptLine) (error : AllocError)
+    → NextLine a b c w w' old new replies done s line
     → AddsLine s t (done + 1) (command_of_line line) replies after (Err error) → IsGathered a w w' after
 gathered_line a b c w w' old new replies after done s t line error n l =
     let d = n.going in

@@ -42,7 +42,8 @@ step_added s t n v r read old new (Ok done) version d h g =
 step_added s t n v r read old new (Err error) version d h g = ([], inl refl, adds_none old new g)
 
 -- nothing of the line is added, where memory is wanting
-pub nothing_added : (s t : StateSeen) (n : ℕ) (read : Result Command CommandFault) (old new : List ℕ) (error : AllocError) (result : Result (Unit {0}) AllocError) → IsErrAnd result (λ e. e ≡ error) → new ≡ old
+pub nothing_added : (s t : StateSeen) (n : ℕ) (read : Result Command CommandFault) (old new : List ℕ) (error : AllocError) (result : Result (Unit {0}) AllocError)
+    → IsErrAnd result (λ e. e ≡ error) → new ≡ old
     → AddsLine s t n read old new result
 nothing_added s t n read old new error (Ok done) is h = absurd is
 nothing_added s t n read old new error (Err found) is h = ([], inl refl, adds_none old new h)

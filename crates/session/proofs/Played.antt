@@ -19,7 +19,8 @@ use Rattle.std.specs.Prelude.{slice_index_or}
 use Rattle.plan_io.specs.declared.lines.ScriptLine.TheVariants.{TooLong}
 use Rattle.desk_events.specs.declared.refusal.Refusal.TheVariants.{TooManyStarts}
 use Rattle.desk_core.specs.Step.{IsSnapshotOf}
-use Rattle.desk_core.specs.History.{IsPlanning, IsLineReply, after_line, after_publish, read_at, after_what, replay, Answers, HasTaken, IsPublication, IsReply, IsEntry, EachAfter, IsLegal, IsWhole, Publishes}
+use Rattle.desk_core.specs.History.{IsPlanning, IsLineReply, after_line, after_publish, read_at, after_what, replay, Answers}
+use Rattle.desk_core.specs.History.{HasTaken, IsPublication, IsReply, IsEntry, EachAfter, IsLegal, IsWhole, Publishes}
 use Rattle.session.specs.Line.{IsPublishedClaim, IsBoundedReply, IsPlanReply, IsStepDone, step_entry, take_entry, publish_entry, DoesLine, BeginsLine}
 use Rattle.session.specs.Session.{IsSound}
 use Rattle.session.proofs.Histories.{replay_more, each_more, each_none}
@@ -76,7 +77,8 @@ abbrev IsStep : Reply → StateSeen → Result Command CommandFault → Type 0
 IsStep reply t read = ¬ (IsPlanning t read) × IsLineReply t read reply
 
 -- the claim of a step is sent and not planned
-sent_bounded : (lines : List ScriptLine) (n : ℕ) (h : List EventEntry) (s : StateSeen) (reply : Reply) → Leaves lines h s → IsBoundedReply s reply → IsBoundedEntry (lines ∷ []) h (step_entry s n reply)
+sent_bounded : (lines : List ScriptLine) (n : ℕ) (h : List EventEntry) (s : StateSeen) (reply : Reply) → Leaves lines h s → IsBoundedReply s reply
+    → IsBoundedEntry (lines ∷ []) h (step_entry s n reply)
 sent_bounded lines n h s reply l bounded claim e =
     let known = bounded claim e in (
       known.0,
@@ -84,7 +86,8 @@ sent_bounded lines n h s reply l bounded claim e =
       record { bounded = known.2; planned = λ planned. cc },
     )
 
-leaves_step : (lines : List ScriptLine) (n : ℕ) (h : List EventEntry) (s t : StateSeen) (line : ScriptLine) (reply : Reply) → Leaves lines h s → slice_get lines n ≡ Some line → IsStepDone s (command_of_line line) reply t
+leaves_step : (lines : List ScriptLine) (n : ℕ) (h : List EventEntry) (s t : StateSeen) (line : ScriptLine) (reply : Reply) → Leaves lines h s → slice_get lines n ≡ Some line
+    → IsStepDone s (command_of_line line) reply t
     → Leaves lines (h ++ step_entry s (n + 1) reply ∷ []) t
 leaves_step lines n h s t line reply l at d =
     let read = read_here lines n line at in
@@ -144,7 +147,8 @@ leaves_publish lines n h s r l d =
 
 -- ---- one line more
 
-pub played_step : (lines : List ScriptLine) (n : ℕ) (h : List EventEntry) (s t : StateSeen) (line : ScriptLine) (reply : Reply) → Played lines n h s → slice_get lines n ≡ Some line → IsStepDone s (command_of_line line) reply t
+pub played_step : (lines : List ScriptLine) (n : ℕ) (h : List EventEntry) (s t : StateSeen) (line : ScriptLine) (reply : Reply) → Played lines n h s → slice_get lines n ≡ Some line
+    → IsStepDone s (command_of_line line) reply t
     → Played lines (n + 1) (h ++ step_entry s (n + 1) reply ∷ []) t
 played_step lines n h s t line reply p at d =
     let e : EventEntry = step_entry s (n + 1) reply in
@@ -153,7 +157,8 @@ played_step lines n h s t line reply p at d =
       answered = subst (λ (ts : List (ℕ × What)). Answers 1 ts (n + 1 + 1)) (sym (turns_more h (e ∷ []))) (answers_more 1 (n + 1) (n + 1 + 1) (turns h) ((n + 1, Line) ∷ []) p.answered (refl, refl));
     }
 
-pub played_plan : (lines : List ScriptLine) (n : ℕ) (h : List EventEntry) (s : StateSeen) (line : ScriptLine) (r : Reply) → Played lines n h s → slice_get lines n ≡ Some line → IsPlanning s (command_of_line line) → IsPlanReply s r
+pub played_plan : (lines : List ScriptLine) (n : ℕ) (h : List EventEntry) (s : StateSeen) (line : ScriptLine) (r : Reply) → Played lines n h s → slice_get lines n ≡ Some line
+    → IsPlanning s (command_of_line line) → IsPlanReply s r
     → Played lines (n + 1) (h ++ take_entry s (n + 1) ∷ publish_entry s (n + 1) r ∷ []) (after_publish s r)
 played_plan lines n h s line r p at asks d =
     let es : List EventEntry = take_entry s (n + 1) ∷ publish_entry s (n + 1) r ∷ [] in
@@ -162,7 +167,8 @@ played_plan lines n h s line r p at asks d =
       answered = subst (λ (ts : List (ℕ × What)). Answers 1 ts (n + 1 + 1)) (sym (turns_more h es)) (answers_more 1 (n + 1) (n + 1 + 1) (turns h) ((n + 1, Take) ∷ (n + 1, Publish) ∷ []) p.answered (refl, refl, refl));
     }
 
-pub played_line : (lines : List ScriptLine) (n : ℕ) (h : List EventEntry) (s t : StateSeen) (line : ScriptLine) (es : List EventEntry) → Played lines n h s → slice_get lines n ≡ Some line → DoesLine s (n + 1) (command_of_line line) es t → Played lines (n + 1) (h ++ es) t
+pub played_line : (lines : List ScriptLine) (n : ℕ) (h : List EventEntry) (s t : StateSeen) (line : ScriptLine) (es : List EventEntry) → Played lines n h s
+    → slice_get lines n ≡ Some line → DoesLine s (n + 1) (command_of_line line) es t → Played lines (n + 1) (h ++ es) t
 played_line lines n h s t line es p at (inl d) = subst (λ (xs : List EventEntry). Played lines (n + 1) (h ++ xs) t) (sym d.2) (played_step lines n h s t line d.0 p at d.1)
 played_line lines n h s t line es p at (inr d) =
     subst (λ (u : StateSeen). Played lines (n + 1) (h ++ es) u) (sym d.1.3)
@@ -176,19 +182,24 @@ legal_played lines n h s p few = record { order = one_caller lines h p.leaves.mi
 pub whole_played : (lines : List ScriptLine) (h : List EventEntry) (s : StateSeen) → Played lines (length lines) h s → IsWhole (lines ∷ []) h
 whole_played lines h s p = one_whole lines h p.leaves.mine p.answered
 
-pub legal_take : (lines : List ScriptLine) (n : ℕ) (h : List EventEntry) (s : StateSeen) → Played lines n h s → n < length lines → Leaves lines (h ++ take_entry s (n + 1) ∷ []) s → IsLegal (lines ∷ []) (h ++ take_entry s (n + 1) ∷ [])
-legal_take lines n h s p few l = record { order = one_caller lines (h ++ take_entry s (n + 1) ∷ []) l.mine (n, inr (turns h, few, turns_more h (take_entry s (n + 1) ∷ []), p.answered)); each = l.each }
+pub legal_take : (lines : List ScriptLine) (n : ℕ) (h : List EventEntry) (s : StateSeen) → Played lines n h s → n < length lines → Leaves lines (h ++ take_entry s (n + 1) ∷ []) s
+    → IsLegal (lines ∷ []) (h ++ take_entry s (n + 1) ∷ [])
+legal_take lines n h s p few l =
+    record { order = one_caller lines (h ++ take_entry s (n + 1) ∷ []) l.mine (n, inr (turns h, few, turns_more h (take_entry s (n + 1) ∷ []), p.answered)); each = l.each }
 
 pub sound_played : (lines : List ScriptLine) (n : ℕ) (h : List EventEntry) (s : StateSeen) → Played lines n h s → n ≤ length lines → IsSound lines h
 sound_played lines n h s p few = record { legal = legal_played lines n h s p few; bounded = p.leaves.bounded }
 
-sound_take : (lines : List ScriptLine) (n : ℕ) (h : List EventEntry) (s : StateSeen) (line : ScriptLine) → Played lines n h s → n < length lines → slice_get lines n ≡ Some line → IsPlanning s (command_of_line line) → IsSound lines (h ++ take_entry s (n + 1) ∷ [])
+sound_take : (lines : List ScriptLine) (n : ℕ) (h : List EventEntry) (s : StateSeen) (line : ScriptLine) → Played lines n h s → n < length lines → slice_get lines n ≡ Some line
+    → IsPlanning s (command_of_line line) → IsSound lines (h ++ take_entry s (n + 1) ∷ [])
 sound_take lines n h s line p few at asks =
     let l = leaves_take lines n h s line p.leaves at asks in
     record { legal = legal_take lines n h s p few l; bounded = l.bounded }
 
 -- with the entries of the next line, or the first of them
-pub sound_begun : (lines : List ScriptLine) (n : ℕ) (h : List EventEntry) (s : StateSeen) (line : ScriptLine) (es : List EventEntry) → Played lines n h s → n < length lines → slice_get lines n ≡ Some line → BeginsLine s (n + 1) (command_of_line line) es → IsSound lines (h ++ es)
-sound_begun lines n h s line es p few at (inl d) = subst (λ (xs : List EventEntry). IsSound lines xs) (sym (ap (λ (ys : List EventEntry). h ++ ys) d ∙ append-nil h)) (sound_played lines n h s p (omega arith))
+pub sound_begun : (lines : List ScriptLine) (n : ℕ) (h : List EventEntry) (s : StateSeen) (line : ScriptLine) (es : List EventEntry) → Played lines n h s → n < length lines
+    → slice_get lines n ≡ Some line → BeginsLine s (n + 1) (command_of_line line) es → IsSound lines (h ++ es)
+sound_begun lines n h s line es p few at (inl d) =
+    subst (λ (xs : List EventEntry). IsSound lines xs) (sym (ap (λ (ys : List EventEntry). h ++ ys) d ∙ append-nil h)) (sound_played lines n h s p (omega arith))
 sound_begun lines n h s line es p few at (inr (inl d)) = subst (λ (xs : List EventEntry). IsSound lines (h ++ xs)) (sym d.1) (sound_take lines n h s line p few at d.0)
 sound_begun lines n h s line es p few at (inr (inr d)) = sound_played lines (n + 1) (h ++ es) d.0 (played_line lines n h s d.0 line es p at d.1) (omega arith)

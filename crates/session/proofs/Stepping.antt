@@ -1,5 +1,6 @@
 -- What a step leaves, and when it publishes a claim.
-use Rattle.std.proofs.Common.{◌≡◌, ◌∙◌, ℕ, ◌+◌, ◌≤◌, Bool, true, false, not, cond, ◌==◌, nat_lt, nat_le, inl, inr, refl, ap, sym, subst, Option, Some, None, Result, Ok, Err, IfSome, pos, ◌≤ℤ◌, List, arith}
+use Rattle.std.proofs.Common.{◌≡◌, ◌∙◌, ℕ, ◌+◌, ◌≤◌, Bool, true, false, not, cond, ◌==◌, nat_lt, nat_le, inl, inr}
+use Rattle.std.proofs.Common.{refl, ap, sym, subst, Option, Some, None, Result, Ok, Err, IfSome, pos, ◌≤ℤ◌, List, arith}
 use Rattle.std.proofs.lemmas.Bool.{eqb-true}
 use Rattle.std.proofs.lemmas.Int.{ints}
 use Rattle.plan_base.specs.declared.claim.Claim.{Claim}
@@ -175,7 +176,8 @@ current : (v : Verdict) (s : StateSeen) (o : Option DeskSeen) (c : Command) (cla
 current v s None c claim stepped h e = other (step_unopened s c) stepped claim (unopened_plain s c) h e
 current v s (Some d) (command.Open now slice horizon semester lanes rounds workers quota) claim stepped h e = other (refused s AlreadyOpened) stepped claim refl h e
 current v s (Some d) (command.Instrument name front config readout change) claim stepped h e = by_decision s (on_instrument d name (times front config readout change)) stepped claim refl h e
-current v s (Some d) (command.Telescope site enclosure telescope class instruments) claim stepped h e = by_decision s (on_telescope d record { site = site; enclosure = enclosure; telescope = telescope } class instruments) stepped claim refl h e
+current v s (Some d) (command.Telescope site enclosure telescope class instruments) claim stepped h e =
+    by_decision s (on_telescope d record { site = site; enclosure = enclosure; telescope = telescope } class instruments) stepped claim refl h e
 current v s (Some d) (command.Night site spans) claim stepped h e = by_decision s (on_night d site spans) stepped claim refl h e
 current v s (Some d) (command.Visibility target site spans) claim stepped h e = by_decision s (on_visibility d target site spans) stepped claim refl h e
 current v s (Some d) (command.Close scope spans) claim stepped h e = by_decision s (on_closure d Close scope spans reply.Closed) stepped claim refl h e
@@ -185,7 +187,8 @@ current v s (Some d) (command.Submit document) claim stepped h e = by_decision s
 current v s (Some d) (command.Amend old document) claim stepped h e = by_decision s (on_amend d old document) stepped claim refl h e
 current v s (Some d) (command.Withdraw group) claim stepped h e = by_decision s (on_withdraw d group) stepped claim refl h e
 current v s (Some d) (command.Clock at) claim stepped h e = by_decision s (on_clock d at) stepped claim refl h e
-current v s (Some d) (command.Report request percent used) claim stepped h e = by_decision s (on_report d request percent used) stepped claim (reported_plain d request percent used (request_with d request)) h e
+current v s (Some d) (command.Report request percent used) claim stepped h e =
+    by_decision s (on_report d request percent used) stepped claim (reported_plain d request percent used (request_with d request)) h e
 current v s (Some d) command.Plan claim stepped h e = absurd (cc)
 current v s (Some d) (command.Publish asked sent) claim stepped h e = publish_is s d (asked == s.version) v asked sent claim stepped refl h e
 current v s (Some d) command.Export claim stepped h e = other (told s (on_export d.published)) stepped claim (export_plain s d.published) h e
@@ -261,7 +264,8 @@ step_more v s None command.Balances = omega arith
 step_more v s None (command.Show group) = omega arith
 step_more v s (Some d) (command.Open now slice horizon semester lanes rounds workers quota) = omega arith
 step_more v s (Some d) (command.Instrument name front config readout change) = by_more s (on_instrument d name (times front config readout change))
-step_more v s (Some d) (command.Telescope site enclosure telescope class instruments) = by_more s (on_telescope d record { site = site; enclosure = enclosure; telescope = telescope } class instruments)
+step_more v s (Some d) (command.Telescope site enclosure telescope class instruments) =
+    by_more s (on_telescope d record { site = site; enclosure = enclosure; telescope = telescope } class instruments)
 step_more v s (Some d) (command.Night site spans) = by_more s (on_night d site spans)
 step_more v s (Some d) (command.Visibility target site spans) = by_more s (on_visibility d target site spans)
 step_more v s (Some d) (command.Close scope spans) = by_more s (on_closure d Close scope spans reply.Closed)

@@ -2,7 +2,8 @@ use Rattle.std.proofs.Common.{◌≡◌, [], ap, sym, ◌∙◌, subst, arith}
 use Rattle.plan_io.specs.LinesSeen.{LinesSeen}
 use Rattle.plan_io.specs.declared.lines.LineAnswer.TheVariants as answer
 use Rattle.plan_io.specs.Next.{IsNext}
-use Rattle.session.proofs.Going.{going_first, going_due, going_line, later_read, later_written, next_line, few_done, gathered_none, gathered_here, gathered_line, cut_by_due, all_answered, no_line_left, on_err}
+use Rattle.session.proofs.Going.{going_first, going_due, going_line, later_read, later_written, next_line, few_done}
+use Rattle.session.proofs.Going.{gathered_none, gathered_here, gathered_line, cut_by_due, all_answered, no_line_left, on_err}
 use Rattle.session.proofs.run.answer_lines.Goals as goal
 
 pub loop-reader-init : goal.loop-reader-init
