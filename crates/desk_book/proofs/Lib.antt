@@ -1,0 +1,16 @@
+pub mod Equality
+pub mod Histories
+pub mod Stepping
+pub mod GoesOn
+pub mod Turns
+pub mod Places
+pub mod Keeping
+pub mod Counting
+pub mod Sound
+pub mod Calls
+pub mod OneReply
+pub mod Replays
+pub mod Versions
+pub mod Texts
+pub mod Fields
+pub mod Whole

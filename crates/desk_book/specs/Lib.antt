@@ -1,0 +1,6 @@
+pub mod Seen
+pub mod Claims
+pub mod Doing
+pub mod Kept
+pub mod Inside
+pub mod Laws

@@ -1,0 +1,28 @@
+// Laws of the desk and its histories, each the contract of a function that does nothing.
+
+ghost use Rattle.desk_book.specs.Laws.{OneReply, VersionsCount, TextTellsHistory, OneReplay, OverIsWhole};
+
+/// The law: for one state of the desk and one line that is a step there is one reply.
+pub fn one_reply()
+    ensures { OneReply }
+{}
+
+/// The law: the version of an entry is the number of changes that were accepted before it.
+pub fn versions_count()
+    ensures { VersionsCount }
+{}
+
+/// The law: legal histories of the same scripts that have one text are the same.
+pub fn text_tells_history()
+    ensures { TextTellsHistory }
+{}
+
+/// The law: a legal history leads from the empty state to one state, its replay.
+pub fn one_replay()
+    ensures { OneReplay }
+{}
+
+/// The law: where no caller of a book has an open Take or a line left, its history is whole.
+pub fn over_is_whole()
+    ensures { OverIsWhole }
+{}

@@ -1,0 +1,12 @@
+// The book of a desk: which lines each caller sends, what was done of them, and the state that this leaves.
+#![tactic(auto)]
+
+mod book;
+mod doing;
+mod laws;
+mod same;
+mod step;
+
+pub use book::Book;
+pub use laws::{one_replay, one_reply, over_is_whole, text_tells_history, versions_count};
+pub use step::{BookCall, BookStep, PublishStep};
