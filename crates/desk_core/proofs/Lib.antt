@@ -1,6 +1,5 @@
 pub mod Seconds
 pub mod SnapshotLists
-pub mod Faultless
 pub mod SnapshotSpans
 pub mod SnapshotGroups
 pub mod SnapshotTelescopes

@@ -29,7 +29,8 @@ use Rattle.desk_core.specs.declared.desk.Wanted.{Wanted}
 use Rattle.desk_core.specs.Desk.{DeskSeen}
 use Rattle.desk_core.specs.Kept.{IsDesk, IsAlong, IsAsked, IsWanted}
 use Rattle.desk_core.specs.DeskSnapshot.{both_of, request_part, waiting_of, has_running, is_listed, listed_groups, group_part, snapshot_of}
-use Rattle.desk_core.proofs.SnapshotLists.{all_zip, all_seconds, all_firsts, pairs_firsts, pairs_seconds, pairs_append, across, all_left, all_right, all_flat}
+use Rattle.plan_base.proofs.Lists.{all_flat}
+use Rattle.desk_core.proofs.SnapshotLists.{all_zip, all_seconds, all_firsts, pairs_firsts, pairs_seconds, pairs_append, across, all_left, all_right}
 use Rattle.desk_core.proofs.SnapshotLists.{length_zip, less_filtered, less_each, less_seconds, count_flat, no_more}
 
 -- ---- what is so of each request

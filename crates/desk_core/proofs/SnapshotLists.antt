@@ -60,12 +60,6 @@ pairs_append R (x ∷ xs) ys left right across =
     AllPairs-cons R x (xs ++ ys) (All-append (R x) xs ys (pairs_head R x xs left) (All-head (λ y. All (R y) ys) x xs across))
     (pairs_append R xs ys (pairs_tail R x xs left) right (All-tail (λ y. All (R y) ys) x xs across))
 
--- what holds of each of two lists holds of both, one after another
-pub all_flat : {X Y : Type 0} (P : Y → Type 0) (f : X → List Y) (xs : List X) → All (λ x. All P (f x)) xs → All P (flat_map f xs)
-all_flat P f [] h = All-nil P
-all_flat P f (x ∷ xs) h =
-    All-append P (f x) (flat_map f xs) (All-head (λ y. All P (f y)) x xs h) (all_flat P f xs (All-tail (λ y. All P (f y)) x xs h))
-
 pub all_right : {X : Type 0} (P : X → Type 0) (xs ys : List X) → All P (xs ++ ys) → All P ys
 all_right P [] ys h = h
 all_right P (x ∷ xs) ys h = all_right P xs ys (All-tail P x (xs ++ ys) h)

@@ -16,8 +16,8 @@ use Rattle.request_model.specs.Ranges.{IsWindow}
 use Rattle.desk_core.specs.Desk.{DeskSeen}
 use Rattle.desk_core.specs.Kept.{IsDesk}
 use Rattle.desk_core.specs.DeskSnapshot.{site_of, is_usable, telescope_part, telescope_parts, listed_groups, group_part, skies_of, snapshot_of, IsSmall}
-use Rattle.desk_core.proofs.SnapshotLists.{all_flat}
-use Rattle.desk_core.proofs.Faultless.{faultless}
+use Rattle.plan_base.proofs.Lists.{all_flat}
+use Rattle.plan_base.proofs.Faultless.{faultless}
 use Rattle.desk_core.proofs.SnapshotSpans.{horizon, moments_in}
 use Rattle.desk_core.proofs.SnapshotGroups.{each_listed, few_requests, few_groups, shapes, groups_rise, requests_rise}
 use Rattle.desk_core.proofs.SnapshotTelescopes.{usable_sorted, usable_few, telescope_count, fits_below, fits_rise, fits_few}

@@ -28,7 +28,8 @@ use Rattle.desk_core.specs.Desk.{DeskSeen}
 use Rattle.desk_core.specs.Kept.{IsDesk}
 use Rattle.desk_core.specs.DeskSnapshot.{in_horizon, waiting_of, listed_groups, proposals_of, quota_place, quotas_of, group_part, targets_listed, sky_part}
 use Rattle.desk_core.specs.DeskSnapshot.{skies_at, skies_of, IsSmall}
-use Rattle.desk_core.proofs.SnapshotLists.{Rise, rise_all, all_inserted, range_below, range_rises, all_flat, pairs_append, length_flat, length_some, all_some}
+use Rattle.plan_base.proofs.Lists.{all_flat}
+use Rattle.desk_core.proofs.SnapshotLists.{Rise, rise_all, all_inserted, range_below, range_rises, pairs_append, length_flat, length_some, all_some}
 use Rattle.desk_core.proofs.SnapshotLists.{pairs_some, less_each}
 use Rattle.desk_core.proofs.SnapshotSpans.{seconds_in, cut_short}
 use Rattle.desk_core.proofs.SnapshotGroups.{target_count, members, listed_along, sum_map}

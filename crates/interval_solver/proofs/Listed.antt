@@ -15,7 +15,8 @@ use Rattle.plan_base.proofs.Known.{known_as}
 use Rattle.plan_base.proofs.Orders.{contains_first, contains_cases}
 use Rattle.snapshot_starts.specs.declared.run.Run.{Run}
 use Rattle.snapshot_starts.specs.Runs.{start_at, starts_of_run, starts_of, IsRunBefore, AreRuns, AreAllStarts}
-use Rattle.snapshot_starts.proofs.InRuns.{pairs_append, IsIn, in_run, from_run, in_starts, from_starts}
+use Rattle.plan_base.proofs.Pairs.{pairs_append}
+use Rattle.snapshot_starts.proofs.InRuns.{IsIn, in_run, from_run, in_starts, from_starts}
 use Rattle.interval_solver.specs.declared.start.Start.{Start}
 use Rattle.interval_solver.specs.declared.offer.Offer.{Offer}
 use Rattle.plan_base.specs.Tables.{row}

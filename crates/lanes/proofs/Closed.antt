@@ -23,7 +23,8 @@ use Rattle.board.specs.declared.seat.SeatView.{SeatView}
 use Rattle.board.specs.Views.{times, EachOnce}
 use Rattle.board.specs.Steps.{joined}
 use Rattle.board.specs.Seats.{view}
-use Rattle.lanes.specs.Found.{FoundSeen, bettered, is_listed_before}
+use Rattle.plan_base.specs.Repaired.{is_listed_before}
+use Rattle.lanes.specs.Found.{FoundSeen, bettered}
 use Rattle.lanes.specs.Searched.{IsMade, IsMetFor, IsSearched, IsEnded}
 use Rattle.lanes.specs.declared.worker.Worker.{Worker}
 use Rattle.lanes.specs.Working.{HasDoneWork}
@@ -31,7 +32,7 @@ use Rattle.lanes.specs.Solving.{IsInRange, IsNew, HasWorked, IsGathering}
 use Rattle.lanes.proofs.Finding.{bound_at_most}
 use Rattle.lanes.proofs.Closing.{IsSettled, IsAllFound, worth, planned}
 use Rattle.lanes.proofs.Ending.{searched_both, ended_both}
-use Rattle.lanes.proofs.Listings.{listing_feasible, listing_worth, listing_is}
+use Rattle.plan_base.proofs.Listings.{listing_feasible, listing_worth, listing_is}
 
 -- what stands in a list is counted, and what is counted stands there
 times_from : (n : ℕ) (xs : List ℕ) → Contains xs n → 1 ≤ times n xs

@@ -21,7 +21,7 @@ use Rattle.plan_base.proofs.Limits.{value_limit}
 use Rattle.plan_base.proofs.OneFill.{one_filled}
 use Rattle.lanes.specs.Found.{FoundSeen, IsBoundMade, IsValueMade, IsLeastMade, IsFirstValue, IsFound}
 use Rattle.lanes.specs.Searched.{up_to, IsValueGiven, IsMetBy}
-use Rattle.lanes.proofs.RepairedPlans.{repaired_feasible}
+use Rattle.plan_base.proofs.RepairedPlans.{repaired_feasible}
 
 -- all rounds of lane j were made; or bound and value have met, and with one worker by what lanes up to j gave, or before any round of lane j or of a later one
 abbrev pub IsSettled : Parts → Settings → (ℕ → ℕ → Type 0) → ℕ → ℕ → ℕ → ℕ → Type 0

@@ -18,7 +18,7 @@ use Rattle.prices.specs.Rounds.{AreUses, prices_after, step_size}
 use Rattle.prices.proofs.Rounding.{next_is, size_is}
 use Rattle.lanes.specs.declared.lane_prices.LanePrices.{LanePrices}
 use Rattle.lanes.specs.Rounds.{LaneSeen, IsLane, IsSolved, Stepping, IsSolvedAt, IsLaneNow, IsAnswer, lane_seen, IsRoundAnswer}
-use Rattle.lanes.proofs.RoundPrices.{round_count, round_quota_count, round_in_range, round_quota_in_range}
+use Rattle.plan_base.proofs.RoundPrices.{round_count, round_quota_count, round_in_range, round_quota_in_range}
 
 -- all prices are 0
 pub first_lane : (s : Parts) (l : LanePrices) → l.lane < 8 → l.made ≡ 0 → l.prices.0 ≡ replicate (length (listed s)) (pos 0)

@@ -1,5 +1,3 @@
-pub mod RoundPrices
-pub mod Chosen
 pub mod Solved
 pub mod Written
 pub mod Lanes
@@ -11,9 +9,7 @@ pub mod Ending
 pub mod Finding
 pub mod InStep
 pub mod Keeping
-pub mod Listings
 pub mod Lists
-pub mod RepairedPlans
 pub mod RoundInStep
 pub mod RoundsInStep
 pub mod Starting

@@ -1,6 +1,5 @@
 -- What rounds have found. Which rounds were made is a set of lanes and rounds.
 use Rattle.std.specs.Prelude.{◌≡◌, ℕ, ◌≤◌, ◌<◌, ◌⊎◌, Bool, nat_lt, if◌then◌else◌, ℤ, pos, ◌≤ℤ◌, List, [], length, replicate, All}
-use Rattle.std.specs.Ordering.{nat_cmp, is_lt, ordering_then}
 use Rattle.plan_base.specs.declared.parts.Parts.{Parts}
 use Rattle.plan_base.specs.declared.claim.Placement.{Placement}
 use Rattle.plan_base.specs.Limits.{most_quota_price}
@@ -13,10 +12,6 @@ use Rattle.plan_base.specs.Repaired.{IsRepaired}
 use Rattle.plan_base.specs.Planned.{IsEarlierRound}
 use Rattle.plan_base.specs.Verdict.{IsPriceInRange}
 use Rattle.board.specs.Views.{no_bound}
-
--- p is before q by telescope, then slice
-abbrev pub is_listed_before : Placement → Placement → Bool
-is_listed_before p q = is_lt (ordering_then (nat_cmp p.telescope.0 q.telescope.0) (nat_cmp p.slice.0 q.slice.0))
 
 -- a bound with the prices that give it, and a value with the plan that has it
 pub record FoundSeen : Type 0 where

@@ -2,9 +2,12 @@
 
 ghost use Rattle.std.specs.Prelude.{◌≡◌, ◌≤◌, length, IfOk, vec_capacity};
 ghost use Rattle.std.specs.List.Sorted.{IsSortedBy, IsPermutation};
-ghost use Rattle.lanes.specs.Found.{is_listed_before, nothing, cleared, lowered, raised, bettered};
+ghost use Rattle.plan_base.specs.Repaired.{is_listed_before};
+ghost use Rattle.lanes.specs.Found.{nothing, cleared, lowered, raised, bettered};
 
-use plan_base::{Claim, ListOf, MOST_REQUESTS, Placement, Prices, QuotaPrices, Snapshot};
+use plan_base::{
+    Claim, ListOf, MOST_REQUESTS, Placement, Prices, QuotaPrices, Snapshot, listing_of,
+};
 use prices::{zero_prices, zero_quota_prices};
 use std::alloc::{AllocError, Global};
 use std::marker::Model;
@@ -136,15 +139,6 @@ impl Found {
         self.lower(later.bound, &later.prices, &later.quota_prices);
         self.raise(later.value, later.plan.as_slice());
     }
-}
-
-/// Lists placements by telescope, then slice.
-fn listing_of(mut plan: Vec<Placement>) -> ListOf<Placement>
-    ensures same { IsPermutation plan.items result }
-    ensures rising { IsSortedBy is_listed_before result }
-{
-    plan.sort_unstable_by_key(|placement| (placement.telescope.0, placement.slice.0));
-    ListOf::from_vec(plan)
 }
 
 /// Copies prices into others of the same number.

@@ -1,4 +1,5 @@
 pub mod Adding
+pub mod Chosen
 pub mod Computed
 pub mod ComputedFaults
 pub mod ComputedRebates
@@ -6,12 +7,14 @@ pub mod ComputedStarts
 pub mod Duality
 pub mod Empty
 pub mod FaultLemmas
+pub mod Faultless
 pub mod Filled
 pub mod GroupRebates
 pub mod Growing
 pub mod Here
 pub mod Known
 pub mod Limits
+pub mod Listings
 pub mod Lists
 pub mod Members
 pub mod NetLists
@@ -21,9 +24,12 @@ pub mod OneSpan
 pub mod OneVerdict
 pub mod Orderly
 pub mod Orders
+pub mod Pairs
 pub mod RangeLemmas
 pub mod Rebates
 pub mod Removing
+pub mod RepairedPlans
+pub mod RoundPrices
 pub mod RowLemmas
 pub mod RowTables
 pub mod Single

@@ -1,11 +1,11 @@
 -- Lists: what a filter and a map keep, and that numbers no two of which are equal are no more than those among which they are.
 use Rattle.std.proofs.Common.{◌≡◌, ◌≢◌, ℕ, zero, suc, ◌<◌, ◌≤◌, Bool, true, false, cond, List, [], ◌∷◌, length, map, filter, All, AllPairs, Contains, refl, ◌∙◌, ap, arith}
-use Rattle.std.specs.List.{IsDistinct}
+use Rattle.std.specs.List.{IsDistinct, flat_map}
 use Rattle.std.specs.Prelude.{nat_eq}
 use Rattle.std.proofs.lemmas.Bool.Decides.{Decides-eqb}
 use Rattle.std.proofs.lemmas.Cmp.{nat_eq_equiv}
 use Rattle.std.proofs.lemmas.List.{length-map, get_or-map}
-use Rattle.std.proofs.lemmas.List.Elements.{All-map, All-contains}
+use Rattle.std.proofs.lemmas.List.Elements.{All-head, All-tail, All-nil, All-append, All-map, All-contains}
 use Rattle.std.proofs.lemmas.List.Kept.{AllPairs-cons}
 use Rattle.std.proofs.lemmas.Map.Made.{IsDistinct-from_AllPairs, is_member-Decides, length-le_from_is_member}
 use Rattle.std.proofs.lemmas.Map.Steps.{length-le_from_distinct_below}
@@ -58,3 +58,9 @@ pub length_below : (xs : List ℕ) (n : ℕ) → AllPairs (λ a b. a ≢ b) xs �
 length_below xs n once h =
     length-le_from_distinct_below xs n (is_distinct xs once)
     (λ q m. All-contains (λ x. x < n) xs q h ((is_member-Decides {eq = nat_eq} Decides-eqb xs q).0 m))
+
+-- what holds of each element of each list holds of each of all of them, one list after another
+pub all_flat : {X Y : Type 0} (P : Y → Type 0) (f : X → List Y) (xs : List X) → All (λ x. All P (f x)) xs → All P (flat_map f xs)
+all_flat P f [] h = All-nil P
+all_flat P f (x ∷ xs) h =
+    All-append P (f x) (flat_map f xs) (All-head (λ y. All P (f y)) x xs h) (all_flat P f xs (All-tail (λ y. All P (f y)) x xs h))

@@ -1,6 +1,7 @@
 -- The primal heuristic: a feasible plan made of the starts that prices give.
 use Rattle.std.specs.Prelude.{◌≡◌, ℕ, ℤ, ◌<◌, Bool, true, false, not, ◌==◌, ◌⊎◌, List, [], ◌∷◌, ◌++◌, map, Option, Some, AllPairs, filter, find, IsPermutation}
 use Rattle.std.specs.List.{enumerate_from}
+use Rattle.std.specs.Ordering.{nat_cmp, is_lt, ordering_then}
 use Rattle.plan_base.specs.declared.parts.Parts.{Parts}
 use Rattle.plan_base.specs.declared.parts.Op.{Op}
 use Rattle.plan_base.specs.declared.parts.Op.TheVariants.{And}
@@ -67,6 +68,10 @@ pub record IsRepairedFrom (s : Parts) (starts plan : List Placement) : Type 0 wh
 -- the plan made of the starts that these prices give
 abbrev pub IsRepaired : Parts → List ℤ → List Placement → Type 0
 IsRepaired s prices plan = (starts : List Placement) × IsCanonicalStarts s prices starts × IsRepairedFrom s starts plan
+
+-- p is before q by telescope, then slice
+abbrev pub is_listed_before : Placement → Placement → Bool
+is_listed_before p q = is_lt (ordering_then (nat_cmp p.telescope.0 q.telescope.0) (nat_cmp p.slice.0 q.slice.0))
 
 -- the placements of a plan, by telescope, then slice
 pub record IsListing (plan listing : List Placement) : Type 0 where

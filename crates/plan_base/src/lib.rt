@@ -9,6 +9,7 @@ mod fault;
 mod greatest;
 mod laws;
 mod list;
+mod listing;
 mod name;
 mod number;
 mod parts;
@@ -37,6 +38,7 @@ pub use laws::{
     value_limit, weak_duality, worth_between,
 };
 pub use list::{ListOf, repeated};
+pub use listing::listing_of;
 pub use name::{NAME_BYTES, Name};
 pub use number::{GroupNo, RequestNo, Sec, SiteNo, SliceNo, TargetNo, TelescopeNo};
 pub use parts::{GroupPart, Op, Parts, RequestPart, Sky, TelescopePart};

@@ -8,4 +8,5 @@ pub mod Ranges
 pub mod Laws
 pub mod Reason
 pub mod Refusal
+pub mod Line
 pub mod Check

@@ -9,5 +9,7 @@ mod sky;
 mod snapshot;
 
 pub use claim::read_claim;
+pub use element::{Element, read_list};
+pub use group::read_groups;
 pub use publication::read_publication;
 pub use snapshot::read_snapshot;

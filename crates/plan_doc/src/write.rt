@@ -2,7 +2,10 @@
 
 mod claim;
 mod form;
+mod line;
 mod snapshot;
 
 pub use claim::{ClaimDoc, write_claim};
+pub use form::InDocument;
+pub use line::{add_line, answer_line};
 pub use snapshot::{SnapshotDoc, write_snapshot};

@@ -15,3 +15,5 @@ pub mod Next
 pub mod Reading
 pub mod Adapters
 pub mod Exit
+pub mod Words
+pub mod Document

@@ -1,7 +1,8 @@
 //! What a program is given, and what it ends with.
-ghost use Rattle.std.specs.Prelude.{◌≡◌};
+ghost use Rattle.std.specs.Prelude.{◌≡◌, ◌↔◌, IsTrue};
 ghost use Rattle.std.specs.Process.{exit_status};
 ghost use Rattle.plan_io.specs.Exit.{status_number};
+ghost use Rattle.plan_io.specs.Words.{IsOneWord};
 
 use crate::status::Status;
 use std::env;
@@ -24,6 +25,16 @@ pub fn program_words<R: Env + AllocGlobal>(rt: &R) -> Result<Vec<String>, Status
     match args.skip(1).collect(rt.alloc()) {
         Ok(words) => Ok(words),
         Err(_) => Err(Status::NoMemory),
+    }
+}
+
+/// Whether the words are that one word.
+pub fn is_word(words: &[String], word: &str) -> bool
+    ensures { IsTrue result ↔ IsOneWord word.now words.now }
+{
+    match words {
+        [only] => only.as_str() == word,
+        _ => false,
     }
 }
 

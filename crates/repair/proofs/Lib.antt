@@ -1,7 +1,6 @@
 pub mod Marked
 pub mod Drafting
 pub mod Nearest
-pub mod Pairs
 pub mod Ranking
 pub mod Trying
 pub mod Visiting

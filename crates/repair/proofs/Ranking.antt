@@ -10,7 +10,7 @@ use Rattle.std.proofs.lemmas.List.Sorted.{All-permutation, Contains-permutation}
 use Rattle.plan_base.proofs.Lists.{contains_map}
 use Rattle.repair.specs.declared.order.Rank.{Rank}
 use Rattle.repair.specs.Orders.{worth, IsRankOf, AreRanksOf, AreRanks, IsFallingOrder}
-use Rattle.repair.proofs.Pairs.{all_pairs_permutation, all_pairs_from_neighbours}
+use Rattle.plan_base.proofs.Pairs.{all_pairs_permutation, all_pairs_from_neighbours}
 
 last_or_before : (j i : ℕ) → j < i + 1 → (j ≡ i) ⊎ (j < i)
 last_or_before j i h = grind arith

@@ -7,7 +7,7 @@ use Rattle.plan_base.specs.Starts.{IsPossibleStart}
 use Rattle.plan_base.specs.Feasible.{IsDisjoint}
 use Rattle.groups.specs.Footprints.{first_slot, end_slot}
 use Rattle.groups.proofs.Rooms.{shared_slot}
-use Rattle.repair.proofs.Pairs.{all_pairs_from_neighbours}
+use Rattle.plan_base.proofs.Pairs.{all_pairs_from_neighbours}
 
 -- each of the first n ends before the next begins
 abbrev pub AreInOrder : Parts → List Placement → ℕ → Type 0

@@ -29,7 +29,7 @@ use Rattle.groups.proofs.Rooms.{slot_shared}
 use Rattle.groups.proofs.Told.{slots_below}
 use Rattle.repair.specs.declared.ranked.Ranked.{Ranked}
 use Rattle.repair.specs.Repairs.{start_of, rank_of, AreOrdered}
-use Rattle.repair.proofs.Pairs.{all_pairs_permutation, all_pairs_from_neighbours}
+use Rattle.plan_base.proofs.Pairs.{all_pairs_permutation, all_pairs_from_neighbours}
 
 -- ---- how many there are
 

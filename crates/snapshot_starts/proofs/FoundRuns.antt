@@ -23,7 +23,8 @@ use Rattle.snapshot_starts.specs.Pairs.{pair_start, pair_of, pairs_of, IsPairBef
 use Rattle.snapshot_starts.specs.Found.{AreFound, slice_count, IsRunSpan, AreRunSpans, AreFew, run_of, runs_of}
 use Rattle.snapshot_starts.specs.Runs.{starts_of, IsRunBefore, AreAllStarts}
 use Rattle.snapshot_starts.specs.Kept.{count_of, CanKeep}
-use Rattle.snapshot_starts.proofs.InRuns.{all_of, in_flat_map, from_flat_map, pairs_flat_map, IsIn}
+use Rattle.plan_base.proofs.Pairs.{all_of}
+use Rattle.snapshot_starts.proofs.InRuns.{in_flat_map, from_flat_map, pairs_flat_map, IsIn}
 use Rattle.snapshot_starts.proofs.RunOrder.{AreRunsOf, all_starts, length_of_starts}
 use Rattle.snapshot_starts.proofs.FoundPairs.{pairs_in_order, pair_is_listed, few_pairs}
 

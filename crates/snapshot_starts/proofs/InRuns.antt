@@ -5,15 +5,12 @@ use Rattle.std.proofs.lemmas.List.FromFn.{length-map-range_with_len, get_or-map-
 use Rattle.std.proofs.lemmas.List.Elements.{All-contains, Contains-get_or, Contains-append_left, Contains-append_right, Contains-append_cases}
 use Rattle.std.proofs.lemmas.List.Kept.{AllPairs-cons}
 use Rattle.plan_base.specs.declared.claim.Placement.{Placement}
+use Rattle.plan_base.proofs.Pairs.{pairs_append}
 use Rattle.plan_base.proofs.Orders.{contains_cases, contains_first, contains_rest, pairs_head, pairs_tail}
 use Rattle.snapshot_starts.specs.declared.run.Run.{Run}
 use Rattle.snapshot_starts.specs.Runs.{start_at, starts_of_run, starts_of}
 
 -- ---- lists of lists
-
--- what holds of each element by where it stands
-pub all_of : {X : Type 0} (P : X → Type 0) (xs : List X) → ((x : X) → Contains xs x → P x) → All P xs
-all_of P xs h = λ k d l. h _ (Contains-get_or xs k d l)
 
 pub in_flat_map : {X A : Type 0} (f : X → List A) (xs : List X) (x : X) (a : A) → Contains xs x → Contains (f x) a → Contains (flat_map f xs) a
 in_flat_map f [] x a c h = absurd (omega (arith, c.1))
@@ -28,15 +25,6 @@ from_flat_map f (y ∷ ys) a c = elim (Contains-append_cases (f y) (flat_map f y
   | inl here ↦ (y, contains_first y ys, here)
   | inr later ↦ let rest = from_flat_map f ys a later in (rest.0, contains_rest y rest.0 ys rest.1, rest.2)
 ]
-
-pub pairs_append : {X : Type 0} (R : X → X → Type 0) (xs ys : List X) → AllPairs R xs → AllPairs R ys → ((x y : X) → Contains xs x → Contains ys y → R x y) → AllPairs R (xs ++ ys)
-pairs_append R [] ys a b h = b
-pairs_append R (x ∷ xs) ys a b h =
-    AllPairs-cons R x (xs ++ ys)
-    (all_of (R x) (xs ++ ys) (λ z c. elim (Contains-append_cases xs ys z c) [
-      | inl here ↦ All-contains (R x) xs z (pairs_head R x xs a) here
-      | inr there ↦ h x z (contains_first x xs) there
-    ])) (pairs_append R xs ys (pairs_tail R x xs a) b (λ z y c d. h z y (contains_rest x z xs c) d))
 
 pub pairs_flat_map : {X A : Type 0} (Q : X → X → Type 0) (R : A → A → Type 0) (f : X → List A) (xs : List X) → AllPairs Q xs → ((x : X) → Contains xs x → AllPairs R (f x))
     → ((x y : X) (a b : A) → Q x y → Contains (f x) a → Contains (f y) b → R a b) → AllPairs R (flat_map f xs)

@@ -11,7 +11,8 @@ use Rattle.plan_base.specs.Starts.{IsPossibleStart}
 use Rattle.snapshot_starts.specs.declared.run.Run.{Run}
 use Rattle.snapshot_starts.specs.Runs.{start_at, starts_of_run, starts_of, IsStartBefore, IsRunBefore, IsGreatestRow, AreRuns, AreAllStarts}
 use Rattle.snapshot_starts.specs.Kept.{count_of, CanKeep}
-use Rattle.snapshot_starts.proofs.InRuns.{all_of, pairs_flat_map, IsIn, length_of_run, at_in_run, in_starts, from_starts, from_run}
+use Rattle.plan_base.proofs.Pairs.{all_of}
+use Rattle.snapshot_starts.proofs.InRuns.{pairs_flat_map, IsIn, length_of_run, at_in_run, in_starts, from_starts, from_run}
 
 below_same_above : (i j : ℕ) → ((i < j) ⊎ (j < i)) ⊎ (i ≡ j)
 below_same_above i j = grind arith

@@ -1,18 +1,21 @@
 // Requests and groups.
 
-ghost use Rattle.std.specs.Prelude.{◌≡◌, ◌≢◌, ◌<◌, length, IfOk, IfErr, Ok, Err};
+ghost use Rattle.std.specs.Prelude.{◌≡◌, ◌≢◌, ◌<◌, length, All, IfOk, IfErr, Ok, Err};
 ghost use Rattle.plan_json.specs.declared.fault.JsonFault.TheVariants.{NoMemory};
 ghost use Rattle.plan_json.specs.declared.member.Member.TheVariants as key;
 ghost use Rattle.plan_json.specs.Object.{if_there};
 ghost use Rattle.plan_json.specs.Shown.{members_of};
 ghost use Rattle.plan_json.specs.Whole.{number_in};
+ghost use Rattle.plan_doc.specs.Elements.{each_of};
+ghost use Rattle.plan_doc.specs.Ranges.{IsGroup};
 ghost use Rattle.plan_doc.specs.Snapshot.{telescope_number_in, target_number_in, request_of, request_in, group_of, group_in};
 
 use crate::read::element::{Element, read_list};
 use crate::read::number::number_at;
 use crate::read::sky::{HIGHEST_NUMBER, MOST_ITEMS, read_spans};
 use plan_base::{
-    GroupNo, GroupPart, MOST_SECONDS, MOST_VALUE, RequestNo, RequestPart, TargetNo, TelescopeNo,
+    GroupNo, GroupPart, ListOf, MOST_SECONDS, MOST_VALUE, RequestNo, RequestPart, TargetNo,
+    TelescopeNo,
 };
 use plan_json::{Doc, DocList, JsonFault, Member};
 use std::alloc::Global;
@@ -118,4 +121,23 @@ impl Element<GroupPart> for Groups {
     fn read(&self, alloc: Global, list: &DocList, index: u32) -> Result<GroupPart, JsonFault> {
         read_group(alloc, &list.object(index)?)
     }
+}
+
+/// The groups, `least` to `most` of them, that the member `groups` is, each as [`read_snapshot`] reads those of a
+/// snapshot, and with the faults that it has there.
+///
+/// [`read_snapshot`]: crate::read_snapshot
+pub fn read_groups(
+    alloc: Global,
+    doc: &Doc,
+    least: u32,
+    most: u32,
+) -> Result<ListOf<GroupPart>, JsonFault>
+    ensures value { IfOk result
+        (λ groups. each_of group_in least most (members_of doc.now) key.Groups ≡ Ok groups) }
+    ensures fault { IfErr result
+        (λ e. e ≢ NoMemory → each_of group_in least most (members_of doc.now) key.Groups ≡ Err e) }
+    ensures ranges { IfOk result (All IsGroup) }
+{
+    read_list(alloc, &Groups, doc, Member::Groups, least, most)
 }

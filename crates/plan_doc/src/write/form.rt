@@ -10,9 +10,9 @@ use plan_base::{
 use plan_json::{Each, Form, Json, object};
 use std::alloc::AllocError;
 
-/// Each part in the one form that it has in a document.
+/// Each part of a claim and of a snapshot in the one form that it has in a document.
 #[derive(Drop)]
-pub(crate) struct InDocument;
+pub struct InDocument;
 
 impl Form<Placement> for InDocument {
     ghost value_of = { λ _. placement_data };

@@ -14,7 +14,7 @@ use Rattle.interval_solver.specs.Lanes.{lane}
 use Rattle.lanes.specs.declared.lane_prices.LanePrices.{LanePrices}
 use Rattle.lanes.specs.Rounds.{IsLane, Stepping, IsSolved, IsSolvedAt, IsAnswer}
 use Rattle.lanes.proofs.Parts.{written_back}
-use Rattle.lanes.proofs.Chosen.{starts_possible, starts_disjoint}
+use Rattle.plan_base.proofs.Chosen.{starts_possible, starts_disjoint}
 use Rattle.lanes.proofs.Lanes.{solved_now}
 use Rattle.lanes.proofs.steps.Steps.answer.Goals as goal
 

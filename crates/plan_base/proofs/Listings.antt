@@ -15,11 +15,10 @@ use Rattle.plan_base.specs.declared.claim.Placement.{Placement}
 use Rattle.plan_base.specs.Requests.{seconds_of, quota_of, AllOrNone}
 use Rattle.plan_base.specs.Starts.{IsPossibleStart, ShareSlice, size_of, worth_at, value_of_plan}
 use Rattle.plan_base.specs.Feasible.{requests_of, is_quota, quota_seconds, AreOfOneOneOf, IsFeasible}
-use Rattle.plan_base.specs.Repaired.{IsListing}
+use Rattle.plan_base.specs.Repaired.{IsListing, is_listed_before}
 use Rattle.plan_base.specs.Snapshot.{IsOrderly}
 use Rattle.plan_base.proofs.Sizes.{start_size_above}
-use Rattle.repair.proofs.Pairs.{all_pairs_permutation, all_pairs_from_neighbours}
-use Rattle.lanes.specs.Found.{is_listed_before}
+use Rattle.plan_base.proofs.Pairs.{all_pairs_permutation, all_pairs_from_neighbours}
 
 -- a comes before b by telescope, then slice, or at the same slice
 abbrev IsNotAfter : Placement → Placement → Type 0

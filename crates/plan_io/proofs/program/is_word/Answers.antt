@@ -1,7 +1,7 @@
-use Rattle.std.proofs.Common.{◌≡◌, ℕ, ◌<◌, ◌≤◌, length, Bool, List, [], ◌∷◌, slice_index_or, map, codes, IsTrue, sym, ◌∙◌, ap, arith, String, string_bytes, Global}
+use Rattle.std.proofs.Common.{◌≡◌, ℕ, ◌<◌, ◌≤◌, length, Bool, List, [], ◌∷◌, slice_index_or, map, IsTrue, sym, ◌∙◌, ap, arith, String, string_bytes, Global}
 use Rattle.std.specs.Str.{bytes_eq}
 use Rattle.std.proofs.lemmas.Slice.Eq.{bytes_eq-Decides}
-use Rattle.plan_doc.proofs.check.is_check.Goals as goal
+use Rattle.plan_io.proofs.program.is_word.Goals as goal
 
 -- a list of one word is that word
 one_word : (words : List (String Global)) (word : String Global) → 1 ≤ length words → length words < 2 → word ≡ slice_index_or words 0 word → map string_bytes words ≡ string_bytes word ∷ []
@@ -19,5 +19,5 @@ tells_words words word text test one e =
 
 pub returns-in-len1 : goal.returns-in-len1
 returns-in-len1 c =
-    tells_words _ c.as_str.result.now (codes "check") c.eq.result
-    (one_word _ c.word-item.result c.in-len1.len_at_least c.in-len1.len_below c.word-item.is ∙ ap (λ (bs : List ℕ). bs ∷ []) (sym c.as_str.ensures.value)) c.eq.ensures
+    tells_words _ c.as_str.result.now c.args.word.now c.eq.result
+    (one_word _ c.only-item.result c.in-len1.len_at_least c.in-len1.len_below c.only-item.is ∙ ap (λ (bs : List ℕ). bs ∷ []) (sym c.as_str.ensures.value)) c.eq.ensures

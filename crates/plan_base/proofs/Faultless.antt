@@ -17,7 +17,7 @@ use Rattle.plan_base.specs.Snapshot.{IsSnapshot, IsOrderly, IsSortedApart, all_s
 use Rattle.plan_base.specs.Snapshot.{span_fault, apart_fault, group_fault, request_fault, shape_fault, telescope_fault, fade_fault, quota_fault}
 use Rattle.plan_base.specs.Snapshot.{quota_range_fault, limit_of, counts_of, all_counted, first_some, limit_fault}
 use Rattle.plan_base.proofs.Orders.{pairs_head, pairs_tail}
-use Rattle.desk_core.proofs.SnapshotLists.{all_flat}
+use Rattle.plan_base.proofs.Lists.{all_flat}
 
 -- ---- nothing is found
 

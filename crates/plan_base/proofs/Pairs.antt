@@ -1,9 +1,12 @@
 -- What holds of each two elements of a list, in whatever order they stand.
-use Rattle.std.proofs.Common.{◌≡◌, ◌≢◌, ℕ, zero, suc, ◌+◌, ◌<◌, ◌⊎◌, inl, inr, List, length, slice_index_or, AllPairs, IsPermutation, add-one, refl, sym, ◌∙◌, ap, subst, arith}
+use Rattle.std.proofs.Common.{◌≡◌, ◌≢◌, ℕ, zero, suc, ◌+◌, ◌<◌, ◌⊎◌, inl, inr, List, [], ◌∷◌, ◌++◌, length, slice_index_or, All, AllPairs, Contains, IsPermutation, add-one, refl, sym, ◌∙◌, ap, subst, arith}
 use Rattle.std.specs.List.{swap}
 use Rattle.std.proofs.lemmas.Bool.{cases_eq}
+use Rattle.std.proofs.lemmas.List.Elements.{All-contains, Contains-get_or, Contains-append_cases}
+use Rattle.std.proofs.lemmas.List.Kept.{AllPairs-cons}
 use Rattle.std.proofs.lemmas.List.Edits.{Swapped, swapped_from_swap}
 use Rattle.std.proofs.lemmas.List.Sorted.{IsPermutation-keeps, IsPermutation-swap, length_permutation}
+use Rattle.plan_base.proofs.Orders.{contains_first, contains_rest, pairs_head, pairs_tail}
 
 -- what stands at place k after an exchange of the places a and b stood at place j
 abbrev CameFrom : ℕ → ℕ → ℕ → ℕ → Type 0
@@ -65,3 +68,17 @@ all_pairs_from_neighbours R joins xs near = λ i j d less below. far R joins xs 
         | inl same ↦ subst (λ (n : ℕ). R (slice_index_or xs n d) (slice_index_or xs (suc j) d)) (sym same) step
         | inr other ↦ joins _ _ _ (far R joins xs near i j d (omega arith) (omega arith)) step
       ]
+
+-- what holds of each element by where it stands
+pub all_of : {X : Type 0} (P : X → Type 0) (xs : List X) → ((x : X) → Contains xs x → P x) → All P xs
+all_of P xs h = λ k d l. h _ (Contains-get_or xs k d l)
+
+-- what holds of each two of each of two lists, and of each two across, holds of each two of both lists one after another
+pub pairs_append : {X : Type 0} (R : X → X → Type 0) (xs ys : List X) → AllPairs R xs → AllPairs R ys → ((x y : X) → Contains xs x → Contains ys y → R x y) → AllPairs R (xs ++ ys)
+pairs_append R [] ys a b h = b
+pairs_append R (x ∷ xs) ys a b h =
+    AllPairs-cons R x (xs ++ ys)
+    (all_of (R x) (xs ++ ys) (λ z c. elim (Contains-append_cases xs ys z c) [
+      | inl here ↦ All-contains (R x) xs z (pairs_head R x xs a) here
+      | inr there ↦ h x z (contains_first x xs) there
+    ])) (pairs_append R xs ys (pairs_tail R x xs a) b (λ z y c d. h z y (contains_rest x z xs c) d))

@@ -1,8 +1,8 @@
 use Rattle.std.proofs.Common.{sym, subst, rules}
 use Rattle.std.specs.List.Sorted.{IsSortedBy}
 use Rattle.std.proofs.lemmas.List.Sorted.{answers_always}
-use Rattle.lanes.specs.Found.{is_listed_before}
-use Rattle.lanes.proofs.found.listing_of.Goals as goal
+use Rattle.plan_base.specs.Repaired.{is_listed_before}
+use Rattle.plan_base.proofs.listing.listing_of.Goals as goal
 
 pub returns-clause-rising : goal.returns-clause-rising
 returns-clause-rising c =

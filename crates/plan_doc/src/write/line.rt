@@ -1,0 +1,29 @@
+// Values as lines.
+
+ghost use Rattle.std.specs.Prelude.{◌≡◌, ◌≤◌, ◌++◌, IfOk, OnOk};
+ghost use Rattle.serde_json.specs.Read.{max_depth};
+ghost use Rattle.plan_doc.specs.Line.{line_of};
+
+use plan_io::{Answer, Said};
+use plan_json::{Json, write_json};
+use std::alloc::{AllocError, Global};
+
+/// Adds the text of a value and a newline. Fails only for want of memory.
+pub fn add_line<T: Json>(value: &T, out: &mut Vec<u8>) -> Result<(), AllocError>
+    requires { T.levels ≤ max_depth }
+    ensures { OnOk result (out.new.items ≡ out.old.items ++ line_of (T.value value.now)) }
+{
+    write_json(value, out)?;
+    out.push(b'\n')
+}
+
+/// The answer that is one line, a value, and says so of a document. Fails only for want of memory.
+pub fn answer_line<T: Json>(alloc: Global, value: &T, said: Said) -> Result<Answer, AllocError>
+    requires { T.levels ≤ max_depth }
+    ensures text { IfOk result (λ a. a.text.items ≡ line_of (T.value value.now)) }
+    ensures said { IfOk result (λ a. a.said ≡ said) }
+{
+    let mut text = Vec::new(alloc);
+    add_line(value, &mut text)?;
+    Ok(Answer { text, said })
+}
