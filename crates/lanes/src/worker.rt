@@ -52,7 +52,6 @@ impl<'a, const L: usize, W: Way> Task<W> for Worker<'a, L> {
 
 impl<'a, const L: usize> Worker<'a, L> {
     ghost use Rattle.lanes.specs.Rounds.{IsSolvedAt};
-    ghost use Rattle.lanes.specs.Searched.{IsMetFor};
     ghost use Rattle.lanes.specs.Working.{
       IsWorking,
       IsSameWorker,

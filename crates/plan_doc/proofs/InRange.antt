@@ -1,5 +1,5 @@
 -- What was read lies in the ranges.
-use Rattle.std.proofs.Common.{◌≡◌, ◌^◌, ℕ, ◌≤◌, List, [], ◌∷◌, All, refl, Bool, true, is_some, Option, Some, None, IfSome, Result, IfOk, sym, subst, arith}
+use Rattle.std.proofs.Common.{◌≡◌, ◌^◌, ℕ, ◌≤◌, List, [], ◌∷◌, All, refl, Bool, true, is_some, Option, Some, None, IfSome, Result, IfOk, sym, subst, arith, Ok}
 use Rattle.std.specs.List.{list_all, flat_map}
 use Rattle.std.proofs.lemmas.Bool.{le-leb, and_from}
 use Rattle.std.proofs.lemmas.List.Elements.{All-nil, All-head, All-tail}
@@ -156,6 +156,9 @@ group_there ms =
 
 group_found : (m : Member) (d : Data) → Gives (group_in m d) IsGroup
 group_found m d = after group_of (any (object_in m d)) (λ ms _. group_there ms)
+
+pub groups_are_in_range : (least most : ℕ) (ms : Members) (xs : List GroupPart) → each_of group_in least most ms key.Groups ≡ Ok xs → AreUpTo most IsGroup xs
+groups_are_in_range least most ms xs read = subst (λ r. IfOk r (AreUpTo most IsGroup)) read (each_there IsGroup group_in group_found least most ms key.Groups).ok
 
 quota_found : (m : Member) (d : Data) → Gives (number_in 0 (10 ^ 12) m d) (λ q. q ≤ 10 ^ 12)
 quota_found m d = weaker (number_between 0 (10 ^ 12) m d) (λ q is. is.high)

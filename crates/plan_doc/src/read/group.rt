@@ -1,13 +1,13 @@
 // Requests and groups.
 
-ghost use Rattle.std.specs.Prelude.{◌≡◌, ◌≢◌, ◌<◌, length, All, IfOk, IfErr, Ok, Err};
+ghost use Rattle.std.specs.Prelude.{◌≡◌, ◌≢◌, ◌<◌, length, IfOk, IfErr, Ok, Err};
 ghost use Rattle.plan_json.specs.declared.fault.JsonFault.TheVariants.{NoMemory};
 ghost use Rattle.plan_json.specs.declared.member.Member.TheVariants as key;
 ghost use Rattle.plan_json.specs.Object.{if_there};
 ghost use Rattle.plan_json.specs.Shown.{members_of};
 ghost use Rattle.plan_json.specs.Whole.{number_in};
 ghost use Rattle.plan_doc.specs.Elements.{each_of};
-ghost use Rattle.plan_doc.specs.Ranges.{IsGroup};
+ghost use Rattle.plan_doc.specs.Ranges.{AreUpTo, IsGroup};
 ghost use Rattle.plan_doc.specs.Snapshot.{telescope_number_in, target_number_in, request_of, request_in, group_of, group_in};
 
 use crate::read::element::{Element, read_list};
@@ -137,7 +137,7 @@ pub fn read_groups(
         (λ groups. each_of group_in least most (members_of doc.now) key.Groups ≡ Ok groups) }
     ensures fault { IfErr result
         (λ e. e ≢ NoMemory → each_of group_in least most (members_of doc.now) key.Groups ≡ Err e) }
-    ensures ranges { IfOk result (All IsGroup) }
+    ensures ranges { IfOk result (AreUpTo most IsGroup) }
 {
     read_list(alloc, &Groups, doc, Member::Groups, least, most)
 }

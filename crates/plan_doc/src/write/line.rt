@@ -14,7 +14,8 @@ pub fn add_line<T: Json>(value: &T, out: &mut Vec<u8>) -> Result<(), AllocError>
     ensures { OnOk result (out.new.items ≡ out.old.items ++ line_of (T.value value.now)) }
 {
     write_json(value, out)?;
-    out.push(b'\n')
+    out.push(b'\n')?;
+    Ok(())
 }
 
 /// The answer that is one line, a value, and says so of a document. Fails only for want of memory.
