@@ -1,6 +1,6 @@
 -- Numbers without a sign, and prices.
-use Rattle.std.proofs.Common.{◌≡◌, ℕ, ◌&&◌, ℤ, pos, negsuc, neg_ℤ, unsigned_abs, int_le, nat_le, true, ok_or, Result, Ok, Err, refl, arith}
-use Rattle.std.proofs.lemmas.Bool.{leb-true, and_parts}
+use Rattle.std.proofs.Common.{◌≡◌, ℕ, ◌&&◌, ℤ, pos, negsuc, neg_ℤ, unsigned_abs, int_le, true, ok_or, Result, Ok, Err, refl, arith}
+use Rattle.std.proofs.lemmas.Bool.{and_parts}
 use Rattle.std.proofs.lemmas.Int.{ints}
 use Rattle.serde_json.specs.Data.{Num, unsigned, negative, float, Data, null, boolean, number, string, array, object, Members}
 use Rattle.plan_json.specs.declared.member.Member.{Member}
@@ -8,9 +8,8 @@ use Rattle.plan_json.specs.declared.fault.JsonFault.TheVariants.{Missing, OutOfR
 use Rattle.plan_json.specs.Reading.{result_map, result_and_then}
 use Rattle.plan_json.specs.Object.{value_of, member_of}
 use Rattle.plan_json.specs.Whole.{within, whole_number, whole_in, number_in}
-use Rattle.plan_json.specs.Ranges.{IsBetween}
 use Rattle.plan_json.specs.Values.{integer}
-use Rattle.plan_json.proofs.Ranges.{Gives, if_test, made}
+use Rattle.plan_json.proofs.Ranges.{Gives, if_test}
 use Rattle.plan_doc.specs.Claim.{highest_price, price_in}
 use Rattle.plan_doc.specs.Ranges.{IsPrice}
 
