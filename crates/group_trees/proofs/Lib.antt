@@ -1,0 +1,16 @@
+pub mod Choices
+pub mod Shares
+pub mod ForestDuality
+pub mod Sums
+pub mod Sound
+pub mod Kids
+pub mod Seen
+pub mod Apart
+pub mod Trees
+pub mod Keeps
+pub mod Faults
+pub mod Tallies
+pub mod Stable
+pub mod Turning
+pub mod Judging
+pub mod Nested

@@ -1,0 +1,15 @@
+pub mod Trees
+pub mod Choices
+pub mod Forests
+pub mod Plans
+pub mod Rebates
+pub mod Verdicts
+pub mod Standings
+pub mod Pairs
+pub mod Built
+pub mod Tallies
+pub mod Turned
+pub mod Reading
+pub mod Texts
+pub mod AskFaults
+pub mod Documents
