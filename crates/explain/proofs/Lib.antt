@@ -1,0 +1,14 @@
+pub mod Blocks
+pub mod Charted
+pub mod Choosing
+pub mod Excluding
+pub mod Filling
+pub mod Gaining
+pub mod Gathering
+pub mod Leaving
+pub mod Offering
+pub mod Passing
+pub mod Pieces
+pub mod PlanParts
+pub mod Swapped
+pub mod Until
