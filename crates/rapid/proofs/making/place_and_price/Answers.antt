@@ -1,0 +1,42 @@
+use Rattle.std.proofs.Common.{List, refl, sym, subst, arith}
+use Rattle.plan_base.specs.declared.claim.Placement.{Placement}
+use Rattle.rapid.specs.Placing.{IsReady, IsPlacedSo}
+use Rattle.rapid.proofs.Made.{some_listed, priceable, value_most, value_fits, the_last, ready, value_same, insertion}
+use Rattle.rapid.proofs.making.place_and_price.Goals as goal
+
+pub last_request-request-requires : goal.last_request-request-requires
+last_request-request-requires c =
+    some_listed c.args.before.now c.args.snapshot c.args.claim.now c.requires.extended.group c.requires.extended.single c.requires.extended.whole c.recall_valid.ensures.orderly c.recall_valid-2.ensures.orderly c.requires.certified
+
+pub price-requires-clause-priceable : goal.price-requires-clause-priceable
+price-requires-clause-priceable c =
+    priceable c.args.before.now c.args.snapshot c.args.claim.now c.requires.extended.group c.requires.extended.single c.requires.extended.whole c.recall_valid.ensures.orderly c.recall_valid-2.ensures.orderly c.requires.certified c.bound_limit.ensures.most
+
+pub price-requires-clause-value : goal.price-requires-clause-value
+price-requires-clause-value c = value_most c.args.snapshot c.last_request-request.result.now c.recall_valid-2.ensures.orderly
+    (some_listed c.args.before.now c.args.snapshot c.args.claim.now c.requires.extended.group c.requires.extended.single c.requires.extended.whole c.recall_valid.ensures.orderly c.recall_valid-2.ensures.orderly c.requires.certified)
+    c.last_request-request.ensures
+
+pub place-requires : goal.place-requires
+place-requires c =
+    subst (λ (xs : List Placement). IsReady c.args.snapshot xs c.last_request-request.result.now.request.0) (sym c.as_slice.ensures)
+    (ready c.args.before.now c.args.snapshot c.args.claim.now c.requires.extended.group c.requires.extended.single c.requires.extended.whole c.recall_valid.ensures.orderly c.recall_valid-2.ensures.orderly c.requires.certified
+    c.last_request-request.result.now
+    (the_last c.args.before.now c.args.snapshot c.args.claim.now c.requires.extended.group c.requires.extended.single c.requires.extended.whole c.recall_valid.ensures.orderly c.recall_valid-2.ensures.orderly c.requires.certified
+    c.last_request-request.result.now c.last_request-request.ensures))
+
+pub overflow_add-claim : goal.overflow_add-claim
+overflow_add-claim c =
+    let small = value_fits c.args.snapshot c.args.claim.now.placements c.last_request-request.result.now.request.0 c.args.claim.now.value c.in_ok-placing.placing c.value_limit.ensures
+    (subst (λ (xs : List Placement). IsPlacedSo c.args.snapshot xs c.last_request-request.result.now.request.0 c.in_ok-placing.placing) c.as_slice.ensures c.in_ok-placing.ensures)
+    (value_same c.args.before.now c.args.snapshot c.args.claim.now c.requires.extended.group c.requires.extended.single c.requires.extended.whole c.recall_valid.ensures.orderly c.recall_valid-2.ensures.orderly c.requires.certified)
+    in
+    omega arith
+
+pub returns : goal.returns
+returns c = λ group single whole.
+    insertion c.args.before.now c.args.snapshot c.args.claim.now group single whole c.recall_valid.ensures.orderly c.recall_valid-2.ensures.orderly c.requires.certified c.last_request-request.result.now
+    (the_last c.args.before.now c.args.snapshot c.args.claim.now group single whole c.recall_valid.ensures.orderly c.recall_valid-2.ensures.orderly c.requires.certified c.last_request-request.result.now c.last_request-request.ensures)
+    c.in_ok-placing.placing c.in_ok-pricing.pricing _
+    (subst (λ (xs : List Placement). IsPlacedSo c.args.snapshot xs c.last_request-request.result.now.request.0 c.in_ok-placing.placing) c.as_slice.ensures c.in_ok-placing.ensures) c.in_ok-pricing.ensures refl refl c.in_ok-copied.ensures
+    refl refl

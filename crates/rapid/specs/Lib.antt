@@ -1,0 +1,15 @@
+pub mod Faults
+pub mod Displaced
+pub mod Standing
+pub mod Insertion
+pub mod Refused
+pub mod Held
+pub mod Stage
+pub mod Found
+pub mod Placing
+pub mod Inside
+pub mod Answer
+pub mod Document
+pub mod Written
+pub mod Run
+pub mod Lines

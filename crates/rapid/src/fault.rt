@@ -1,0 +1,44 @@
+// Why a group can't be inserted.
+
+use plan_base::{GroupNo, SnapshotFault};
+use std::alloc::AllocError;
+use thiserror::Error;
+
+/// The first thing for which a group isn't inserted.
+#[derive(Clone, Copy, Debug, PartialEq, Eq, Error)]
+pub enum RapidFault {
+    /// This group isn't a `SINGLE`.
+    #[error("group {0:?} is not a SINGLE")]
+    NotSingle(GroupNo),
+    /// The snapshot with the group at its end isn't one.
+    #[error("{0}")]
+    Snapshot(SnapshotFault),
+    /// There is no memory left.
+    #[error("out of memory")]
+    NoMemory,
+}
+
+impl From<SnapshotFault> for RapidFault {
+    ghost use Rattle.std.specs.Prelude.{◌≡◌};
+    ghost use Rattle.rapid.specs.Faults.{fault_of_snapshot};
+
+    ghost from_gives = { λ parts fault. fault ≡ fault_of_snapshot parts };
+
+    fn from(parts: SnapshotFault) -> RapidFault {
+        match parts {
+            SnapshotFault::NoMemory => RapidFault::NoMemory,
+            _ => RapidFault::Snapshot(parts),
+        }
+    }
+}
+
+impl From<AllocError> for RapidFault {
+    ghost use Rattle.std.specs.Prelude.{◌≡◌};
+    ghost use Rattle.rapid.specs.declared.fault.RapidFault.TheVariants.{NoMemory};
+
+    ghost from_gives = { λ _ fault. fault ≡ NoMemory };
+
+    fn from(_refused: AllocError) -> RapidFault {
+        RapidFault::NoMemory
+    }
+}

@@ -1,0 +1,24 @@
+// Laws of insertions. Each is a function with nothing to do, whose contract states the law of its arguments.
+
+ghost use Rattle.std.specs.Prelude.{◌≡◌, ◌≤◌, ◌++◌, ℕ, ℤ, pos, List};
+ghost use Rattle.plan_base.specs.declared.claim.Placement.{Placement};
+ghost use Rattle.plan_base.specs.declared.parts.GroupPart.{GroupPart};
+ghost use Rattle.plan_base.specs.Starts.{value_of_plan};
+ghost use Rattle.plan_base.specs.Feasible.{IsFeasible};
+ghost use Rattle.plan_base.specs.Bound.{IsBound};
+ghost use Rattle.plan_base.specs.Verdict.{IsCertified};
+ghost use Rattle.rapid.specs.Standing.{Standing};
+ghost use Rattle.rapid.specs.Insertion.{with_groups, InsertsEach};
+
+use crate::rapid::Rapid;
+
+/// After every list of insertions the claim is certified for the snapshot with all groups at its end, and its bound is the
+/// one that its prices give, worked out from scratch.
+pub fn insertions_are_certified(rapid: &Rapid)
+    ensures snapshot { (groups : List GroupPart) (after : Standing) → InsertsEach rapid.now groups after → after.snapshot ≡ with_groups rapid.now.snapshot groups }
+    ensures certified { (groups : List GroupPart) (after : Standing) → InsertsEach rapid.now groups after → IsCertified after.snapshot after.claim }
+    ensures bound { (groups : List GroupPart) (after : Standing) → InsertsEach rapid.now groups after
+        → (bound : ℤ) → IsBound after.snapshot after.claim.prices.0 after.claim.quota_prices.0 bound → bound ≡ pos after.claim.bound }
+{
+    let _ = rapid.claim();
+}

@@ -1,0 +1,23 @@
+// One more request put into a plan that stands, with its bound.
+#![tactic(auto)]
+
+mod document;
+mod fault;
+mod held;
+mod inserted;
+mod known;
+mod laws;
+mod making;
+mod placing;
+mod pricing;
+mod rapid;
+mod run;
+mod seeking;
+mod striking;
+mod written;
+
+pub use fault::RapidFault;
+pub use inserted::Inserted;
+pub use laws::insertions_are_certified;
+pub use rapid::{Rapid, RapidAnswer};
+pub use run::run_rapid;

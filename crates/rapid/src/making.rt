@@ -1,0 +1,123 @@
+// What an insertion makes, before it is put in.
+
+ghost use Rattle.std.specs.Prelude.{◌≡◌, ◌≢◌, ◌∷◌, ◌<◌, ◌-◌, [], None, Some, length, HoldsAt, IfOk, OnOk, IfErr};
+ghost use Rattle.plan_base.specs.Requests.{listed};
+ghost use Rattle.plan_base.specs.Snapshot.{IsSnapshot};
+ghost use Rattle.plan_base.specs.Verdict.{IsCertified};
+ghost use Rattle.plan_base.specs.declared.parts.GroupPart.{GroupPart};
+ghost use Rattle.plan_base.specs.declared.parts.Op.TheVariants.{Single};
+ghost use Rattle.rapid.specs.Insertion.{with_group};
+ghost use Rattle.rapid.specs.Refused.{is_single, refusal_of, IsGroupInRanges};
+ghost use Rattle.rapid.specs.Inside.{IsExtended, IsMadeOf};
+ghost use Rattle.rapid.specs.declared.fault.RapidFault.TheVariants.{NoMemory};
+
+use crate::fault::RapidFault;
+use crate::inserted::Inserted;
+use crate::placing::place;
+use crate::pricing::price;
+use plan_base::{
+    Claim, GroupPart, ListOf, Op, QuotaPrices, RequestNo, RequestPart, Snapshot, bound_limit,
+    value_limit,
+};
+use std::alloc::{AllocError, Global};
+
+/// A snapshot and a claim with one more group.
+#[derive(Debug, Drop)]
+pub(crate) struct Made {
+    pub snapshot: Snapshot,
+    pub claim: Claim,
+    pub displaced: ListOf<RequestNo>,
+    pub inserted: Inserted,
+}
+
+fn is_single(op: Op) -> bool
+    ensures { result ≡ is_single op }
+{
+    match op {
+        Op::Single => true,
+        Op::Many | Op::OneOf | Op::And => false,
+    }
+}
+
+/// The snapshot with one more group at its end.
+fn with_group(alloc: Global, snapshot: &Snapshot, group: GroupPart) -> Result<Snapshot, RapidFault>
+    requires { IsGroupInRanges group }
+    ensures ok { IfOk result (λ new. new ≡ with_group snapshot.now group) }
+    ensures accepted { OnOk result (refusal_of snapshot.now group ≡ None) }
+    ensures err { IfErr result (λ fault. fault ≢ NoMemory → refusal_of snapshot.now group ≡ Some fault) }
+{
+    if !is_single(group.op) {
+        return Err(RapidFault::NotSingle(group.group));
+    }
+    let mut parts = snapshot.parts().copy()?;
+    parts.groups.push(group)?;
+    Ok(Snapshot::build(alloc, parts)?)
+}
+
+/// The last request.
+fn last_request(snapshot: &Snapshot) -> &RequestPart
+    requires { 0 < length (listed snapshot.now) }
+    ensures { HoldsAt (λ x. x.request ≡ result.now) (listed snapshot.now) (length (listed snapshot.now) - 1) }
+{
+    snapshot.request_at(snapshot.request_count() - 1)
+}
+
+/// The same quota prices once more. Fails only for want of memory.
+fn copied(alloc: Global, quota_prices: &QuotaPrices) -> Result<QuotaPrices, AllocError>
+    ensures { IfOk result (λ copy. copy.0 ≡ quota_prices.now.0) }
+{
+    let prices = Vec::from_slice(alloc, quota_prices.0.as_slice())?;
+    Ok(QuotaPrices(ListOf::from_vec(prices)))
+}
+
+/// What comes of a claim where the snapshot has one more request, the one of a `SINGLE`, at its end. Fails only for want of
+/// memory.
+fn place_and_price(
+    alloc: Global,
+    before: &Snapshot,
+    claim: &Claim,
+    snapshot: Snapshot,
+) -> Result<Made, AllocError>
+    requires certified { IsCertified before.now claim.now }
+    requires extended { IsExtended before.now snapshot }
+    ensures { IfOk result (λ made. (group : GroupPart) → group.op ≡ Single → snapshot ≡ with_group before.now group → IsMadeOf before.now claim.now group made) }
+{
+    before.recall_valid();
+    snapshot.recall_valid();
+    bound_limit(before, &claim.prices, &claim.quota_prices);
+    value_limit(&snapshot);
+    let request = last_request(&snapshot);
+    let number = request.request;
+    let pricing = price(alloc, &snapshot, claim, request.value)?;
+    let placing = place(alloc, &snapshot, claim.placements.as_slice(), number)?;
+    let claim = Claim {
+        placements: placing.placements,
+        prices: pricing.prices,
+        quota_prices: copied(alloc, &claim.quota_prices)?,
+        value: claim.value + placing.gain,
+        bound: pricing.bound,
+    };
+    Ok(Made {
+        snapshot,
+        claim,
+        displaced: placing.displaced,
+        inserted: placing.inserted,
+    })
+}
+
+/// What the insertion of a group into a snapshot and a claim that is certified for it makes.
+pub(crate) fn make(
+    alloc: Global,
+    snapshot: &Snapshot,
+    claim: &Claim,
+    group: GroupPart,
+) -> Result<Made, RapidFault>
+    requires ranges { IsGroupInRanges group }
+    requires certified { IsCertified snapshot.now claim.now }
+    ensures ok { IfOk result (IsMadeOf snapshot.now claim.now group) }
+    ensures accepted { OnOk result (refusal_of snapshot.now group ≡ None) }
+    ensures err { IfErr result (λ fault. fault ≢ NoMemory → refusal_of snapshot.now group ≡ Some fault) }
+{
+    let extended = with_group(alloc, snapshot, group)?;
+    Ok(place_and_price(alloc, snapshot, claim, extended)?)
+}

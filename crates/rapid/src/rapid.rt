@@ -1,0 +1,118 @@
+// A snapshot with a certified claim, into which groups are inserted.
+
+ghost use Rattle.std.specs.Prelude.{◌≡◌, ◌≢◌, [], None, Some, IfOk, IfErr, OnOk, OnErr};
+ghost use Rattle.plan_base.specs.Snapshot.{IsSnapshot};
+ghost use Rattle.plan_base.specs.Verdict.{IsCertified, IsVerdict};
+ghost use Rattle.rapid.specs.Refused.{refusal_of, IsGroupInRanges};
+ghost use Rattle.rapid.specs.Insertion.{IsInsertion};
+ghost use Rattle.rapid.specs.Answer.{IsAnswer};
+ghost use Rattle.rapid.specs.declared.fault.RapidFault.TheVariants.{NoMemory};
+
+use crate::fault::RapidFault;
+use crate::inserted::Inserted;
+use crate::making::make;
+use bound_checker::check;
+use plan_base::{Claim, GroupPart, ListOf, Reason, RequestNo, Snapshot, Verdict};
+use std::alloc::{AllocError, Global};
+use std::marker::Model;
+
+/// A snapshot with a claim that is certified for it. Groups of one request are inserted one after another, and the claim
+/// stays certified, its bound that of its prices. Contracts see the snapshot, the claim, and the requests that the last
+/// insertion displaced.
+#[derive(Debug, Drop)]
+pub struct Rapid {
+    snapshot: Snapshot,
+    claim: Claim,
+    displaced: ListOf<RequestNo>,
+    alloc: Global,
+}
+
+impl Model for Rapid {
+    ghost use Rattle.plan_base.specs.Verdict.{IsCertified};
+    ghost use Rattle.rapid.specs.Standing.{Standing};
+
+    ghost Value = { Standing };
+
+    ghost view = { λ a. record { snapshot = a.snapshot; claim = a.claim; displaced = a.displaced } };
+
+    ghost invariant = { λ a. IsCertified a.snapshot a.claim };
+}
+
+/// Whether groups can be inserted into a claim.
+#[derive(Debug, Drop)]
+pub enum RapidAnswer {
+    /// They can.
+    Ready(Rapid),
+    /// They can't, since the claim isn't certified, for this first reason.
+    No(Reason),
+}
+
+impl Rapid {
+    /// The snapshot and the claim, where the claim is certified, or the first reason why it isn't, as [`check`] has it.
+    /// Fails only for want of memory.
+    pub fn new(alloc: Global, snapshot: &Snapshot, claim: Claim) -> Result<RapidAnswer, AllocError>
+        ensures { IfOk result (IsAnswer snapshot.now claim) }
+    {
+        match check(alloc, snapshot, &claim)? {
+            Verdict::Yes { .. } => Ok(RapidAnswer::Ready(Rapid {
+                snapshot: snapshot.clone()?,
+                claim,
+                displaced: ListOf::new(alloc),
+                alloc,
+            })),
+            Verdict::No(reason) => Ok(RapidAnswer::No(reason)),
+        }
+    }
+
+    /// Inserts a group of one request. The snapshot has the group at its end then. The request takes the earliest start, on
+    /// the lowest telescope among equals, that is worth more than all that has to go for it: what shares a slice with it,
+    /// and the whole of each `AND` of which something does. Where there is none, the plan stays. The request's price is 0
+    /// where the bound is then below the old one and the request's value together, else its value; the other prices stay.
+    ///
+    /// The group's seconds, value and moments are in the ranges that a document allows them. A group that isn't a `SINGLE`
+    /// is refused, and then one with which the parts aren't a snapshot, for their first fault. A refusal and want of memory
+    /// change nothing.
+    pub fn insert(&mut self, group: GroupPart) -> Result<Inserted, RapidFault>
+        requires { IsGroupInRanges group }
+        ensures ok { IfOk result (λ inserted. IsInsertion self.old group inserted self.new) }
+        ensures accepted { OnOk result (refusal_of self.old.snapshot group ≡ None) }
+        ensures err { OnErr result (self.new ≡ self.old) }
+        ensures fault { IfErr result (λ fault. fault ≢ NoMemory → refusal_of self.old.snapshot group ≡ Some fault) }
+    {
+        let made = make(self.alloc, &self.snapshot, &self.claim, group)?;
+        self.snapshot = made.snapshot;
+        self.claim = made.claim;
+        self.displaced = made.displaced;
+        Ok(made.inserted)
+    }
+
+    /// The claim: after an insertion its placements are by telescope, then slice.
+    pub fn claim(&self) -> &Claim
+        ensures value { result.now ≡ self.now.claim }
+        ensures certified { IsCertified self.now.snapshot self.now.claim }
+    {
+        &self.claim
+    }
+
+    /// The snapshot, with the groups that were inserted at its end.
+    pub fn snapshot(&self) -> &Snapshot
+        ensures value { result.now ≡ self.now.snapshot }
+        ensures certified { IsCertified self.now.snapshot self.now.claim }
+    {
+        &self.snapshot
+    }
+
+    /// The requests that the last insertion displaced, in rising order; none before the first.
+    pub fn displaced(&self) -> &[RequestNo]
+        ensures { result.now ≡ self.now.displaced }
+    {
+        self.displaced.as_slice()
+    }
+
+    /// The same as a list.
+    pub(crate) fn displaced_list(&self) -> &ListOf<RequestNo>
+        ensures { result.now ≡ self.now.displaced }
+    {
+        &self.displaced
+    }
+}

@@ -1,0 +1,122 @@
+// The earliest start of a request that qualifies.
+
+ghost use Rattle.std.specs.Prelude.{◌≡◌, ◌≤◌, ◌<◌, ◌↔◌, IsTrue, ℕ, length, MatchOption, IfOk, Some};
+ghost use Rattle.plan_base.specs.declared.claim.Placement.{Placement};
+ghost use Rattle.plan_base.specs.Requests.{telescopes_of, quota_of};
+ghost use Rattle.plan_base.specs.Starts.{worth_at, value_of_plan};
+ghost use Rattle.plan_base.specs.Feasible.{quota_at};
+ghost use Rattle.rapid.specs.Displaced.{IsWorthIt, Qualifies};
+ghost use Rattle.rapid.specs.Insertion.{IsEarliest, HasNoPlace};
+ghost use Rattle.rapid.specs.Held.{plan_of};
+ghost use Rattle.rapid.specs.Stage.{IsStage};
+ghost use Rattle.rapid.specs.Found.{IsFound, IsFirstAt, IsSought};
+
+use crate::held::{Held, held_of};
+use crate::known::{quota_of, request_of};
+use crate::striking::{counted_kept, gone, kept, struck_ands, worth_gone};
+use plan_base::{Placement, RequestNo, SliceNo, Snapshot, TelescopeNo};
+use snapshot_starts::is_possible;
+use std::alloc::{AllocError, Global};
+
+/// A start that qualifies.
+#[derive(Debug, Drop)]
+pub(crate) struct Found {
+    pub start: Placement,
+    /// What has to go for it.
+    pub gone: Vec<Placement>,
+    /// What can stay.
+    pub kept: Vec<Placement>,
+    /// What it is worth beyond what has to go.
+    pub gain: u64,
+}
+
+/// Whether so many seconds are within the quota, if there is one.
+fn is_within(snapshot: &Snapshot, quota: Option<u16>, seconds: u64) -> bool
+    requires { (q : ℕ) → quota ≡ Some q → q < length snapshot.now.quotas }
+    ensures { IsTrue result ↔ ((q : ℕ) → quota ≡ Some q → seconds ≤ quota_at snapshot.now q) }
+{
+    match quota {
+        Some(place) => seconds <= snapshot.parts().quotas.as_slice()[usize::from(place)],
+        None => true,
+    }
+}
+
+/// The start, where it qualifies. Fails only for want of memory.
+fn qualify(
+    alloc: Global,
+    snapshot: &Snapshot,
+    held: &[Held],
+    start: Placement,
+) -> Result<Option<Found>, AllocError>
+    requires { IsStage snapshot.now start.request.0 held.now }
+    ensures { IfOk result (λ found. MatchOption found (¬ (Qualifies snapshot.now (plan_of held.now) start)) (IsFound snapshot.now held.now start)) }
+{
+    snapshot.recall_valid();
+    if !is_possible(snapshot, start) {
+        return Ok(None);
+    }
+    let quota = quota_of(snapshot, start.request);
+    let new = held_of(snapshot, quota, start);
+    let flags = struck_ands(alloc, snapshot.parts().groups.len(), &new, held)?;
+    let lost = worth_gone(flags.as_slice(), &new, held);
+    let counted = counted_kept(flags.as_slice(), &new, held) + new.counted;
+    if lost >= new.worth {
+        return Ok(None);
+    }
+    if !is_within(snapshot, quota, counted) {
+        return Ok(None);
+    }
+    Ok(Some(Found {
+        start,
+        gone: gone(alloc, flags.as_slice(), &new, held)?,
+        kept: kept(alloc, flags.as_slice(), &new, held)?,
+        gain: new.worth - lost,
+    }))
+}
+
+/// The first start at the slice that qualifies, by these telescopes. Fails only for want of memory.
+fn first_at(
+    alloc: Global,
+    snapshot: &Snapshot,
+    held: &[Held],
+    request: RequestNo,
+    slice: SliceNo,
+) -> Result<Option<Found>, AllocError>
+    requires { IsStage snapshot.now request.0 held.now }
+    ensures { IfOk result (IsFirstAt snapshot.now held.now request slice) }
+{
+    snapshot.recall_valid();
+    let telescopes = request_of(snapshot, request).telescopes.as_slice();
+    for telescope in telescopes {
+        let start = Placement {
+            request,
+            telescope: *telescope,
+            slice,
+        };
+        if let Some(found) = qualify(alloc, snapshot, held, start)? {
+            return Ok(Some(found));
+        }
+    }
+    Ok(None)
+}
+
+/// The earliest start of the request that qualifies, on the lowest telescope among equals. Fails only for want of memory.
+pub(crate) fn earliest(
+    alloc: Global,
+    snapshot: &Snapshot,
+    held: &[Held],
+    request: RequestNo,
+) -> Result<Option<Found>, AllocError>
+    requires { IsStage snapshot.now request.0 held.now }
+    ensures { IfOk result (IsSought snapshot.now held.now request.0) }
+{
+    snapshot.recall_valid();
+    let first = snapshot.parts().first.0;
+    let end = first + snapshot.parts().slices;
+    for slice in first..end {
+        if let Some(found) = first_at(alloc, snapshot, held, request, SliceNo(slice))? {
+            return Ok(Some(found));
+        }
+    }
+    Ok(None)
+}
