@@ -16,7 +16,7 @@ use command::{read_command, Command};
 use desk::Desk;
 use read::{Read, Refusal};
 use serde_json::{json, Value};
-use std::io::{self, BufRead, BufWriter, Write};
+use std::io::{self, BufRead, BufReader, BufWriter, Write};
 
 /// The text of an entry.
 fn entry(line: usize, version: u64, ok: &str, mut members: Value) -> Value {
@@ -66,7 +66,7 @@ fn do_line(desk: &mut Desk, line: usize, bytes: &[u8], out: &mut Vec<Value>) {
 }
 
 fn main() -> io::Result<()> {
-    let mut input = io::stdin().lock();
+    let mut input = BufReader::with_capacity(65_536, io::stdin().lock());
     let mut output = BufWriter::with_capacity(65_536, io::stdout().lock());
     let mut desk = Desk::default();
     let mut bytes = Vec::new();
@@ -83,6 +83,9 @@ fn main() -> io::Result<()> {
         for entry in entries.drain(..) {
             serde_json::to_writer(&mut output, &entry)?;
             output.write_all(b"\n")?;
+        }
+        if input.buffer().is_empty() {
+            output.flush()?;
         }
     }
     output.flush()

@@ -1,0 +1,46 @@
+"""The desk in plain Rust, bench/desk_baseline: how it is built, and talked to."""
+
+import json
+import pathlib
+import subprocess
+import sys
+
+HERE = pathlib.Path(__file__).resolve().parent.parent / "desk_baseline"
+REGISTRY = pathlib.Path("/usr/share/cargo/registry")
+
+
+def build(target):
+    """Builds the desk in plain Rust, with Debian's serde_json."""
+    if not REGISTRY.exists():
+        for words in (["update"], ["install", "-y", "--no-install-recommends", "librust-serde-json-dev"]):
+            subprocess.run(["apt-get", *words], check=True, stdout=sys.stderr)
+    words = ["cargo", "build", "--quiet", "--release", "--offline", "--target-dir", target]
+    subprocess.run(words, check=True, cwd=HERE, stdout=sys.stderr)
+    return f"{target}/release/desk_baseline"
+
+
+class Plain:
+    """The desk in plain Rust, which is asked line by line."""
+
+    def __init__(self, program):
+        self.process = subprocess.Popen([program], stdin=subprocess.PIPE, stdout=subprocess.PIPE)
+        self.replies = []
+
+    def answer(self, line):
+        """The replies to a line: an accepted `plan` line has two."""
+        self.process.stdin.write(line + b"\n")
+        self.process.stdin.flush()
+        replies = [self.reply()]
+        if replies[0].get("ok") == "taken":
+            replies.append(self.reply())
+        return replies
+
+    def reply(self):
+        text = self.process.stdout.readline()
+        self.replies.append(text)
+        return json.loads(text)
+
+    def close(self):
+        self.process.stdin.close()
+        self.process.stdout.close()
+        self.process.wait()
