@@ -14,6 +14,8 @@ mod rapid;
 mod run;
 mod seeking;
 mod striking;
+#[cfg(test)]
+mod tests;
 mod written;
 
 pub use fault::RapidFault;
