@@ -9,7 +9,7 @@ use std::process::ExitCode;
 /// What is written on standard error, where there is something to say.
 fn message(status: Status) -> Option<&'static str> {
     match status {
-        Status::Words => Some("usage: netsched session < LINES"),
+        Status::Words => Some("usage: netsched session < LINES | netsched workload NUMBER"),
         Status::ReadFault => Some("netsched: a read failed"),
         Status::WriteFault => Some("netsched: a write failed"),
         Status::NoMemory => Some("netsched: out of memory"),

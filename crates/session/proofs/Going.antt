@@ -1,6 +1,6 @@
 -- The lines that are read and done, what was written of their replies, and what is gathered.
-use Rattle.std.proofs.Common.{◌≡◌, ℕ, ◌+◌, ◌≤◌, List, [], ◌∷◌, ◌++◌, length, slice_get, true, false, ◌⊎◌, refl, sym}
-use Rattle.std.proofs.Common.{◌∙◌, ap, subst, arith, inl, inr, Some, None, Result, Ok, Err, OnErr, append_assoc, append-nil, length-append}
+use Rattle.std.proofs.Common.{◌≡◌, ℕ, ◌+◌, ◌≤◌, List, [], ◌∷◌, ◌++◌, length, true, false, ◌⊎◌, refl, sym}
+use Rattle.std.proofs.Common.{◌∙◌, ap, subst, arith, inl, inr, Some, None, Result, Ok, Err, OnErr, append_assoc, append-nil}
 use Rattle.std.specs.declared.option.Option.{Option}
 use Rattle.std.specs.declared.alloc.AllocError.{AllocError}
 use Rattle.plan_io.specs.declared.lines.ScriptLine.{ScriptLine}
@@ -15,26 +15,19 @@ use Rattle.plan_io.specs.Next.{IsNext, IsNextCause, IsLine}
 use Rattle.plan_io.specs.Reading.{HasAnswered}
 use Rattle.plan_io.specs.Sink.{Adds, Puts, IsPutCause}
 use Rattle.plan_io.proofs.Loops.{so_far_start, so_far_line, so_far_ends}
-use Rattle.desk_events.specs.declared.command.Command.{Command}
 use Rattle.desk_events.specs.declared.entry.EventEntry.{EventEntry}
-use Rattle.desk_events.specs.declared.fault.CommandFault.{CommandFault}
 use Rattle.desk_events.specs.Line.{command_of_line}
 use Rattle.desk_events.specs.Entry.{text_of_entry, text_of_history}
 use Rattle.desk_core.specs.Desk.{StateSeen, start}
-use Rattle.desk_core.specs.History.{IsWhole}
 use Rattle.session.specs.Line.{DoesLine, BeginsLine, AddsLine}
 use Rattle.session.specs.Session.{IsSound, AreFirst, WritesFront, Gathers, IsGathered, IsCutOff, IsEnded, IsWrittenOn}
-use Rattle.session.proofs.Stepping.{line_more, plan_more}
+use Rattle.session.proofs.Done.{AreDone, at_end, one_more, are_more, does_version, sound_done, whole_done}
 use Rattle.session.proofs.Written.{adds_none, adds_twice, front_all, front_after, front_put}
-use Rattle.session.proofs.Played.{Played, played_none, played_line, sound_played, sound_begun, whole_played}
+use Rattle.session.proofs.Played.{played_none, sound_begun}
 
 -- the reader of a session before the first line
 abbrev pub first_reader : LinesSeen
 first_reader = record { held = []; long = false; taken = 0; answered = 0; most_bytes = 67108864; most_lines = 65536; failed = false; ended = false }
-
--- these lines are done, whatever lines come after them
-abbrev pub AreDone : List ScriptLine → List EventEntry → StateSeen → Type 0
-AreDone lines h s = (rest : List ScriptLine) → Played (lines ++ rest) (length lines) h s
 
 -- so many lines were read and done, of a source that had a left, and the replies are what isn't written yet of their text
 pub record Going (a b w w' : Option (List ℕ)) (reader : LinesSeen) (replies : List ℕ) (done : ℕ) (s : StateSeen) : Type 0 where
@@ -96,21 +89,6 @@ later_written before now found is h = subst (λ (f : PutAnswer). IsPutCause befo
 
 -- ---- a line more
 
--- what is read at the end of some lines
-at_end : (lines rest : List ScriptLine) (line : ScriptLine) → slice_get (lines ++ line ∷ rest) (length lines) ≡ Some line
-at_end [] rest line = refl
-at_end (l ∷ lines) rest line = at_end lines rest line
-
-one_more : (lines : List ScriptLine) (line : ScriptLine) → length lines + 1 ≡ length (lines ++ line ∷ [])
-one_more lines line = sym (length-append lines (line ∷ []))
-
-are_more : (lines : List ScriptLine) (line : ScriptLine) (h es : List EventEntry) (s t : StateSeen) → AreDone lines h s → DoesLine s (length lines + 1) (command_of_line line) es t
-    → AreDone (lines ++ line ∷ []) (h ++ es) t
-are_more lines line h es s t d l rest =
-    let here : Played (lines ++ line ∷ rest) (length lines + 1) (h ++ es) t = played_line (lines ++ line ∷ rest) (length lines) h s t line es (d (line ∷ rest)) (at_end lines rest line) l in
-    subst (λ (ls : List ScriptLine). Played ls (length (lines ++ line ∷ [])) (h ++ es) t) (sym (append_assoc lines (line ∷ []) rest))
-    (subst (λ (n : ℕ). Played (lines ++ line ∷ rest) n (h ++ es) t) (one_more lines line) here)
-
 text_more : (xs ys : List EventEntry) → text_of_history (xs ++ ys) ≡ text_of_history xs ++ text_of_history ys
 text_more [] ys = refl
 text_more (x ∷ xs) ys = ap (λ (text : List ℕ). text_of_entry x ++ text) (text_more xs ys) ∙ sym (append_assoc (text_of_entry x) (text_of_history xs) (text_of_history ys))
@@ -119,11 +97,6 @@ gathers_more : (w w' : Option (List ℕ)) (old new : List ℕ) (h es : List Even
     → Gathers w w' new (text_of_history (h ++ es))
 gathers_more w w' old new h es g e =
     (g.0, g.1, text_more h es ∙ ap (λ (text : List ℕ). text ++ text_of_history es) g.2 ∙ append_assoc g.0 old (text_of_history es) ∙ ap (λ (text : List ℕ). g.0 ++ text) (sym e))
-
--- a line raises the version by one at most
-does_version : (s t : StateSeen) (n : ℕ) (read : Result Command CommandFault) (es : List EventEntry) → DoesLine s n read es t → t.version ≤ s.version + 1
-does_version s t n read es (inl d) = subst (λ (u : StateSeen). u.version ≤ s.version + 1) (sym d.1.left) (line_more s read d.0)
-does_version s t n read es (inr d) = subst (λ (u : StateSeen). u.version ≤ s.version + 1) (sym d.1.3) (plan_more s d.1.0 d.1.1)
 
 -- so many lines were answered
 answered_count : (a b : Option (List ℕ)) (lines : List ScriptLine) (reader : LinesSeen) → HasAnswered first_reader a lines reader b → reader.answered ≡ length lines
@@ -200,15 +173,6 @@ first_of None b lines reader h = tt
 first_of (Some xs) None lines reader (inl h) = absurd h.0.1
 first_of (Some xs) (Some ys) lines reader (inl h) = (lines_left reader.long (reader.held ++ ys), ap lines_of h.0.1 ∙ h.0.2.cuts ys)
 first_of (Some xs) b lines reader (inr h) = ([], ap lines_of h.all ∙ h.are ∙ sym (append-nil lines))
-
--- the lines that are done have a sound history
-sound_done : (lines : List ScriptLine) (h : List EventEntry) (s : StateSeen) → AreDone lines h s → IsSound lines h
-sound_done lines h s d =
-    subst (λ (ls : List ScriptLine). IsSound ls h) (append-nil lines)
-    (sound_played (lines ++ []) (length lines) h s (d []) (let same : length (lines ++ []) ≡ length lines + 0 = length-append lines [] in omega arith))
-
-whole_done : (lines : List ScriptLine) (h : List EventEntry) (s : StateSeen) → AreDone lines h s → IsWhole (lines ∷ []) h
-whole_done lines h s d = whole_played lines h s (subst (λ (ls : List ScriptLine). Played ls (length lines) h s) (append-nil lines) (d []))
 
 -- what is gathered of the lines that are done
 pub gathered_here : (a b w w' : Option (List ℕ)) (reader : LinesSeen) (replies : List ℕ) (done : ℕ) (s : StateSeen) → Going a b w w' reader replies done s → IsGathered a w w' replies

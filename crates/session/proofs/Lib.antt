@@ -1,8 +1,12 @@
+pub mod Done
 pub mod Going
 pub mod Histories
 pub mod LineTexts
+pub mod Numbers
 pub mod Plans
 pub mod Played
 pub mod Stepping
+pub mod Tallies
+pub mod Told
 pub mod Turns
 pub mod Written

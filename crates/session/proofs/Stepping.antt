@@ -39,7 +39,7 @@ use Rattle.desk_core.specs.declared.desk.Publication.{Publication}
 use Rattle.desk_runs.specs.declared.group.Group.{Group}
 use Rattle.desk_runs.specs.Numbers.{is_placed}
 use Rattle.desk_core.specs.Timing.{request_with}
-use Rattle.desk_core.specs.Step.{step, step_by, step_unopened, IsAsked, IsStep, IsSnapshotOf, opened}
+use Rattle.desk_core.specs.Step.{step_by, step_unopened, IsAsked, IsStep, IsSnapshotOf, opened}
 use Rattle.desk_core.specs.History.{IsPlanning, verdict_told, left_by, after_line, with_published, after_publish}
 use Rattle.desk_core.proofs.Publications.{certified_by}
 use Rattle.session.specs.Line.{IsBoundedClaim, IsBoundedReply, IsStepDone, IsPlanReply}

@@ -94,6 +94,10 @@ DoesLine s n read es t =
     ⊎ (IsPlanning s read
     × ((reply : Reply) × IsPlanReply s reply × (es ≡ take_entry s n ∷ publish_entry s n reply ∷ []) × (t ≡ after_publish s reply)))
 
+-- a line that says this is done, with this reply at last, that of the Publish where it asks for a plan, and leaves the state t
+abbrev pub RepliesAtLast : StateSeen → Result Command CommandFault → Reply → StateSeen → Type 0
+RepliesAtLast s read reply t = IsStepDone s read reply t ⊎ (IsPlanning s read × IsPlanReply s reply × (t ≡ after_publish s reply))
+
 -- the first of them, or all
 abbrev pub BeginsLine : StateSeen → ℕ → Result Command CommandFault → List EventEntry → Type 0
 BeginsLine s n read es =

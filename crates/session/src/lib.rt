@@ -3,6 +3,8 @@
 
 mod line;
 mod run;
+mod summary;
+mod tally;
 mod words;
 
 pub use run::run_session;

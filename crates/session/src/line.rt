@@ -4,7 +4,7 @@ ghost use Rattle.desk_events.specs.Line.{command_of_line};
 ghost use Rattle.desk_events.specs.Ranges.{IsCommand};
 ghost use Rattle.desk_core.specs.History.{IsPlanning, after_publish};
 ghost use Rattle.lanes.specs.Solving.{IsInRange};
-ghost use Rattle.session.specs.Line.{IsTakenOf, IsPlanReply, IsStepDone, AddsLine, AddsPublish};
+ghost use Rattle.session.specs.Line.{IsTakenOf, IsPlanReply, IsStepDone, RepliesAtLast, AddsLine, AddsPublish};
 
 use desk_core::State;
 use desk_events::{
@@ -123,6 +123,18 @@ fn publish_found(state: &mut State, solved: Solved) -> Result<Reply, AllocError>
     }
 }
 
+/// Seeks the plan of an opened desk and publishes it, and says what is replied.
+fn seek<R: Threads + Sync>(rt: &R, alloc: Global, state: &mut State) -> Result<Reply, AllocError>
+    requires version { state.old.version < 524288 }
+    requires opened { IsSome state.old.desk }
+    ensures reply { IfOk result (IsPlanReply state.old) }
+    ensures left { IfOk result (λ reply. state.new ≡ after_publish state.old reply) }
+{
+    let taken = take(state)?;
+    let solved = solve_plan(rt, alloc, taken, &NoGate)?;
+    publish_found(state, solved)
+}
+
 /// Seeks the plan of an opened desk and publishes it, and adds its entry.
 fn publish<R: Threads + Sync>(
     rt: &R,
@@ -136,9 +148,7 @@ fn publish<R: Threads + Sync>(
     ensures { AddsPublish state.old state.new line replies.old.items replies.new.items result }
 {
     let version = state.version();
-    let taken = take(state)?;
-    let solved = solve_plan(rt, alloc, taken, &NoGate)?;
-    let reply = publish_found(state, solved)?;
+    let reply = seek(rt, alloc, state)?;
     let entry = EventEntry {
         caller: CALLER,
         line,
@@ -190,4 +200,21 @@ pub(crate) fn do_line<R: Threads + Sync>(
         return do_plan(rt, alloc, state, number, read, replies);
     }
     do_step(state, number, read, replies)
+}
+
+/// Does a line, and says what is replied at last: where it asks for a plan, that of its Publish.
+pub(crate) fn reply_to<R: Threads + Sync>(
+    rt: &R,
+    alloc: Global,
+    state: &mut State,
+    line: &ScriptLine,
+) -> Result<Reply, AllocError>
+    requires version { state.old.version < 524288 }
+    ensures { IfOk result (λ reply. RepliesAtLast state.old (command_of_line line.now) reply state.new) }
+{
+    let read = read(alloc, line)?;
+    if is_plan(&read) && state.is_opened() {
+        return seek(rt, alloc, state);
+    }
+    apply_read(state, read)
 }

@@ -1,13 +1,16 @@
 //! A session from its words to its status.
-ghost use Rattle.std.specs.Prelude.{◌≡◌, ◌≢◌, ◌⊎◌, ◌↔◌, [], false, IfOk, OnErr};
+ghost use Rattle.std.specs.Prelude.{◌≡◌, ◌≢◌, ◌⊎◌, ◌↔◌, ℕ, [], map, false, Some, None, IfOk, OnErr, string_bytes};
 ghost use Rattle.plan_io.specs.LinesSeen.{HasLine};
 ghost use Rattle.plan_io.specs.Sink.{Puts, IsPutCause};
 ghost use Rattle.desk_core.specs.Desk.{start};
-ghost use Rattle.session.specs.Words.{IsSessionWords};
+ghost use Rattle.session.specs.declared.words.Mode.TheVariants.{Session, Workload};
+ghost use Rattle.session.specs.Words.{mode_of};
+ghost use Rattle.session.specs.Summary.{WritesSummary, IsWorkloadRun, IsWorkloadCause};
 ghost use Rattle.session.specs.Session.{IsSession, IsSessionCause, IsGathered, IsWrittenOn};
 
 use crate::line::do_line;
-use crate::words::is_session;
+use crate::tally::tell_workload;
+use crate::words::{Mode, mode_of};
 use desk_core::State;
 use plan_io::{LineAnswer, Lines, PutAnswer, Sink, Source, Status, put};
 use std::alloc::{AllocError, Global};
@@ -112,10 +115,45 @@ fn play<R: Threads + Sync, S: Source, K: Sink>(
     }
 }
 
-/// Runs a session. The words are the one word `session`, else the status is `Words` and nothing is read or written. Then lines
-/// are read and done in order, at most 67,108,864 bytes and 65,536 lines, to the end of the source, a fault or a limit; the
-/// replies of the lines before it are written. They are written before the source is read again, so that whoever waits for a
-/// reply gets it, and else once they have 65,536 bytes. The runtime is for the threads that seek plans.
+/// Writes the line that sums up a workload.
+fn write_summary<K: Sink>(sink: &mut K, text: &[u8]) -> Status
+    ensures written { WritesSummary (K.written sink.old) (K.written sink.new) text.now result }
+    ensures cause { IsWorkloadCause (K.faults sink.old) (K.faults sink.new) result }
+{
+    match put(sink, text) {
+        PutAnswer::Done => Status::Done,
+        PutAnswer::WriteFault => Status::WriteFault,
+    }
+}
+
+/// Does the lines of a workload on a new desk, and writes their summary.
+fn run_workload<R: Threads + Sync, K: Sink>(
+    rt: &R,
+    alloc: Global,
+    number: u32,
+    sink: &mut K,
+) -> Status
+    ensures written { IsWorkloadRun number (K.written sink.old) (K.written sink.new) result }
+    ensures cause { IsWorkloadCause (K.faults sink.old) (K.faults sink.new) result }
+{
+    let mut state = State::empty(alloc);
+    match tell_workload(rt, alloc, number, &mut state) {
+        Ok(text) => write_summary(sink, text.as_slice()),
+        Err(_) => Status::NoMemory,
+    }
+}
+
+/// Runs a session or a workload. The words are `session`, or `workload` and a number of one to ten digits, at most
+/// 4,294,967,295, with or without one `--` among them; else the status is `Words` and nothing is read or written.
+///
+/// In a session lines are read and done in order, at most 67,108,864 bytes and 65,536 lines, to the end of the source, a fault
+/// or a limit; the replies of the lines before it are written. They are written before the source is read again, so that
+/// whoever waits for a reply gets it, and else once they have 65,536 bytes.
+///
+/// With a workload nothing is read: the lines of [`Workload`](workload::Workload) with four workers are done, and one line is
+/// written, the summary of what is replied to them.
+///
+/// The runtime is for the threads that seek plans.
 pub fn run_session<R: Threads + Sync, S: Source, K: Sink>(
     rt: &R,
     alloc: Global,
@@ -123,13 +161,17 @@ pub fn run_session<R: Threads + Sync, S: Source, K: Sink>(
     source: &mut S,
     sink: &mut K,
 ) -> Status
-    ensures words { (result ≡ Status.Words) ↔ ¬ (IsSessionWords words.now) }
+    ensures words { (result ≡ Status.Words) ↔ (mode_of (map string_bytes words.now) ≡ None) }
     ensures untouched { result ≡ Status.Words → (source.new ≡ source.old) × (sink.new ≡ sink.old) }
-    ensures session { IsSession (S.left source.old) (S.left source.new) (K.written sink.old) (K.written sink.new) result }
+    ensures session { mode_of (map string_bytes words.now) ≡ Some Session
+        → IsSession (S.left source.old) (S.left source.new) (K.written sink.old) (K.written sink.new) result }
+    ensures workload { (number : ℕ) → mode_of (map string_bytes words.now) ≡ Some (Workload number)
+        → (source.new ≡ source.old) × IsWorkloadRun number (K.written sink.old) (K.written sink.new) result }
     ensures cause { IsSessionCause (S.faults source.old) (S.faults source.new) (K.faults sink.old) (K.faults sink.new) result }
 {
-    if !is_session(words) {
-        return Status::Words;
+    match mode_of(words) {
+        Some(Mode::Session) => play(rt, alloc, source, sink),
+        Some(Mode::Workload(number)) => run_workload(rt, alloc, number, sink),
+        None => Status::Words,
     }
-    play(rt, alloc, source, sink)
 }

@@ -1,0 +1,17 @@
+// A workload: the lines of a realistic night, drawn by a generator from one number.
+#![tactic(auto)]
+
+mod class;
+mod draws;
+mod laws;
+mod line;
+mod name;
+mod one;
+mod request;
+mod subject;
+#[cfg(test)]
+mod tests;
+mod workload;
+
+pub use laws::so_many_lines;
+pub use workload::Workload;
