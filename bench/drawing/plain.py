@@ -1,7 +1,9 @@
 """The desk in plain Rust, bench/desk_baseline: how it is built, and talked to."""
 
 import json
+import os
 import pathlib
+import shutil
 import subprocess
 import sys
 
@@ -9,12 +11,18 @@ HERE = pathlib.Path(__file__).resolve().parent.parent / "desk_baseline"
 REGISTRY = pathlib.Path("/usr/share/cargo/registry")
 
 
+def cargo():
+    """Where cargo is: on the path, or where rustup puts it."""
+    path = os.pathsep.join((os.environ.get("PATH", os.defpath), os.path.expanduser("~/.cargo/bin")))
+    return shutil.which("cargo", path=path) or "cargo"
+
+
 def build(target):
     """Builds the desk in plain Rust, with Debian's serde_json."""
     if not REGISTRY.exists():
         for words in (["update"], ["install", "-y", "--no-install-recommends", "librust-serde-json-dev"]):
             subprocess.run(["apt-get", *words], check=True, stdout=sys.stderr)
-    words = ["cargo", "build", "--quiet", "--release", "--offline", "--target-dir", target]
+    words = [cargo(), "build", "--quiet", "--release", "--offline", "--target-dir", target]
     subprocess.run(words, check=True, cwd=HERE, stdout=sys.stderr)
     return f"{target}/release/desk_baseline"
 
