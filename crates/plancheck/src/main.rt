@@ -1,5 +1,5 @@
-//! plancheck: documents of snapshots and claims on standard input, what is found of them on standard output. It stands on
-//! nothing that makes plans.
+//! plancheck: documents of snapshots and claims on standard input, what is found of them on standard output. Its checks
+//! stand on nothing that makes plans.
 #![tactic(auto)]
 
 ghost use Rattle.std.specs.Prelude.{◌≡◌, ◌↔◌, ◌⊎◌, codes};
