@@ -12,6 +12,7 @@ use Rattle.plan_base.specs.Feasible.{requests_of, IsFeasible}
 use Rattle.plan_base.specs.Bound.{price, weight, surplus, IsBest, net_price, IsRebate, IsBound}
 use Rattle.plan_base.proofs.Known.{telescope_known, requests_known, group_known}
 use Rattle.plan_base.proofs.Lists.{contains_filter}
+use Rattle.plan_base.proofs.Duality.{test_from_same, starts_on, choice_of, cost_of, quota_part}
 use Rattle.plan_base.proofs.Members.{contains_from_map}
 use Rattle.plan_base.proofs.Single.{one_best, one_rebate}
 use Rattle.plan_base.proofs.Totals.{total_map, total_add, total_of_naturals}
@@ -21,7 +22,6 @@ use Rattle.explain.specs.declared.answer.Forced.TheVariants.{NoStart, Bound}
 use Rattle.explain.specs.Through.{IsThrough}
 use Rattle.explain.specs.Choice.{IsRebateWith}
 use Rattle.explain.specs.Forced.{IsDetour, IsForcedBound, ForcedValue, Excludes, IsPlanWith, IsInNoGoodPlan}
-use Rattle.explain.proofs.PlanParts.{test_from_same, starts_on, choice_of, cost_of, quota_part}
 use Rattle.explain.proofs.Swapped.{swapped}
 
 -- the placement of a request that a plan places
@@ -42,8 +42,8 @@ module _ (s : Parts) (prices : List ℤ) (quota_prices : List ℕ) (plan : List 
             let here : Contains (filter (λ q. q.telescope.0 == t) plan) p = contains_filter (λ q. q.telescope.0 == t) plan p has (test_from_same p.telescope.0 t (sym at)) in
             subst (λ (z : ℤ). surplus s prices (filter (λ q. q.telescope.0 == t) plan) ≤ℤ z) (sym is)
             ((subst (λ (u : ℕ). IsThrough s prices u p.request.0 through) (sym at) is_through).bound (filter (λ q. q.telescope.0 == t) plan)
-            (record { list = starts_on s plan t feasible; has = (here.0, p, here.1, here.2, refl) }))
-        | inr is ↦ is.bound (filter (λ q. q.telescope.0 == t) plan) (starts_on s plan t feasible)
+            (record { list = starts_on s plan t feasible.possible feasible.disjoint; has = (here.0, p, here.1, here.2, refl) }))
+        | inr is ↦ is.bound (filter (λ q. q.telescope.0 == t) plan) (starts_on s plan t feasible.possible feasible.disjoint)
       ])
 
   -- by group: that of the request gives no more than a choice with it

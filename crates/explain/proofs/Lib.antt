@@ -9,6 +9,5 @@ pub mod Leaving
 pub mod Offering
 pub mod Passing
 pub mod Pieces
-pub mod PlanParts
 pub mod Swapped
 pub mod Until

@@ -1,41 +1,22 @@
--- Weak duality with trees: the two parts of a plan's value, by telescope and by tree.
-use Rattle.std.proofs.Common.{◌≡◌, ◌≢◌, ℕ, suc, ◌≤◌, ◌<◌, ◌⊎◌, inl, inr, Bool, ◌==◌, ℤ, pos, ◌+ℤ◌, ◌≤ℤ◌, List, [], ◌∷◌, ◌++◌, length, slice_index_or, filter, All, AllPairs, Contains, ◌∙◌, ap, arith}
+-- Weak duality with trees: what a plan is worth by telescope and by tree.
+use Rattle.std.proofs.Common.{◌≡◌, ◌≢◌, ℕ, suc, ◌≤◌, ◌<◌, ◌⊎◌, inl, inr, Bool, ℤ, pos, ◌+ℤ◌, ◌≤ℤ◌, List, [], ◌∷◌, ◌++◌, length, slice_index_or, filter, All, AllPairs, Contains, ◌∙◌, ap, arith}
 use Rattle.std.proofs.lemmas.Int.{ints}
-use Rattle.std.proofs.lemmas.List.Elements.{All-filter, All-map, filter-append, filter_passes}
-use Rattle.std.proofs.lemmas.List.Kept.{AllPairs-filter}
+use Rattle.std.proofs.lemmas.List.Elements.{All-map, filter-append}
 use Rattle.plan_base.specs.declared.parts.Parts.{Parts}
 use Rattle.plan_base.specs.declared.claim.Placement.{Placement}
 use Rattle.plan_base.specs.Sums.{total, IsSumOf}
 use Rattle.plan_base.specs.Requests.{listed, place_of, IsKnown}
 use Rattle.plan_base.specs.Snapshot.{IsOrderly}
-use Rattle.plan_base.specs.Starts.{IsPossibleStart, ShareSlice, worth_at, value_of_plan}
+use Rattle.plan_base.specs.Starts.{worth_at, value_of_plan}
 use Rattle.plan_base.specs.Feasible.{requests_of}
-use Rattle.plan_base.specs.Bound.{price, weight, IsStartList, surplus, IsBest}
-use Rattle.plan_base.proofs.Known.{telescope_known}
+use Rattle.plan_base.specs.Bound.{price, weight, surplus}
 use Rattle.plan_base.proofs.Totals.{total_map, total_add, total_append, total_of_naturals}
-use Rattle.plan_base.proofs.Split.{split}
 use Rattle.group_trees.specs.Trees.{Node}
 use Rattle.group_trees.specs.Choices.{leaves}
 use Rattle.group_trees.specs.Forests.{forest_leaves, times, IsForest}
 use Rattle.group_trees.specs.Plans.{is_placed, IsForestFeasible}
 use Rattle.group_trees.specs.Rebates.{IsRebateAt, IsForestBound}
-use Rattle.group_trees.proofs.Shares.{same_from_test, once_from_times, contained_times, placed_total}
-
--- by telescope: the placements of each are a list of its starts
-starts_on : (s : Parts) (trees : List Node) (plan : List Placement) (t : ℕ) → IsForestFeasible s trees plan → IsStartList s t s.first.0 (filter (λ p. p.telescope.0 == t) plan)
-starts_on s trees plan t f = record {
-  possible = All-filter (λ p. p.telescope.0 == t) (IsPossibleStart s) plan f.possible;
-  same_telescope = λ i d l. same_from_test _ t (filter_passes (λ p. p.telescope.0 == t) plan i d l);
-  later = All-filter (λ p. p.telescope.0 == t) (λ p. s.first.0 ≤ p.slice.0) plan (λ i d l. (f.possible i d l).begins);
-  disjoint = AllPairs-filter (λ a b. ¬ (ShareSlice s a b)) (λ p. p.telescope.0 == t) plan f.disjoint;
-}
-
-telescope_part : (s : Parts) (trees : List Node) (prices : List ℤ) (plan : List Placement) (b : ℤ) → IsOrderly s → IsForestFeasible s trees plan → IsSumOf (length s.telescopes) (λ t. IsBest s prices t s.first.0) b → surplus s prices plan ≤ℤ b
-telescope_part s trees prices plan b o f sum =
-    split (weight s prices) (λ p. p.telescope.0) plan (length s.telescopes) (λ t. IsBest s prices t s.first.0) b sum
-    (λ i d l. inr (telescope_known s _ o (f.possible i d l))) (λ t y l best. best.bound (filter (λ p. p.telescope.0 == t) plan) (starts_on s trees plan t f))
-
--- ---- what the leaves of a forest are
+use Rattle.group_trees.proofs.Shares.{once_from_times, contained_times, placed_total}
 
 place_cases : (a b : ℕ) → (a < b) ⊎ (b ≤ a)
 place_cases a b = grind arith
@@ -97,7 +78,7 @@ duality s trees prices plan b o forest f bound =
     let value : total (λ p. pos (worth_at s p)) plan ≡ pos (value_of_plan s plan) = total_of_naturals (worth_at s) plan in
     let both : total (λ p. pos (worth_at s p)) plan ≡ surplus s prices plan +ℤ total (λ p. price s prices p.request.0) plan = total_add (λ p. pos (worth_at s p)) (weight s prices) (λ p. price s prices p.request.0) (λ p. omega (arith, ints)) plan in
     let placed : total (λ p. price s prices p.request.0) plan ≡ total (price s prices) (requests_of plan) = total_map (price s prices) (λ p. p.request.0) plan in
-    let one : surplus s prices plan ≤ℤ bound.bests = telescope_part s trees prices plan bound.bests o f bound.best in
+    let one : surplus s prices plan ≤ℤ bound.bests = telescope_part s prices plan bound.bests o f.possible f.disjoint bound.best in
     let two : total (price s prices) (requests_of plan) ≤ℤ bound.rebates = tree_part s trees prices plan bound.rebates forest f bound.rebate in
     let whole : b ≡ bound.bests +ℤ bound.rebates = bound.whole in
     omega (arith, ints)

@@ -13,7 +13,7 @@ use Rattle.plan_base.specs.Sums.{total, IsSumOf}
 use Rattle.plan_base.specs.Requests.{IsKnown, group_of, quota_of, seconds_of, IsOf, IsKind, AllOrNone}
 use Rattle.plan_base.specs.Snapshot.{IsOrderly}
 use Rattle.plan_base.specs.Starts.{IsPossibleStart, ShareSlice, worth_at, value_of_plan}
-use Rattle.plan_base.specs.Feasible.{AreOfOneOneOf, requests_of, is_quota, quota_at, IsFeasible}
+use Rattle.plan_base.specs.Feasible.{AreOfOneOneOf, requests_of, is_quota, quota_at, IsEachPossible, IsDisjoint, IsFeasible}
 use Rattle.plan_base.specs.Bound.{price, weight, IsStartList, surplus, IsBest, quota_cost, net_price, IsAllowedChoice, IsRebate, IsQuotaPart, IsBound}
 use Rattle.plan_base.proofs.Known.{telescope_known, requests_known, group_known, quota_known}
 use Rattle.plan_base.proofs.Lists.{contains_filter}
@@ -23,22 +23,23 @@ use Rattle.plan_base.proofs.Split.{split}
 same_from_test : (a b : ℕ) → (a == b) ≡ true → a ≡ b
 same_from_test a b h = grind (arith, nat_tests)
 
-test_from_same : (a b : ℕ) → a ≡ b → (a == b) ≡ true
+pub test_from_same : (a b : ℕ) → a ≡ b → (a == b) ≡ true
 test_from_same a b h = grind (arith, nat_tests)
 
 -- by telescope: the placements of each are a list of its starts
-starts_on : (s : Parts) (plan : List Placement) (t : ℕ) → IsFeasible s plan → IsStartList s t s.first.0 (filter (λ p. p.telescope.0 == t) plan)
-starts_on s plan t f = record {
-  possible = All-filter (λ p. p.telescope.0 == t) (IsPossibleStart s) plan f.possible;
+pub starts_on : (s : Parts) (plan : List Placement) (t : ℕ) → IsEachPossible s plan → IsDisjoint s plan → IsStartList s t s.first.0 (filter (λ p. p.telescope.0 == t) plan)
+starts_on s plan t possible disjoint = record {
+  possible = All-filter (λ p. p.telescope.0 == t) (IsPossibleStart s) plan possible;
   same_telescope = λ i d l. same_from_test _ t (filter_passes (λ p. p.telescope.0 == t) plan i d l);
-  later = All-filter (λ p. p.telescope.0 == t) (λ p. s.first.0 ≤ p.slice.0) plan (λ i d l. (f.possible i d l).begins);
-  disjoint = AllPairs-filter (λ a b. ¬ (ShareSlice s a b)) (λ p. p.telescope.0 == t) plan f.disjoint;
+  later = All-filter (λ p. p.telescope.0 == t) (λ p. s.first.0 ≤ p.slice.0) plan (λ i d l. (possible i d l).begins);
+  disjoint = AllPairs-filter (λ a b. ¬ (ShareSlice s a b)) (λ p. p.telescope.0 == t) plan disjoint;
 }
 
-telescope_part : (s : Parts) (prices : List ℤ) (plan : List Placement) (b : ℤ) → IsOrderly s → IsFeasible s plan → IsSumOf (length s.telescopes) (λ t. IsBest s prices t s.first.0) b → surplus s prices plan ≤ℤ b
-telescope_part s prices plan b o f sum =
+pub telescope_part : (s : Parts) (prices : List ℤ) (plan : List Placement) (b : ℤ) → IsOrderly s → IsEachPossible s plan → IsDisjoint s plan
+    → IsSumOf (length s.telescopes) (λ t. IsBest s prices t s.first.0) b → surplus s prices plan ≤ℤ b
+telescope_part s prices plan b o possible disjoint sum =
     split (weight s prices) (λ p. p.telescope.0) plan (length s.telescopes) (λ t. IsBest s prices t s.first.0) b sum
-    (λ i d l. inr (telescope_known s _ o (f.possible i d l))) (λ t y l best. best.bound (filter (λ p. p.telescope.0 == t) plan) (starts_on s plan t f))
+    (λ i d l. inr (telescope_known s _ o (possible i d l))) (λ t y l best. best.bound (filter (λ p. p.telescope.0 == t) plan) (starts_on s plan t possible disjoint))
 
 -- by group: the requests placed of each are an allowed choice
 at_most_one : (s : Parts) (g : ℕ) (rs : List ℕ) → All (IsOf s g) rs → AllPairs (λ a b. ¬ (AreOfOneOneOf s a b)) rs → IsKind s OneOf g → length rs ≤ 1
@@ -52,7 +53,7 @@ all_or_none s g rs h = elim h [
   | inr none ↦ inr (λ r o c. none r o (All-contains (Contains rs) (filter (λ x. group_of s x == g) rs) r (All-filter (λ x. group_of s x == g) (Contains rs) rs (All-contains_itself rs)) c))
 ]
 
-choice_of : (s : Parts) (plan : List Placement) (g : ℕ) → IsFeasible s plan → IsAllowedChoice s g (filter (λ r. group_of s r == g) (requests_of plan))
+pub choice_of : (s : Parts) (plan : List Placement) (g : ℕ) → IsFeasible s plan → IsAllowedChoice s g (filter (λ r. group_of s r == g) (requests_of plan))
 choice_of s plan g f =
     let members : All (IsOf s g) (filter (λ r. group_of s r == g) (requests_of plan)) = λ i d l. (
       All-filter (λ r. group_of s r == g) (λ r. IsKnown s r) (requests_of plan) (requests_known s plan f) i d l,
@@ -73,7 +74,7 @@ group_part s prices quota_prices plan b f sum =
     (λ g y l rebate. rebate.bound (filter (λ r. group_of s r == g) (requests_of plan)) (choice_of s plan g f))
 
 -- by quota: the seconds placed of each are within it
-abbrev cost_of : Parts → List ℕ → ℕ → ℤ
+abbrev pub cost_of : Parts → List ℕ → ℕ → ℤ
 cost_of s quota_prices r = pos (quota_cost quota_prices (seconds_of s r) (quota_of s r))
 
 -- the quota, or n where none is named
@@ -106,7 +107,7 @@ one_quota s quota_prices plan q y f l part =
     let is : y ≡ pos (u * quota_at s q) = part in
     subst (λ (ys : List ℕ). total (cost_of s quota_prices) ys ≤ℤ y) (sym agree) (omega (arith, ints))
 
-quota_part : (s : Parts) (quota_prices : List ℕ) (plan : List Placement) (b : ℤ) → IsOrderly s → IsFeasible s plan
+pub quota_part : (s : Parts) (quota_prices : List ℕ) (plan : List Placement) (b : ℤ) → IsOrderly s → IsFeasible s plan
     → IsSumOf (length s.quotas) (IsQuotaPart s quota_prices) b → total (cost_of s quota_prices) (requests_of plan) ≤ℤ b
 quota_part s quota_prices plan b o f sum =
     split (cost_of s quota_prices) (λ r. quota_or (length s.quotas) (quota_of s r)) (requests_of plan) (length s.quotas) (IsQuotaPart s quota_prices) b sum
@@ -121,7 +122,7 @@ duality s prices quota_prices plan b o f bound =
     let both : total (λ p. pos (worth_at s p)) plan ≡ surplus s prices plan +ℤ total (λ p. price s prices p.request.0) plan = total_add (λ p. pos (worth_at s p)) (weight s prices) (λ p. price s prices p.request.0) (λ p. omega (arith, ints)) plan in
     let placed : total (λ p. price s prices p.request.0) plan ≡ total (price s prices) (requests_of plan) = total_map (price s prices) (λ p. p.request.0) plan in
     let net : total (price s prices) (requests_of plan) ≡ total (net_price s prices quota_prices) (requests_of plan) +ℤ total (cost_of s quota_prices) (requests_of plan) = total_add (price s prices) (net_price s prices quota_prices) (cost_of s quota_prices) (λ r. omega (arith, ints)) (requests_of plan) in
-    let one : surplus s prices plan ≤ℤ bound.bests = telescope_part s prices plan bound.bests o f bound.best in
+    let one : surplus s prices plan ≤ℤ bound.bests = telescope_part s prices plan bound.bests o f.possible f.disjoint bound.best in
     let two : total (net_price s prices quota_prices) (requests_of plan) ≤ℤ bound.rebates = group_part s prices quota_prices plan bound.rebates f bound.rebate in
     let three : total (cost_of s quota_prices) (requests_of plan) ≤ℤ bound.quotas = quota_part s quota_prices plan bound.quotas o f bound.quota in
     let whole : b ≡ bound.bests +ℤ bound.rebates +ℤ bound.quotas = bound.whole in

@@ -72,6 +72,10 @@ is_flagged flags (Some g) = slice_index_or flags g false
 abbrev pub goes_by : List Bool → Held → Held → Bool
 goes_by flags start h = meets start h || is_flagged flags h.and_place
 
+-- group g is flagged by these flags, or it is the AND of h, which the start meets
+abbrev pub is_struck : List Bool → Held → Held → ℕ → Bool
+is_struck flags start h g = slice_index_or flags g false || meets start h && is_quota g h.and_place
+
 -- of n groups, those are flagged that are an AND of which the start meets one that is held
 pub record AreStruck (start : Held) (held : List Held) (n : ℕ) (flags : List Bool) : Type 0 where
   pub count : length flags ≡ n

@@ -1,8 +1,7 @@
 // What of a plan has to go for a start.
 
-ghost use Rattle.std.specs.Prelude.{◌≡◌, ◌<◌, ◌&&◌, ◌||◌, ◌^◌, not, ℕ, length, map, replicate, false, slice_index_or, filter, sum_by, All, IfOk};
-ghost use Rattle.plan_base.specs.Feasible.{is_quota};
-ghost use Rattle.rapid.specs.Held.{meets, is_flagged, goes_by, AreStruck, HasPlaceBelow, plan_of};
+ghost use Rattle.std.specs.Prelude.{◌≡◌, ◌<◌, ◌^◌, not, ℕ, length, map, replicate, false, slice_index_or, filter, sum_by, All, IfOk};
+ghost use Rattle.rapid.specs.Held.{meets, is_flagged, is_struck, goes_by, AreStruck, HasPlaceBelow, plan_of};
 
 use crate::held::Held;
 use plan_base::Placement;
@@ -28,7 +27,8 @@ fn no_flags(alloc: Global, count: usize) -> Result<Vec<bool>, AllocError>
 fn strike(flags: &mut Vec<bool>, start: &Held, other: &Held)
     requires { HasPlaceBelow (length flags.old.items) other.now }
     ensures count { length flags.new.items ≡ length flags.old.items }
-    ensures set { (g : ℕ) → g < length flags.old.items → slice_index_or flags.new.items g false ≡ (slice_index_or flags.old.items g false || meets start.now other.now && is_quota g other.now.and_place) }
+    ensures set { (g : ℕ) → g < length flags.old.items
+        → slice_index_or flags.new.items g false ≡ is_struck flags.old.items start.now other.now g }
 {
     if let Some(group) = other.and_place {
         if meets(start, other) {
