@@ -48,7 +48,7 @@ pub(crate) fn first_twice(
 }
 
 /// The place of the group of a request that the snapshot has.
-pub(crate) fn known_group(snapshot: &Snapshot, request: RequestNo) -> usize
+pub fn known_group(snapshot: &Snapshot, request: RequestNo) -> usize
     requires { IsKnown snapshot.now request.0 }
     ensures value { result ≡ group_of snapshot.now request.0 }
     ensures within { result < length snapshot.now.groups }
@@ -57,7 +57,7 @@ pub(crate) fn known_group(snapshot: &Snapshot, request: RequestNo) -> usize
 }
 
 /// A request that the snapshot has.
-pub(crate) fn request_of(snapshot: &Snapshot, request: RequestNo) -> &RequestPart
+pub fn request_of(snapshot: &Snapshot, request: RequestNo) -> &RequestPart
     requires { IsKnown snapshot.now request.0 }
     ensures is { IsRequestOf snapshot.now request.0 result.now }
     ensures ranges { IsRequestInRanges (length snapshot.now.telescopes) result.now }

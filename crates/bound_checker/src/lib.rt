@@ -23,5 +23,13 @@ mod worth;
 
 pub use best::best_of;
 pub use bound::bound_of;
+pub use known::{known_group, request_of};
+pub use nets::{cost_of, price_of};
+pub use quotas::known_quota;
 pub use rebate::rebate_of;
+pub use sight::{Sight, find_views, stretch_in_sight};
+pub use starts::starts_of;
+pub use stretches::{Observation, Stretch};
+pub use table::{Start, fill_table};
 pub use verdict::check;
+pub use worth::{Offer, offer_of, weight_at};

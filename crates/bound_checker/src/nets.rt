@@ -58,7 +58,7 @@ fn prices_from(prices: &Prices, first: usize, count: usize) -> &[i64]
 }
 
 /// The price of a second of a quota: 0 past the end of the list, or where no quota is named.
-pub(crate) fn price_of(quota_prices: &[u32], quota: Option<u16>) -> u32
+pub fn price_of(quota_prices: &[u32], quota: Option<u16>) -> u32
     requires { All (λ u. u ≤ most_quota_price) quota_prices.now }
     ensures value { result ≡ price_of quota_prices.now quota }
     ensures most { result ≤ most_quota_price }
@@ -80,7 +80,7 @@ fn net_at(nets: &Nets, place: usize) -> i64
 }
 
 /// What so many seconds cost at a price.
-fn cost_of(quota_price: u32, seconds: u32) -> i64
+pub fn cost_of(quota_price: u32, seconds: u32) -> i64
     requires price { quota_price ≤ most_quota_price }
     requires seconds { seconds ≤ most_seconds }
     ensures { result ≡ pos (quota_price * seconds) }

@@ -36,7 +36,7 @@ fn no_seconds(alloc: Global, count: usize) -> Result<Vec<u64>, AllocError>
 }
 
 /// The quota that the group of a request names, if it names one.
-fn known_quota(snapshot: &Snapshot, request: RequestNo) -> Option<u16>
+pub fn known_quota(snapshot: &Snapshot, request: RequestNo) -> Option<u16>
     requires { IsKnown snapshot.now request.0 }
     ensures value { result ≡ quota_of snapshot.now request.0 }
     ensures within { (q : ℕ) → result ≡ Some q → q < length snapshot.now.quotas }

@@ -12,16 +12,19 @@ use std::alloc::AllocError;
 
 /// What has to hold an observation: one of the windows, one of the usable spans, and a span of each of the skies.
 #[derive(Clone, Copy)]
-pub(crate) struct Sight<'a> {
+pub struct Sight<'a> {
+    /// The windows of the request, in any order.
     pub windows: &'a [Span],
+    /// When the telescope is usable, in rising order with gaps between the spans.
     pub usable: &'a [Span],
+    /// The skies of the snapshot.
     pub skies: &'a [Sky],
     /// The places among the skies of those that are meant.
     pub views: &'a [usize],
 }
 
 /// The stretch from a slice on of an observation in sight.
-pub(crate) fn stretch_in_sight(sight: &Sight, observation: Observation, slice: u64) -> Stretch
+pub fn stretch_in_sight(sight: &Sight, observation: Observation, slice: u64) -> Stretch
     requires observation { IsObservation observation }
     requires slice { slice < 2 ^ 32 }
     requires clear { IsClear sight.now }
@@ -79,7 +82,7 @@ fn both(a: Stretch, b: Stretch) -> Stretch
 
 /// Writes the places of the targets' skies at a site. False exactly where a target has none there. Fails only for want
 /// of memory.
-pub(crate) fn find_views(
+pub fn find_views(
     skies: &[Sky],
     site: SiteNo,
     targets: &[TargetNo],

@@ -17,7 +17,7 @@ use std::alloc::{AllocError, Global};
 
 /// The possible starts of a telescope: row `k` has those at slice `k` of the horizon. Each stands there once. Fails
 /// only for want of memory.
-pub(crate) fn starts_of(
+pub fn starts_of(
     alloc: Global,
     snapshot: &Snapshot,
     telescope: TelescopeNo,

@@ -7,16 +7,19 @@ ghost use Rattle.bound_checker.specs.Stretches.{IsObservation, DoesFitIn, DoesFi
 
 use plan_base::Span;
 
-/// How long a slice is, 60 to 3,600 seconds, and how long an observation takes, 1 to 86,400 seconds.
+/// How long a slice is, and how long an observation takes.
 #[derive(Clone, Copy, Debug)]
-pub(crate) struct Observation {
+pub struct Observation {
+    /// The seconds of a slice, 60 to 3,600.
     pub len: u64,
+    /// The seconds of the observation, 1 to 86,400.
     pub seconds: u64,
 }
 
 /// Slices in a row that are alike: an observation that begins at any of them fits, or at none.
 #[derive(Clone, Copy, Debug)]
-pub(crate) struct Stretch {
+pub struct Stretch {
+    /// Whether it fits at each of them.
     pub fits: bool,
     /// The slice after the last.
     pub end: u64,

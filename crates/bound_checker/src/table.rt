@@ -9,7 +9,7 @@ use plan_base::{ListOf, larger};
 
 /// A possible start, in the row of its slice.
 #[derive(Clone, Copy, Debug)]
-pub(crate) struct Start {
+pub struct Start {
     /// What it is worth beyond its request's price.
     pub weight: i64,
     /// The row of the slice after its last.
@@ -25,7 +25,7 @@ struct Greatest {
 /// Writes the greatest surplus from each slice on, where the rows have the starts at each slice: an entry is the
 /// greatest of the next one and of what each start in its row gives. The last one, after all slices, is 0. The first one
 /// is the answer.
-pub(crate) fn fill_table(rows: &[ListOf<Start>], table: &mut [i64]) -> i64
+pub fn fill_table(rows: &[ListOf<Start>], table: &mut [i64]) -> i64
     requires entries { length table.old ≡ length rows.now + 1 }
     requires rows { length rows.now ≤ most_slices }
     requires fit { DoRowsFit rows.now }

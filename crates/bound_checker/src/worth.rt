@@ -10,10 +10,12 @@ use plan_base::{RequestPart, faded, least_from, slices_for};
 
 /// What a request asks for, and what it gives.
 #[derive(Clone, Copy, Debug)]
-pub(crate) struct Offer {
+pub struct Offer {
+    /// How long it observes.
     pub observation: Observation,
     /// How many slices it takes.
     pub size: u64,
+    /// The price of the request.
     pub price: i64,
     /// What it is worth before any of it fades.
     pub value: u64,
@@ -24,7 +26,7 @@ pub(crate) struct Offer {
 }
 
 /// What a request offers at a price.
-pub(crate) fn offer_of(len: u32, request: &RequestPart, price: i64) -> Offer
+pub fn offer_of(len: u32, request: &RequestPart, price: i64) -> Offer
     requires least { 60 ≤ len }
     requires most { len ≤ 3600 }
     requires asked { IsAsked request.now }
@@ -45,7 +47,7 @@ pub(crate) fn offer_of(len: u32, request: &RequestPart, price: i64) -> Offer
 }
 
 /// What the request is worth beyond its price if it begins at a slice.
-pub(crate) fn weight_at(offer: &Offer, slice: u64) -> i64
+pub fn weight_at(offer: &Offer, slice: u64) -> i64
     requires { IsOfferRange offer.now }
     ensures { result ≡ offer_weight offer.now slice }
 {
