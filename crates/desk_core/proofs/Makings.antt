@@ -26,7 +26,7 @@ use Rattle.request_model.specs.declared.request.Exposure.{Exposure}
 use Rattle.request_model.specs.declared.request.RequestDoc.{RequestDoc}
 use Rattle.request_model.specs.declared.request.When.{When}
 use Rattle.request_model.specs.declared.request.When.TheVariants.{Windows, Cadence}
-use Rattle.request_times.specs.declared.fault.TimeFault.{TimeFault}
+use Rattle.request_model.specs.declared.time_fault.TimeFault.{TimeFault}
 use Rattle.request_times.specs.declared.instrument.Instrument.{Instrument}
 use Rattle.request_times.specs.Duration.{exposure_ms, configuration_ms, request_ms, request_seconds, duration}
 use Rattle.request_times.specs.Cadence.{centre, centre_count, window, is_long, windows_of, is_cadence, if_any, expansion}

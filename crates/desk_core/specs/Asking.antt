@@ -10,7 +10,7 @@ use Rattle.request_model.specs.declared.group.GroupDoc.{GroupDoc}
 use Rattle.request_model.specs.declared.request.RequestDoc.{RequestDoc}
 use Rattle.request_model.specs.declared.request.When.{When}
 use Rattle.request_model.specs.declared.request.When.TheVariants.{Windows, Cadence}
-use Rattle.request_times.specs.declared.fault.TimeFault.{TimeFault}
+use Rattle.request_model.specs.declared.time_fault.TimeFault.{TimeFault}
 use Rattle.request_times.specs.declared.instrument.Instrument.{Instrument}
 use Rattle.request_times.specs.Duration.{duration}
 use Rattle.request_times.specs.Cadence.{expansion}

@@ -3,7 +3,7 @@ use Rattle.std.specs.Prelude.{ℕ, ◌≡◌, ◌≢◌, Option, Some, None, Res
 use Rattle.std.specs.Result.{result_err}
 use Rattle.site_model.specs.declared.fault.SiteFault.{SiteFault}
 use Rattle.allocations.specs.declared.fault.LedgerFault.{LedgerFault}
-use Rattle.request_times.specs.declared.fault.TimeFault.{TimeFault}
+use Rattle.request_model.specs.declared.time_fault.TimeFault.{TimeFault}
 use Rattle.desk_events.specs.declared.fault.CommandFault.{CommandFault}
 use Rattle.desk_events.specs.declared.fault.CommandFault.TheVariants.{Refused, NoMemory}
 use Rattle.desk_events.specs.declared.refusal.Refusal.{Refusal}

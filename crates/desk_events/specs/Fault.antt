@@ -5,8 +5,8 @@ use Rattle.plan_json.specs.declared.fault.JsonFault.{JsonFault}
 use Rattle.plan_json.specs.declared.fault.JsonFault.TheVariants as json
 use Rattle.request_model.specs.declared.fault.GroupFault.{GroupFault}
 use Rattle.request_model.specs.declared.fault.GroupFault.TheVariants as group
-use Rattle.request_times.specs.declared.fault.TimeFault.{TimeFault}
-use Rattle.request_times.specs.declared.fault.TimeFault.TheVariants as time
+use Rattle.request_model.specs.declared.time_fault.TimeFault.{TimeFault}
+use Rattle.request_model.specs.declared.time_fault.TimeFault.TheVariants as time
 use Rattle.allocations.specs.declared.fault.LedgerFault.{LedgerFault}
 use Rattle.allocations.specs.declared.fault.LedgerFault.TheVariants as ledger
 use Rattle.allocations.specs.declared.fault.FullOf.{FullOf as LedgerFull}

@@ -10,8 +10,7 @@ use crate::refusal::{FullOf, Refusal};
 use allocations::LedgerFault;
 use plan_base::Reason;
 use plan_json::JsonFault;
-use request_model::GroupFault;
-use request_times::TimeFault;
+use request_model::{GroupFault, TimeFault};
 use site_model::SiteFault;
 
 impl From<JsonFault> for CommandFault {

@@ -9,6 +9,7 @@ mod read;
 mod request;
 #[cfg(test)]
 mod tests;
+mod time_fault;
 mod write;
 
 pub use fault::GroupFault;
@@ -16,4 +17,5 @@ pub use group::{GroupDoc, ObsKind};
 pub use laws::{groups_are_in_range, groups_are_read_back};
 pub use read::read_group;
 pub use request::{Cadence, ConfigDoc, Exposure, Location, RequestDoc, When};
+pub use time_fault::TimeFault;
 pub use write::write_group;

@@ -12,8 +12,8 @@ use Rattle.std.proofs.lemmas.List.Kept.{IsNonDecreasingBy-filter}
 use Rattle.plan_base.specs.declared.span.Span.{Span}
 use Rattle.plan_base.proofs.Lists.{contains_filter}
 use Rattle.request_model.specs.declared.request.Cadence.{Cadence}
-use Rattle.request_times.specs.declared.fault.TimeFault.{TimeFault}
-use Rattle.request_times.specs.declared.fault.TimeFault.TheVariants.{BadCadence, TooManyWindows}
+use Rattle.request_model.specs.declared.time_fault.TimeFault.{TimeFault}
+use Rattle.request_model.specs.declared.time_fault.TimeFault.TheVariants.{BadCadence, TooManyWindows}
 use Rattle.request_times.specs.Cadence.{centre, centre_count, window, is_long, windows_of, is_cadence, if_any}
 use Rattle.request_times.specs.Laws.{IsInside, IsSound, WindowsAreSound, CentresAreCounted}
 

@@ -4,8 +4,8 @@ use Rattle.std.specs.Int.{div_ceil}
 use Rattle.std.specs.List.{range_with_len}
 use Rattle.plan_base.specs.declared.span.Span.{Span}
 use Rattle.request_model.specs.declared.request.Cadence.{Cadence}
-use Rattle.request_times.specs.declared.fault.TimeFault.{TimeFault}
-use Rattle.request_times.specs.declared.fault.TimeFault.TheVariants.{BadCadence, TooManyWindows}
+use Rattle.request_model.specs.declared.time_fault.TimeFault.{TimeFault}
+use Rattle.request_model.specs.declared.time_fault.TimeFault.TheVariants.{BadCadence, TooManyWindows}
 
 -- centre k: the start, and from there each period
 abbrev pub centre : Cadence → ℕ → ℕ

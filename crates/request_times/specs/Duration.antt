@@ -5,8 +5,8 @@ use Rattle.std.specs.Int.{div_ceil}
 use Rattle.request_model.specs.declared.request.Exposure.{Exposure}
 use Rattle.request_model.specs.declared.request.ConfigDoc.{ConfigDoc}
 use Rattle.request_times.specs.declared.instrument.Instrument.{Instrument}
-use Rattle.request_times.specs.declared.fault.TimeFault.{TimeFault}
-use Rattle.request_times.specs.declared.fault.TimeFault.TheVariants.{TooLong}
+use Rattle.request_model.specs.declared.time_fault.TimeFault.{TimeFault}
+use Rattle.request_model.specs.declared.time_fault.TimeFault.TheVariants.{TooLong}
 
 -- the milliseconds of exposures of one length: each with its readout, and one change for all of them
 abbrev pub exposure_ms : Instrument → Exposure → ℕ

@@ -4,12 +4,11 @@ ghost use Rattle.std.specs.Prelude.{◌≡◌, ◌≢◌, ◌+◌, ◌<◌, ◌�
 ghost use Rattle.plan_base.specs.Limits.{most_seconds};
 ghost use Rattle.plan_json.specs.Ranges.{IsBetween};
 ghost use Rattle.request_model.specs.Ranges.{IsCadence};
-ghost use Rattle.request_times.specs.declared.fault.TimeFault.TheVariants.{NoMemory};
+ghost use Rattle.request_model.specs.declared.time_fault.TimeFault.TheVariants.{NoMemory};
 ghost use Rattle.request_times.specs.Cadence.{centre, centre_count, window, is_long, windows_of, is_cadence, expansion};
 
-use crate::fault::TimeFault;
 use plan_base::{Sec, Span};
-use request_model::Cadence;
+use request_model::{Cadence, TimeFault};
 use std::alloc::{AllocError, Global};
 
 /// The most centres that a cadence may have.

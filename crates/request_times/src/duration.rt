@@ -5,9 +5,8 @@ ghost use Rattle.plan_json.specs.Ranges.{IsBetween};
 ghost use Rattle.request_model.specs.Ranges.{IsExposure, AreConfigurations};
 ghost use Rattle.request_times.specs.Duration.{exposure_ms, configuration_ms, request_ms, duration, IsOverhead};
 
-use crate::fault::TimeFault;
 use crate::instrument::Instrument;
-use request_model::{ConfigDoc, Exposure, RequestDoc};
+use request_model::{ConfigDoc, Exposure, RequestDoc, TimeFault};
 
 /// The longest that a request may take, in seconds: a day.
 const MOST_SECONDS: u64 = 86_400;

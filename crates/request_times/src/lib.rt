@@ -3,7 +3,6 @@
 
 mod cadence;
 mod duration;
-mod fault;
 mod instrument;
 mod laws;
 #[cfg(test)]
@@ -11,6 +10,6 @@ mod tests;
 
 pub use cadence::expand_cadence;
 pub use duration::seconds_of;
-pub use fault::TimeFault;
 pub use instrument::Instrument;
 pub use laws::{centres_are_counted, windows_are_sound};
+pub use request_model::TimeFault;

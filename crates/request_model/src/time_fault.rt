@@ -22,7 +22,7 @@ pub enum TimeFault {
 
 impl From<AllocError> for TimeFault {
     ghost use Rattle.std.specs.Prelude.{◌≡◌};
-    ghost use Rattle.request_times.specs.declared.fault.TimeFault.TheVariants.{NoMemory};
+    ghost use Rattle.request_model.specs.declared.time_fault.TimeFault.TheVariants.{NoMemory};
 
     ghost from_gives = { λ _ fault. fault ≡ NoMemory };
 
@@ -33,7 +33,7 @@ impl From<AllocError> for TimeFault {
 
 impl<T: Drop> From<AllocFailed<T>> for TimeFault {
     ghost use Rattle.std.specs.Prelude.{◌≡◌};
-    ghost use Rattle.request_times.specs.declared.fault.TimeFault.TheVariants.{NoMemory};
+    ghost use Rattle.request_model.specs.declared.time_fault.TimeFault.TheVariants.{NoMemory};
 
     ghost from_gives = { λ _ fault. fault ≡ NoMemory };
 
