@@ -1,6 +1,6 @@
 // Pieces of text, each added to a buffer.
 
-ghost use Rattle.std.specs.Prelude.{decimal, ◌∷◌, []};
+ghost use Rattle.std.specs.Prelude.{◌≤◌, ◌<◌, decimal, ◌∷◌, []};
 ghost use Rattle.std.specs.Fmt.{signed_decimal};
 ghost use Rattle.plan_json.specs.Adds.{Adds};
 
@@ -32,7 +32,21 @@ pub(crate) fn put_number(out: &mut Vec<u8>, n: u64) -> Result<(), AllocError>
     if n < 10 {
         return put_byte(out, b'0' + n as u8);
     }
+    if n < 100 {
+        return put_pair(out, n as u8);
+    }
     put(out, itoa::Buffer::new().format(n).as_bytes())
+}
+
+/// Adds a number of two digits.
+#[inline]
+#[tactic(auto, using(itoa::proofs::Decimal::decimal_two))]
+fn put_pair(out: &mut Vec<u8>, n: u8) -> Result<(), AllocError>
+    requires least { 10 ≤ n }
+    requires most { n < 100 }
+    ensures { Adds result out.old.items out.new.items (decimal n) }
+{
+    put(out, &[b'0' + n / 10, b'0' + n % 10])
 }
 
 /// Adds a number in decimal, with a sign if it is below 0.
