@@ -25,7 +25,7 @@ use Rattle.repair.proofs.Visiting.{numbers_left, none_left}
 
 -- ---- plans without what was added last
 
-all_left : {X : Type 0} (P : X → Type 0) (xs ys : List X) → All P (xs ++ ys) → All P xs
+pub all_left : {X : Type 0} (P : X → Type 0) (xs ys : List X) → All P (xs ++ ys) → All P xs
 all_left P [] ys a = All-nil P
 all_left P (x ∷ xs) ys a = All-cons P x xs (All-head P x (xs ++ ys) a) (all_left P xs ys (All-tail P x (xs ++ ys) a))
 
@@ -64,13 +64,13 @@ firsts_from_adds s starts plan (r ∷ rs) after so_far (p, first, fits, rest) =
     )
 
 -- the first of two lists that are the same, and what follows it
-same_head : (x y : Option Placement) (xs ys : List (Option Placement)) → x ∷ xs ≡ y ∷ ys → x ≡ y
+pub same_head : (x y : Option Placement) (xs ys : List (Option Placement)) → x ∷ xs ≡ y ∷ ys → x ≡ y
 same_head x y xs ys e = ap (λ (os : List (Option Placement)). slice_index_or os 0 x) e
 
-same_tail : (x y : Option Placement) (xs ys : List (Option Placement)) → x ∷ xs ≡ y ∷ ys → xs ≡ ys
+pub same_tail : (x y : Option Placement) (xs ys : List (Option Placement)) → x ∷ xs ≡ y ∷ ys → xs ≡ ys
 same_tail x y xs ys e = ap (λ (os : List (Option Placement)). drop 1 os) e
 
-not_empty : (x : Option Placement) (xs : List (Option Placement)) → x ∷ xs ≡ [] → ⊥
+pub not_empty : (x : Option Placement) (xs : List (Option Placement)) → x ∷ xs ≡ [] → ⊥
 not_empty x xs e = omega (arith, ap (λ (os : List (Option Placement)). length os) e)
 
 pub adds_from_firsts : (s : Parts) (starts plan : List Placement) (rs : List ℕ) (firsts : List Placement) → map (λ p. Some p) firsts ≡ first_starts starts rs → IsFeasibleSoFar s (plan ++ firsts) → AddsFirsts s starts plan rs (plan ++ firsts)

@@ -11,5 +11,7 @@ pub mod Adding
 pub mod Noting
 pub mod Valued
 pub mod Sorting
+pub mod Blocked
+pub mod Foremost
 pub mod Repaired
 pub mod Slots

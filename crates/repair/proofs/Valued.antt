@@ -6,22 +6,26 @@ use Rattle.plan_base.specs.declared.parts.Parts.{Parts}
 use Rattle.plan_base.specs.declared.parts.RequestPart.{RequestPart}
 use Rattle.plan_base.specs.declared.span.Span.{Span}
 use Rattle.plan_base.specs.declared.claim.Placement.{Placement}
-use Rattle.plan_base.specs.Requests.{Listed, listed, place_of, IsKnown, request_value, fade_of}
+use Rattle.plan_base.specs.declared.number.RequestNo.{RequestNo}
+use Rattle.plan_base.specs.Requests.{Listed, listed, place_of, IsKnown, group_of, request_value, fade_of}
+use Rattle.plan_base.specs.Repaired.{is_and}
+use Rattle.plan_base.specs.Round.{op_at}
 use Rattle.plan_base.specs.Snapshot.{IsOrderly}
 use Rattle.plan_base.specs.Starts.{slices_for, least_of, faded, worth_at, value_of_plan}
 use Rattle.std.proofs.lemmas.List.Sums.{sum_by-drop_more}
 use Rattle.plan_base.proofs.Known.{known_as}
-use Rattle.plan_base.proofs.Here.{IsHere, request_here}
-use Rattle.repair.specs.declared.worth.Offer.{Offer}
-use Rattle.repair.specs.Worths.{IsOffer, IsOfferOf, AreOffers}
+use Rattle.plan_base.proofs.Here.{IsHere, request_here, element_at, place_at}
+use Rattle.repair.specs.declared.offers.Offer.{Offer}
+use Rattle.repair.specs.declared.offers.Offers.{Offers}
+use Rattle.repair.specs.Worths.{IsOffer, IsOfferOf, AreOffersOf, AreOffers}
 
 last_or_before : (j i : ℕ) → j < i + 1 → (j ≡ i) ⊎ (j < i)
 last_or_before j i h = grind arith
 
-pub offers_none : (s : Parts) → AreOffers s 0 []
+pub offers_none : (s : Parts) → AreOffersOf s 0 []
 offers_none s = record { count = refl; each = λ i below. absurd (omega arith) }
 
-pub offers_more : (s : Parts) (n : ℕ) (offers : List Offer) (offer : Offer) → AreOffers s n offers → IsOfferOf s n offer → AreOffers s (n + 1) (offers ++ offer ∷ [])
+pub offers_more : (s : Parts) (n : ℕ) (offers : List Offer) (offer : Offer) → AreOffersOf s n offers → IsOfferOf s n offer → AreOffersOf s (n + 1) (offers ++ offer ∷ [])
 offers_more s n offers offer are is =
     let count : length offers ≡ n = are.count in
     record {
@@ -34,17 +38,19 @@ offers_more s n offers offer are is =
 
 -- what the request at a place offers
 pub offer_made : (s : Parts) (place : ℕ) (q : RequestPart) (offer : Offer) → IsOrderly s → place < length (listed s) → HoldsAt (λ x. x.request ≡ q) (listed s) place
-    → offer.value ≡ q.value → offer.fade ≡ q.fade → offer.earliest ≡ slices_for s.len (least_of (map (λ w. w.from.0) q.windows)) → IsOfferOf s place offer
-offer_made s place q offer o l at value fade earliest d =
+    → offer.request ≡ q.request → offer.is_of_and ≡ is_and (op_at s (group_of s q.request.0)) → offer.value ≡ q.value → offer.fade ≡ q.fade → offer.earliest ≡ slices_for s.len (least_of (map (λ w. w.from.0) q.windows)) → IsOfferOf s place offer
+offer_made s place q offer o l at number of_and value fade earliest d =
     let here : IsHere s place q = request_here s place q o l at in
     subst (λ (p : RequestPart). IsOffer s p.request.0 offer) (sym (at d)) (record {
+      number = ap (λ (n : RequestNo). n.0) number;
+      of_and = of_and;
       value = value ∙ sym here.value;
       fade = fade ∙ sym here.fade;
       earliest = earliest ∙ ap (λ (ws : List Span). slices_for s.len (least_of (map (λ w. w.from.0) ws))) (sym here.windows);
     })
 
 -- the offer of a known request
-pub offer_known : (s : Parts) (offers : List Offer) (r place : ℕ) (offer : Offer) → AreOffers s (length (listed s)) offers → IsKnown s r → place ≡ place_of s r → slice_index_or offers place offer ≡ offer → IsOffer s r offer
+pub offer_known : (s : Parts) (offers : List Offer) (r place : ℕ) (offer : Offer) → AreOffersOf s (length (listed s)) offers → IsKnown s r → place ≡ place_of s r → slice_index_or offers place offer ≡ offer → IsOffer s r offer
 offer_known s offers r place offer are known at is =
     let x = known_as s r known in
     let here : IsOffer s (slice_index_or (listed s) place x.0).request.request.0 (slice_index_or offers place offer) = are.each place (let k = known in omega arith) offer x.0 in
@@ -62,3 +68,12 @@ pub value_more : (s : Parts) (plan : List Placement) (i : ℕ) (d : Placement) (
 value_more s plan i d value more whole l is so_far =
     let step : value_of_plan s (drop i plan) ≡ worth_at s (slice_index_or plan i d) + value_of_plan s (drop (i + 1) plan) = sum_by-drop_more (worth_at s) plan i d l in
     omega arith
+
+-- a guess is right where the offer there has the number
+pub guess_right : (s : Parts) (offers : Offers) (r guess : ℕ) (offer : Offer) → IsOrderly s → AreOffers s offers → guess < length offers.by_place.items → slice_index_or offers.by_place.items guess offer ≡ offer → offer.request.0 ≡ r → guess ≡ place_of s r
+guess_right s offers r guess offer o are l at is =
+    let count : length offers.by_place.items ≡ length (listed s) = are.by_place.count in
+    let x = element_at (listed s) guess (omega arith) in
+    let here : IsOffer s (slice_index_or (listed s) guess x.0).request.request.0 (slice_index_or offers.by_place.items guess offer) = are.by_place.each guess (omega arith) offer x.0 in
+    let named : offer.request.0 ≡ x.0.request.request.0 = ap (λ (z : Offer). z.request.0) (sym at) ∙ here.number ∙ ap (λ (y : Listed). y.request.request.0) x.1 in
+    sym (ap (place_of s) (sym is ∙ named) ∙ place_at s guess x.0 o (omega arith) x.1)

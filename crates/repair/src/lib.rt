@@ -8,6 +8,7 @@ mod find;
 mod firsts;
 mod greedy_plan;
 mod marks;
+mod offers;
 mod order;
 mod ranked;
 mod repairer;

@@ -1,18 +1,18 @@
 // The starts of requests outside every AND, by falling worth.
 
-ghost use Rattle.std.specs.Prelude.{◌≡◌, ◌≤◌, length, map, All, vec_capacity};
+ghost use Rattle.std.specs.Prelude.{◌≡◌, ◌≤◌, length, map, filter_map, All, None, vec_capacity};
 ghost use Rattle.plan_base.specs.declared.parts.Op.TheVariants.{And};
 ghost use Rattle.plan_base.specs.Requests.{listed, group_of, IsKind};
 ghost use Rattle.plan_base.specs.Starts.{IsPossibleStart};
-ghost use Rattle.plan_base.specs.Feasible.{IsDisjoint, IsFeasible};
-ghost use Rattle.plan_base.specs.Repaired.{outside_ands, is_and, AddsEach};
-ghost use Rattle.plan_base.specs.Round.{op_at};
-ghost use Rattle.repair.specs.Worths.{AreOffers};
-ghost use Rattle.repair.specs.Repairs.{AddsOne, AreOrdered, start_of, rank_of};
+ghost use Rattle.plan_base.specs.Feasible.{IsFeasible};
+ghost use Rattle.plan_base.specs.Repaired.{AddsEach};
+ghost use Rattle.repair.specs.Worths.{AreOffers, IsOffer};
+ghost use Rattle.repair.specs.Repairs.{AddsOne, AreNoted, AreOrdered, IsEarlier, start_of, rank_of};
 
 use crate::draft::Draft;
-use crate::worth::{Offer, worth_of};
-use plan_base::{Op, Placement, RequestNo, SliceNo, Snapshot, TelescopeNo};
+use crate::offers::{Offer, Offers};
+use crate::worth::worth_of;
+use plan_base::{Placement, RequestNo, SliceNo, Snapshot, TelescopeNo};
 use std::cmp::Reverse;
 
 /// A start, ordered by its worth, falling, then by request, telescope and slice.
@@ -24,72 +24,91 @@ pub(crate) struct Ranked {
     pub slice: SliceNo,
 }
 
-/// Writes down the starts of requests outside every AND, in the order in which they are tried. It takes no memory.
+/// Writes down, of each request outside every AND that has some of these starts, the one that is tried first, in the
+/// order in which they are tried. It notes them by the places of the requests, and takes no memory.
 pub(crate) fn rank_starts(
     snapshot: &Snapshot,
-    offers: &[Offer],
+    offers: &Offers,
     starts: &[Placement],
+    noted: &mut Vec<Option<Ranked>>,
     ranked: &mut Vec<Ranked>,
 )
-    requires offers { AreOffers snapshot.now (length (listed snapshot.now)) offers.now }
+    requires offers { AreOffers snapshot.now offers.now }
     requires possible { All (IsPossibleStart snapshot.now) starts.now }
-    requires disjoint { IsDisjoint snapshot.now starts.now }
-    requires room { length starts.now ≤ vec_capacity ranked.old }
+    requires count { length noted.old.items ≡ length (listed snapshot.now) }
+    requires room { length (listed snapshot.now) ≤ vec_capacity ranked.old }
     ensures ordered { AreOrdered snapshot.now starts.now (map start_of ranked.new.items) }
+    ensures count { length noted.new.items ≡ length noted.old.items }
     ensures room { vec_capacity ranked.new ≡ vec_capacity ranked.old }
 {
-    snapshot.recall_valid();
-    list_outside(snapshot, offers, starts, ranked);
+    note_ranks(snapshot, offers, starts, noted);
+    list_noted(noted.as_slice(), ranked);
     ranked.sort_unstable();
 }
 
-/// Writes down the starts of requests outside every AND, with their worths.
-fn list_outside(
+/// Notes of each request outside every AND, by its place, that of these starts of its own which is tried first.
+fn note_ranks(
     snapshot: &Snapshot,
-    offers: &[Offer],
+    offers: &Offers,
     starts: &[Placement],
-    ranked: &mut Vec<Ranked>,
+    noted: &mut Vec<Option<Ranked>>,
 )
-    requires offers { AreOffers snapshot.now (length (listed snapshot.now)) offers.now }
+    requires offers { AreOffers snapshot.now offers.now }
     requires possible { All (IsPossibleStart snapshot.now) starts.now }
-    requires room { length starts.now ≤ vec_capacity ranked.old }
-    ensures listed { ranked.new.items ≡ map (rank_of snapshot.now) (outside_ands snapshot.now starts.now) }
-    ensures room { vec_capacity ranked.new ≡ vec_capacity ranked.old }
+    requires count { length noted.old.items ≡ length (listed snapshot.now) }
+    ensures { AreNoted snapshot.now starts.now noted.new.items }
 {
-    ranked.clear();
+    forget_ranks(noted);
     for start in starts {
-        if !is_of_and(snapshot, *start) {
-            ranked.push_reserved(rank_of(snapshot, offers, *start));
+        let place = offers.place_of(snapshot, start.request);
+        let offer = offers.by_place[place];
+        if !offer.is_of_and {
+            noted[place] = earlier(noted[place], rank_of(snapshot, offer, *start));
         }
     }
 }
 
-/// Whether the request of a start is of an AND.
-fn is_of_and(snapshot: &Snapshot, start: Placement) -> bool
-    requires { IsPossibleStart snapshot.now start }
-    ensures { result ≡ is_and (op_at snapshot.now (group_of snapshot.now start.request.0)) }
+fn forget_ranks(noted: &mut Vec<Option<Ranked>>)
+    ensures count { length noted.new.items ≡ length noted.old.items }
+    ensures none { All (λ rank. rank ≡ None) noted.new.items }
 {
-    let group = snapshot.group_at(snapshot.known_place(start.request));
-    is_and(snapshot.parts().groups.as_slice()[group].op)
+    for place in 0..noted.len() {
+        noted[place] = None;
+    }
 }
 
-fn is_and(op: Op) -> bool
-    ensures { result ≡ is_and op }
+/// The one of two starts that is tried first, of which the one may be noted.
+fn earlier(noted: Option<Ranked>, other: Ranked) -> Option<Ranked>
+    ensures { IsEarlier noted other result }
 {
-    match op {
-        Op::And => true,
-        Op::Single | Op::Many | Op::OneOf => false,
+    match noted {
+        Some(noted) if noted < other => Some(noted),
+        _ => Some(other),
+    }
+}
+
+/// Lists what is noted.
+fn list_noted(noted: &[Option<Ranked>], ranked: &mut Vec<Ranked>)
+    requires room { length noted.now ≤ vec_capacity ranked.old }
+    ensures listed { ranked.new.items ≡ filter_map (λ rank. rank) noted.now }
+    ensures room { vec_capacity ranked.new ≡ vec_capacity ranked.old }
+{
+    ranked.clear();
+    for place in 0..noted.len() {
+        if let Some(rank) = noted[place] {
+            ranked.push_reserved(rank);
+        }
     }
 }
 
 /// A start with its rank.
-fn rank_of(snapshot: &Snapshot, offers: &[Offer], start: Placement) -> Ranked
-    requires offers { AreOffers snapshot.now (length (listed snapshot.now)) offers.now }
+fn rank_of(snapshot: &Snapshot, offer: Offer, start: Placement) -> Ranked
     requires possible { IsPossibleStart snapshot.now start }
+    requires offer { IsOffer snapshot.now start.request.0 offer }
     ensures { result ≡ rank_of snapshot.now start }
 {
     Ranked {
-        worth: Reverse(worth_of(snapshot, offers, start)),
+        worth: Reverse(worth_of(snapshot, offer, start)),
         request: start.request,
         telescope: start.telescope,
         slice: start.slice,

@@ -10,10 +10,11 @@ ghost use Rattle.snapshot_starts.specs.Runs.{AreAllStarts};
 use crate::draft::Draft;
 use crate::fill::fill;
 use crate::firsts::note_firsts;
+use crate::offers::Offers;
 use crate::ranked::{Ranked, add_each, rank_starts};
 use crate::trials::Trials;
 use crate::wholes::add_wholes;
-use crate::worth::{Offer, offers_of, value_of};
+use crate::worth::value_of;
 use plan_base::{Placement, Snapshot, empty_is_feasible, filled_is_saturated};
 use snapshot_starts::Starts;
 use std::alloc::{AllocError, Global};
@@ -26,11 +27,13 @@ use std::marker::Model;
 pub struct Repairer<'a> {
     snapshot: &'a Snapshot,
     trials: Trials,
-    offers: Vec<Offer>,
+    offers: Offers,
     draft: Draft<'a>,
     /// The first start that was chosen of each request.
     firsts: Vec<Option<Placement>>,
-    /// The starts outside every AND, with room for a start at each slice of each telescope.
+    /// Of each request outside every AND the start that was chosen and is tried first.
+    noted: Vec<Option<Ranked>>,
+    /// These in order, with room for one of each request.
     ranked: Vec<Ranked>,
 }
 
@@ -44,7 +47,7 @@ impl<'a> Model for Repairer<'a> {
 
     ghost view = { λ a. record { snapshot = a.snapshot.now; plan = a.draft.placed } };
 
-    ghost invariant = { λ a. IsReady a.snapshot.now a.trials a.offers.items a.draft (length a.firsts.items) (vec_capacity a.ranked) };
+    ghost invariant = { λ a. IsReady a.snapshot.now a.trials a.offers a.draft (length a.firsts.items) (length a.noted.items) (vec_capacity a.ranked) };
 }
 
 impl<'a> Repairer<'a> {
@@ -58,15 +61,15 @@ impl<'a> Repairer<'a> {
         requires { AreAllStarts snapshot.now starts.now }
         ensures { IfOk result (λ repairer. repairer ≡ record { snapshot = snapshot.now; plan = [] }) }
     {
-        let parts = snapshot.parts();
-        let slots = parts.telescopes.len() * parts.slices as usize;
+        let count = snapshot.request_count();
         Ok(Repairer {
             snapshot,
             trials: Trials::new(alloc, snapshot, starts)?,
-            offers: offers_of(alloc, snapshot)?,
+            offers: Offers::new(alloc, snapshot)?,
             draft: Draft::new(alloc, snapshot)?,
-            firsts: no_firsts(alloc, snapshot.request_count())?,
-            ranked: Vec::with_capacity(alloc, slots)?,
+            firsts: no_firsts(alloc, count)?,
+            noted: no_ranks(alloc, count)?,
+            ranked: Vec::with_capacity(alloc, count)?,
         })
     }
 
@@ -85,18 +88,19 @@ impl<'a> Repairer<'a> {
         self.snapshot.recall_valid();
         empty_is_feasible(self.snapshot);
         filled_is_saturated(self.snapshot);
-        note_firsts(self.snapshot, chosen, &mut self.firsts);
+        note_firsts(self.snapshot, &self.offers, chosen, &mut self.firsts);
         rank_starts(
             self.snapshot,
-            self.offers.as_slice(),
+            &self.offers,
             chosen,
+            &mut self.noted,
             &mut self.ranked,
         );
         self.draft.clear();
         add_wholes(&mut self.draft, &self.trials, self.firsts.as_slice());
         add_each(&mut self.draft, self.ranked.as_slice());
         fill(&mut self.draft, &self.trials);
-        value_of(self.snapshot, self.offers.as_slice(), self.draft.placed())
+        value_of(self.snapshot, &self.offers, self.draft.placed())
     }
 
     /// The plan of the last run, in the order in which its placements were added, and nothing before the first run.
@@ -109,6 +113,12 @@ impl<'a> Repairer<'a> {
 
 fn no_firsts(alloc: Global, count: usize) -> Result<Vec<Option<Placement>>, AllocError>
     ensures { IfOk result (λ firsts. length firsts.items ≡ count) }
+{
+    vec![in alloc; None; count]
+}
+
+fn no_ranks(alloc: Global, count: usize) -> Result<Vec<Option<Ranked>>, AllocError>
+    ensures { IfOk result (λ ranks. length ranks.items ≡ count) }
 {
     vec![in alloc; None; count]
 }

@@ -11,4 +11,4 @@ loop-index-init c = subst (λ (xs : List Placement). AreFirsts c.args.snapshot.n
 
 pub loop-index-preserved : goal.loop-index-preserved
 loop-index-preserved c =
-    noted_more c.args.snapshot.now c.args.starts.now c.loop-index.firsts.items c.loop-index.index _ c.known_place-place.result (omega arith) (omega arith) (c.requires.known (c.loop-index.index - 1) _ (omega arith)) c.known_place-place.ensures.value c.loop-index.invariant
+    noted_more c.args.snapshot.now c.args.starts.now c.loop-index.firsts.items c.loop-index.index _ c.place_of-place.result (omega arith) (omega arith) (c.requires.known (c.loop-index.index - 1) _ (omega arith)) c.place_of-place.ensures.value c.loop-index.invariant

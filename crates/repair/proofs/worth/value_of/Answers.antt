@@ -10,3 +10,6 @@ loop-start-preserved c = (
       let so_far = c.loop-start.invariant.1 in
       omega arith,
 )
+
+pub offer_of-offer-requires-clause-known : goal.offer_of-offer-requires-clause-known
+offer_of-offer-requires-clause-known c = (c.requires.possible c.loop-start.start-index _ c.loop-start-test.true).known

@@ -12,7 +12,7 @@ use Rattle.repair.specs.Firsts.{AreFirsts}
 use Rattle.repair.specs.Repairs.{AreOrdered, start_of}
 use Rattle.repair.specs.Repairing.{Repairing}
 use Rattle.repair.proofs.Noting.{own_from}
-use Rattle.repair.proofs.Sorting.{few_starts, ordered_possible, ordered_outside}
+use Rattle.repair.proofs.Foremost.{ordered_possible, ordered_outside}
 use Rattle.repair.proofs.Repaired.{AreDrafts, repaired_from}
 use Rattle.repair.proofs.repairer.Repairer.run.Goals as goal
 
@@ -21,54 +21,45 @@ note_firsts-requires-clause-known c =
     let same : c.args.self.now.snapshot ≡ c.self.inside.snapshot.now = ap (λ (r : Repairing). r.snapshot) (sym c.self.view_is) in
     λ k d l. (subst (λ (p : Parts). All (IsPossibleStart p) c.args.chosen.now) same c.requires.possible k d l).known
 
-pub rank_starts-requires-clause-disjoint : goal.rank_starts-requires-clause-disjoint
-rank_starts-requires-clause-disjoint c = subst (λ (p : Parts). IsDisjoint p c.args.chosen.now) (ap (λ (r : Repairing). r.snapshot) (sym c.self.view_is)) c.requires.disjoint
-
-pub rank_starts-requires-clause-room : goal.rank_starts-requires-clause-room
-rank_starts-requires-clause-room c =
-    let s = c.self.inside.snapshot.now in
-    let same : c.args.self.now.snapshot ≡ s = ap (λ (r : Repairing). r.snapshot) (sym c.self.view_is) in
-    let few : length c.args.chosen.now ≤ length s.telescopes * s.slices = few_starts s c.args.chosen.now c.recall_valid.ensures.orderly (subst (λ (p : Parts). All (IsPossibleStart p) c.args.chosen.now) same c.requires.possible) (subst (λ (p : Parts). IsDisjoint p c.args.chosen.now) same c.requires.disjoint) in
-    let slots = c.self.invariant.slots in
-    omega arith
-
 pub add_wholes-requires-clause-own : goal.add_wholes-requires-clause-own
 add_wholes-requires-clause-own c =
     let s = c.self.inside.snapshot.now in
     let same : c.args.self.now.snapshot ≡ s = ap (λ (r : Repairing). r.snapshot) (sym c.self.view_is) in
-    own_from s c.clear.new.self.snapshot c.args.chosen.now c.note_firsts.new.firsts.items _ (ap (λ (b : Building). b.snapshot) c.clear.ensures ∙ c.self.invariant.same) c.as_slice-2.ensures.value
+    own_from s c.clear.new.self.snapshot c.args.chosen.now c.note_firsts.new.firsts.items _ (ap (λ (b : Building). b.snapshot) c.clear.ensures ∙ c.self.invariant.same) c.as_slice.ensures.value
     (subst (λ (p : Parts). All (IsPossibleStart p) c.args.chosen.now) same c.requires.possible) c.note_firsts.ensures
 
 pub add_each-requires-clause-possible : goal.add_each-requires-clause-possible
 add_each-requires-clause-possible c =
     let s = c.self.inside.snapshot.now in
     let same : c.args.self.now.snapshot ≡ s = ap (λ (r : Repairing). r.snapshot) (sym c.self.view_is) in
-    ordered_possible s c.add_wholes.new.draft.snapshot c.args.chosen.now c.rank_starts.new.ranked.items _ (c.add_wholes.ensures.same ∙ ap (λ (b : Building). b.snapshot) c.clear.ensures ∙ c.self.invariant.same) c.as_slice-3.ensures.value
+    ordered_possible s c.add_wholes.new.draft.snapshot c.args.chosen.now c.rank_starts.new.ranked.items _ (c.add_wholes.ensures.same ∙ ap (λ (b : Building). b.snapshot) c.clear.ensures ∙ c.self.invariant.same) c.as_slice-2.ensures.value
     (subst (λ (p : Parts). All (IsPossibleStart p) c.args.chosen.now) same c.requires.possible) c.rank_starts.ensures.ordered
 
 pub add_each-requires-clause-outside : goal.add_each-requires-clause-outside
 add_each-requires-clause-outside c =
     let s = c.self.inside.snapshot.now in
     let same : c.args.self.now.snapshot ≡ s = ap (λ (r : Repairing). r.snapshot) (sym c.self.view_is) in
-    ordered_outside s c.add_wholes.new.draft.snapshot c.args.chosen.now c.rank_starts.new.ranked.items _ (c.add_wholes.ensures.same ∙ ap (λ (b : Building). b.snapshot) c.clear.ensures ∙ c.self.invariant.same) c.as_slice-3.ensures.value
+    ordered_outside s c.add_wholes.new.draft.snapshot c.args.chosen.now c.rank_starts.new.ranked.items _ (c.add_wholes.ensures.same ∙ ap (λ (b : Building). b.snapshot) c.clear.ensures ∙ c.self.invariant.same) c.as_slice-2.ensures.value
     (subst (λ (p : Parts). All (IsPossibleStart p) c.args.chosen.now) same c.requires.possible) c.rank_starts.ensures.ordered
 
 pub returns-clause-repaired : goal.returns-clause-repaired
 returns-clause-repaired c =
     let s = c.self.inside.snapshot.now in
     let same : c.args.self.now.snapshot ≡ s = ap (λ (r : Repairing). r.snapshot) (sym c.self.view_is) in
-    let drafts : AreDrafts s c.args.chosen.now (map start_of c.as_slice-3.result.now) c.as_slice-2.result.now c.clear.new.self c.add_wholes.new.draft c.add_each.new.draft c.fill.new.draft = record {
+    let drafts : AreDrafts s c.args.chosen.now (map start_of c.as_slice-2.result.now) c.as_slice.result.now c.clear.new.self c.add_wholes.new.draft c.add_each.new.draft c.fill.new.draft = record {
       snapshot = ap (λ (b : Building). b.snapshot) c.clear.ensures ∙ c.self.invariant.same;
       empty = ap (λ (b : Building). b.placed) c.clear.ensures;
       same = c.add_wholes.ensures.same;
       also = c.add_each.ensures.same;
       adds_wholes = c.add_wholes.ensures.adds;
-      are_firsts = subst (λ (xs : List (Option Placement)). AreFirsts s c.args.chosen.now xs) (sym c.as_slice-2.ensures.value) c.note_firsts.ensures;
-      are_ordered = subst (λ (xs : List Ranked). AreOrdered s c.args.chosen.now (map start_of xs)) (sym c.as_slice-3.ensures.value) c.rank_starts.ensures.ordered;
+      are_firsts = subst (λ (xs : List (Option Placement)). AreFirsts s c.args.chosen.now xs) (sym c.as_slice.ensures.value) c.note_firsts.ensures;
+      are_ordered = subst (λ (xs : List Ranked). AreOrdered s c.args.chosen.now (map start_of xs)) (sym c.as_slice-2.ensures.value) c.rank_starts.ensures.ordered;
+      feasible = c.add_wholes.ensures.feasible;
       adds_each = c.add_each.ensures.adds;
       fills = c.fill.ensures.filled;
     } in
-    subst (λ (p : Parts). IsRepairedFrom p c.args.chosen.now c.fill.new.draft.placed) (sym same) (repaired_from s _ _ _ _ _ _ _ drafts)
+    subst (λ (p : Parts). IsRepairedFrom p c.args.chosen.now c.fill.new.draft.placed) (sym same) (repaired_from s _ _ _ _ _ _ _ c.recall_valid.ensures.orderly
+    (subst (λ (p : Parts). All (IsPossibleStart p) c.args.chosen.now) same c.requires.possible) (subst (λ (p : Parts). IsDisjoint p c.args.chosen.now) same c.requires.disjoint) drafts)
 
 pub returns-clause-feasible : goal.returns-clause-feasible
 returns-clause-feasible c =

@@ -1,0 +1,127 @@
+// What requests are worth, and where they stand among all.
+
+ghost use Rattle.std.specs.Prelude.{◌≡◌, ◌≤◌, ◌<◌, length, IfOk};
+ghost use Rattle.plan_base.specs.Requests.{listed, place_of, IsKnown};
+ghost use Rattle.plan_base.specs.Repaired.{is_and};
+ghost use Rattle.repair.specs.Worths.{AreOffers, AreOffersOf, IsOffer, IsOfferOf};
+
+use plan_base::{Op, RequestNo, Snapshot, least_from, slices_for};
+use std::alloc::{AllocError, Global};
+
+/// How many guesses there are.
+const GUESSES: usize = 4_096;
+
+/// What a request is worth, and how it fades.
+#[derive(Clone, Copy, Debug)]
+pub(crate) struct Offer {
+    pub request: RequestNo,
+    /// Whether its group is an AND.
+    pub is_of_and: bool,
+    /// What it is worth before any of it fades.
+    pub value: u32,
+    /// The thousandths that are lost with each slice of delay.
+    pub fade: u16,
+    /// The slice from which it fades.
+    pub earliest: u64,
+}
+
+/// The offers of all requests, by their places, with guesses by which the place of a request is mostly found at once.
+#[derive(Debug, Drop)]
+pub(crate) struct Offers {
+    pub by_place: Vec<Offer>,
+    /// For each remainder of a request's number the place of one that has it, if there is one.
+    pub guesses: Vec<u16>,
+}
+
+impl Offers {
+    /// The offers of all requests. Fails only for want of memory.
+    pub(crate) fn new(alloc: Global, snapshot: &Snapshot) -> Result<Offers, AllocError>
+        ensures { IfOk result (AreOffers snapshot.now) }
+    {
+        let by_place = offers_of(alloc, snapshot)?;
+        let guesses = guesses_of(alloc, by_place.as_slice())?;
+        Ok(Offers { by_place, guesses })
+    }
+
+    /// The place among all of a request that is one of them. It looks by halves only where the guess is wrong.
+    pub(crate) fn place_of(&self, snapshot: &Snapshot, request: RequestNo) -> usize
+        requires known { IsKnown snapshot.now request.0 }
+        requires offers { AreOffers snapshot.now self.now }
+        ensures value { result ≡ place_of snapshot.now request.0 }
+        ensures within { result < length (listed snapshot.now) }
+    {
+        snapshot.recall_valid();
+        let guess = usize::from(self.guesses[request.0 as usize % GUESSES]);
+        if guess < self.by_place.len() && self.by_place[guess].request.0 == request.0 {
+            return guess;
+        }
+        snapshot.known_place(request)
+    }
+
+    /// What a request that is one of the snapshot's offers.
+    pub(crate) fn offer_of(&self, snapshot: &Snapshot, request: RequestNo) -> Offer
+        requires known { IsKnown snapshot.now request.0 }
+        requires offers { AreOffers snapshot.now self.now }
+        ensures { IsOffer snapshot.now request.0 result }
+    {
+        self.by_place[self.place_of(snapshot, request)]
+    }
+}
+
+/// The offers of all requests, in their order.
+fn offers_of(alloc: Global, snapshot: &Snapshot) -> Result<Vec<Offer>, AllocError>
+    ensures offers { IfOk result (λ offers. AreOffersOf snapshot.now (length (listed snapshot.now)) offers.items) }
+    ensures few { IfOk result (λ offers. length offers.items ≤ 1024) }
+{
+    let count = snapshot.request_count();
+    let mut offers = Vec::with_capacity(alloc, count)?;
+    for place in 0..count {
+        offers.push(offer_at(snapshot, place))?;
+    }
+    Ok(offers)
+}
+
+/// What the request at a place offers.
+fn offer_at(snapshot: &Snapshot, place: usize) -> Offer
+    requires { place < length (listed snapshot.now) }
+    ensures { IsOfferOf snapshot.now place result }
+{
+    snapshot.recall_valid();
+    let request = snapshot.request_at(place);
+    let group = snapshot.group_at(place);
+    let len = u64::from(snapshot.parts().len);
+    Offer {
+        request: request.request,
+        is_of_and: is_and(snapshot.parts().groups.as_slice()[group].op),
+        value: request.value,
+        fade: request.fade,
+        earliest: slices_for(len, least_from(request.windows.as_slice())),
+    }
+}
+
+fn is_and(op: Op) -> bool
+    ensures { result ≡ is_and op }
+{
+    match op {
+        Op::And => true,
+        Op::Single | Op::Many | Op::OneOf => false,
+    }
+}
+
+/// The guesses of the places of requests, of which the last with a remainder counts.
+fn guesses_of(alloc: Global, offers: &[Offer]) -> Result<Vec<u16>, AllocError>
+    requires { length offers.now ≤ 1024 }
+    ensures { IfOk result (λ guesses. length guesses.items ≡ 4096) }
+{
+    let mut guesses = no_guesses(alloc)?;
+    for place in 0..offers.len() {
+        guesses[offers[place].request.0 as usize % GUESSES] = place as u16;
+    }
+    Ok(guesses)
+}
+
+fn no_guesses(alloc: Global) -> Result<Vec<u16>, AllocError>
+    ensures { IfOk result (λ guesses. length guesses.items ≡ 4096) }
+{
+    vec![in alloc; 0; GUESSES]
+}
