@@ -1,6 +1,5 @@
 -- Of all starts of a request, which share no slices with one another, only the one that is tried first can be added.
-use Rattle.std.proofs.Common.{◌≡◌, ◌≢◌, ℕ, suc, ◌+◌, ◌<◌, ◌≤◌, ◌⊎◌, inl, inr, ◌==◌, List, [], ◌∷◌, ◌++◌, length, map, slice_index_or, Some, find, All, AllPairs, Contains, IsPermutation, filter, sum_by, refl, sym, ◌∙◌, ap, subst, arith}
-use Rattle.std.proofs.lemmas.Bool.{cases_eq, cases_lt}
+use Rattle.std.proofs.Common.{◌≡◌, ◌≢◌, ℕ, suc, ◌+◌, ◌<◌, ◌≤◌, ◌⊎◌, inl, inr, ◌==◌, List, [], ◌∷◌, ◌++◌, map, slice_index_or, Some, find, All, AllPairs, Contains, IsPermutation, filter, sum_by, sym, ◌∙◌, ap, subst, arith}
 use Rattle.std.proofs.lemmas.List.{get_or_default, append-nil, append_assoc, map-append}
 use Rattle.std.proofs.lemmas.List.Elements.{All-nil, All-cons, All-tail, All-append, All-push, All-contains, Contains-push, Contains-append_left, filter-append}
 use Rattle.std.proofs.lemmas.List.Kept.{AllPairs-cons}
@@ -12,9 +11,9 @@ use Rattle.plan_base.specs.declared.number.RequestNo.{RequestNo}
 use Rattle.plan_base.specs.declared.number.TelescopeNo.{TelescopeNo}
 use Rattle.plan_base.specs.declared.claim.Placement.{Placement}
 use Rattle.plan_base.specs.Requests.{group_of, seconds_of, quota_of, IsKind}
-use Rattle.plan_base.specs.Starts.{IsPossibleStart, ShareSlice, worth_at, IsListedBefore}
+use Rattle.plan_base.specs.Starts.{IsPossibleStart, ShareSlice, worth_at}
 use Rattle.plan_base.specs.Feasible.{requests_of, AreOfOneOneOf, is_quota, quota_seconds, quota_at, IsDisjoint, IsFeasible}
-use Rattle.plan_base.specs.Repaired.{first_starts, CanAddWhole, AddsWholes, AddsEach, IsTriedBefore}
+use Rattle.plan_base.specs.Repaired.{first_starts, AddsWholes, AddsEach, IsTriedBefore}
 use Rattle.plan_base.proofs.Adding.{FitsPlan, fits_from_push, so_far_push, so_far_from_feasible, seconds_towards}
 use Rattle.plan_base.proofs.Lists.{contains_map}
 use Rattle.plan_base.proofs.Orders.{contains_cases, contains_first, contains_rest, pairs_head, pairs_tail}

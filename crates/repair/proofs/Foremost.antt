@@ -1,12 +1,9 @@
 -- Of each request the start that is tried first, as it is noted by its place, and all of them in order.
-use Rattle.std.proofs.Common.{◌≡◌, ◌≢◌, ℕ, zero, suc, ◌+◌, ◌<◌, ◌≤◌, ◌⊎◌, inl, inr, Bool, true, false, cond, not, List, [], ◌∷◌, ◌++◌, length, map, take, set, slice_index_or, Option, Some, None, All, AllPairs, Contains, IsPermutation, Ordering, Less, Equal, refl, sym, ◌∙◌, ap, subst, arith}
+use Rattle.std.proofs.Common.{◌≡◌, ◌≢◌, ℕ, zero, suc, ◌+◌, ◌<◌, ◌⊎◌, inl, inr, Bool, true, false, cond, not, List, [], ◌∷◌, ◌++◌, length, map, take, set, slice_index_or, Option, Some, None, All, AllPairs, Contains, IsPermutation, refl, sym, ◌∙◌, ap, subst, arith}
 use Rattle.std.specs.Prelude.{filter_map}
-use Rattle.std.specs.Cmp.{nat_cmp_is}
-use Rattle.std.specs.Ordering.{is_lt, nat_cmp, ordering_then}
-use Rattle.std.proofs.lemmas.Bool.{cases_eq, cases_lt}
-use Rattle.std.proofs.lemmas.Map.Keys.{ge_from_not_lt}
-use Rattle.std.proofs.lemmas.List.{length-map, length-set, get_or-map, get_or-set_same, get_or-set_other, get_or_default, take_more, append-nil}
-use Rattle.std.proofs.lemmas.List.Elements.{All-take, All-contains, All-filter, All-map, Contains-get_or, Contains-append_left, Contains-push, Contains-push_cases, filter-append, filter_map-append}
+use Rattle.std.proofs.lemmas.Bool.{cases_eq}
+use Rattle.std.proofs.lemmas.List.{length-set, get_or-set_same, get_or-set_other, get_or_default, take_more, append-nil}
+use Rattle.std.proofs.lemmas.List.Elements.{All-take, All-contains, All-map, Contains-append_left, Contains-push, Contains-push_cases, filter-append, filter_map-append}
 use Rattle.std.proofs.lemmas.List.Kept.{AllPairs-cons}
 use Rattle.std.proofs.lemmas.List.Sorted.{All-permutation, Contains-permutation}
 use Rattle.plan_base.specs.declared.parts.Parts.{Parts}

@@ -1,35 +1,26 @@
 -- Ranked starts, sorted, are in the order in which they are tried.
-use Rattle.std.proofs.Common.{◌≡◌, ◌≢◌, ℕ, ◌+◌, ◌*◌, ◌<◌, ◌≤◌, ◌⊎◌, inl, inr, Bool, true, false, cond, not, List, [], ◌∷◌, ◌++◌, length, map, take, slice_index_or, All, AllPairs, IsPermutation, None, Ordering, Less, Equal, Greater, refl, sym, ◌∙◌, ap, subst, arith}
+use Rattle.std.proofs.Common.{◌≡◌, ◌≢◌, ℕ, ◌+◌, ◌<◌, ◌≤◌, ◌⊎◌, inl, inr, Bool, true, false, not, List, [], ◌∷◌, ◌++◌, length, slice_index_or, All, AllPairs, None, Ordering, Less, Equal, refl, sym, ◌∙◌, ap, subst, arith}
 use Rattle.std.specs.Cmp.{nat_cmp_is}
 use Rattle.std.specs.Ordering.{is_lt, nat_cmp, ordering_then}
 use Rattle.std.proofs.lemmas.Bool.{cases_eq, cases_lt}
 use Rattle.std.proofs.lemmas.Map.Keys.{ge_from_not_lt}
-use Rattle.std.proofs.lemmas.List.{length-map, get_or-map, get_or_default, map_push, append-nil, length_push}
-use Rattle.std.proofs.lemmas.List.Elements.{All-filter, All-map, filter_passes, filter_more}
-use Rattle.std.proofs.lemmas.List.Kept.{AllPairs-filter}
-use Rattle.std.proofs.lemmas.List.Sorted.{All-permutation, IsPermutation-map}
+use Rattle.std.proofs.lemmas.List.{get_or-map, length_push}
+use Rattle.std.proofs.lemmas.List.Elements.{All-filter, filter_passes}
 use Rattle.plan_base.specs.declared.parts.Parts.{Parts}
 use Rattle.plan_base.specs.declared.parts.GroupPart.{GroupPart}
 use Rattle.plan_base.specs.declared.parts.Op.{Op}
 use Rattle.plan_base.specs.declared.parts.Op.TheVariants.{And}
-use Rattle.plan_base.specs.declared.number.RequestNo.{RequestNo}
-use Rattle.plan_base.specs.declared.number.TelescopeNo.{TelescopeNo}
 use Rattle.plan_base.specs.declared.claim.Placement.{Placement}
 use Rattle.plan_base.specs.Requests.{group_of, IsKind}
 use Rattle.plan_base.specs.Snapshot.{IsOrderly}
-use Rattle.plan_base.specs.Starts.{IsPossibleStart, ShareSlice, size_of, worth_at}
+use Rattle.plan_base.specs.Starts.{IsPossibleStart, ShareSlice, size_of}
 use Rattle.plan_base.specs.Feasible.{IsDisjoint}
-use Rattle.plan_base.specs.Repaired.{is_and, outside_ands, IsTriedBefore}
+use Rattle.plan_base.specs.Repaired.{is_and, outside_ands}
 use Rattle.plan_base.specs.Round.{op_at}
-use Rattle.plan_base.proofs.Known.{telescope_known, group_known}
-use Rattle.plan_base.proofs.Lists.{AllPairs-map, length_below}
+use Rattle.plan_base.proofs.Known.{group_known}
 use Rattle.plan_base.proofs.Sizes.{start_size_above}
-use Rattle.groups.specs.Footprints.{first_slot}
-use Rattle.groups.proofs.Rooms.{slot_shared}
-use Rattle.groups.proofs.Told.{slots_below}
 use Rattle.repair.specs.declared.ranked.Ranked.{Ranked}
 use Rattle.repair.specs.Repairs.{IsRankedBefore}
-use Rattle.plan_base.proofs.Pairs.{all_pairs_permutation, all_pairs_from_neighbours}
 
 -- ---- outside every AND
 
@@ -93,43 +84,6 @@ not_less a b h = elim (key_cases a.worth.0 b.worth.0 _ h) [
     ]
   ]
 ]
-
--- a key, where the whole is less
-less_cases : (a b : ℕ) (rest : Ordering) → is_lt (ordering_then (nat_cmp a b) rest) ≡ true → (a < b) ⊎ ((a ≡ b) × (is_lt rest ≡ true))
-less_cases a b rest h = elim (cases_lt a b) [
-  | inl less ↦ inl less
-  | inr le ↦ elim (cases_eq a b) [
-    | inl same ↦
-        let tie : Equal ≡ nat_cmp a b = nat_cmp_is a b Equal same in
-        inr (same, subst (λ (o : Ordering). is_lt (ordering_then o rest) ≡ true) (sym tie) h)
-    | inr other ↦
-        let more : Greater ≡ nat_cmp a b = nat_cmp_is a b Greater (omega arith) in
-        let bad : false ≡ true = subst (λ (o : Ordering). is_lt (ordering_then o rest) ≡ true) (sym more) h in
-        cc
-  ]
-]
-
--- a is before b
-pub less : (a b : Ranked) → is_lt (ordering_then (nat_cmp b.worth.0 a.worth.0) (ordering_then (nat_cmp a.request.0 b.request.0) (ordering_then (nat_cmp a.telescope.0 b.telescope.0) (nat_cmp a.slice.0 b.slice.0)))) ≡ true → IsRankedBefore a b
-less a b h = elim (less_cases b.worth.0 a.worth.0 _ h) [
-  | inl worth ↦ inl worth
-  | inr tie ↦ elim (less_cases a.request.0 b.request.0 _ tie.1) [
-    | inl request ↦ inr (sym tie.0, inl request)
-    | inr also ↦ elim (less_cases a.telescope.0 b.telescope.0 _ also.1) [
-      | inl telescope ↦ inr (sym tie.0, inr (also.0, inl telescope))
-      | inr last ↦ inr (sym tie.0, inr (also.0, inr (last.0, no_more a.slice.0 b.slice.0 last.1)))
-    ]
-  ]
-]
-  where
-    no_more : (m n : ℕ) → is_lt (nat_cmp m n) ≡ true → m ≤ n
-    no_more m n h = elim (cases_lt n m) [
-      | inl more ↦
-          let above : Greater ≡ nat_cmp m n = nat_cmp_is m n Greater more in
-          let bad : false ≡ true = subst (λ (o : Ordering). is_lt o ≡ true) (sym above) h in
-          cc
-      | inr le ↦ le
-    ]
 
 pub ranks_join : (a b c : Ranked) → IsRankedBefore a b → IsRankedBefore b c → IsRankedBefore a c
 ranks_join a b c ab bc = elim ab [

@@ -1,25 +1,20 @@
 -- What is free, and what can be added.
-use Rattle.std.proofs.Common.{◌≡◌, ◌≢◌, ℕ, ◌+◌, ◌<◌, ◌≤◌, inl, inr, Bool, true, false, cond, ◌==◌, List, [], ◌∷◌, ◌++◌, length, slice_index_or, Option, Some, None, All, Contains, refl, sym, ◌∙◌, ap, subst, arith}
-use Rattle.std.proofs.lemmas.Bool.{eqb-true}
+use Rattle.std.proofs.Common.{◌≡◌, ◌≢◌, ℕ, ◌+◌, ◌<◌, ◌≤◌, inl, inr, Bool, true, false, cond, ◌==◌, List, [], ◌∷◌, ◌++◌, length, slice_index_or, Option, Some, All, Contains, refl, sym, ◌∙◌, ap, subst, arith}
 use Rattle.std.proofs.lemmas.Bool.Decides.{eqb_tells}
-use Rattle.std.proofs.lemmas.List.{get_or_default, length_push}
-use Rattle.std.proofs.lemmas.List.Elements.{All-contains, All-weaker, Contains-get_or}
+use Rattle.std.proofs.lemmas.List.{length_push}
 use Rattle.plan_base.specs.declared.parts.Parts.{Parts}
 use Rattle.plan_base.specs.declared.parts.Op.{Op}
 use Rattle.plan_base.specs.declared.parts.Op.TheVariants.{OneOf}
 use Rattle.plan_base.specs.declared.claim.Placement.{Placement}
-use Rattle.plan_base.specs.Requests.{quota_of, seconds_of, IsKnown, IsOf, IsKind, members}
+use Rattle.plan_base.specs.Requests.{quota_of, seconds_of, IsKnown, IsOf, IsKind}
 use Rattle.plan_base.specs.Snapshot.{IsOrderly}
-use Rattle.plan_base.specs.Starts.{ShareSlice}
 use Rattle.plan_base.specs.Feasible.{requests_of, AreOfOneOneOf, is_quota, quota_seconds, quota_at}
 use Rattle.plan_base.specs.FeasibleSoFar.{IsFeasibleSoFar}
-use Rattle.plan_base.specs.Saturated.{IsFree, HasNoFree, HasNonePlaced, IsEarliestFree}
+use Rattle.plan_base.specs.Saturated.{IsFree, HasNoFree, IsEarliestFree}
 use Rattle.plan_base.proofs.Filled.{fits_free}
 use Rattle.plan_base.proofs.Adding.{FitsPlan, so_far_push, fits_from_push, seconds_towards}
 use Rattle.plan_base.proofs.Known.{quota_known}
-use Rattle.plan_base.proofs.Members.{member_is_of}
 use Rattle.plan_base.proofs.Rebates.{one_kind}
-use Rattle.plan_base.proofs.Tables.{share_symmetric}
 use Rattle.repair.specs.Apart.{HasNoneApart, IsEarliestApart}
 use Rattle.repair.specs.Steps.{AddsSome, Places}
 

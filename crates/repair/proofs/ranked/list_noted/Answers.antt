@@ -1,4 +1,4 @@
-use Rattle.std.proofs.Common.{◌≡◌, length, sym, ◌∙◌, ap, arith}
+use Rattle.std.proofs.Common.{◌≡◌, length, ◌∙◌, ap, arith}
 use Rattle.std.specs.Vec.{vec_capacity}
 use Rattle.repair.proofs.Sorting.{few_pushed}
 use Rattle.repair.proofs.Foremost.{listed_some, listed_none}

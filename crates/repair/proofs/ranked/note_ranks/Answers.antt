@@ -1,5 +1,4 @@
 use Rattle.std.proofs.Common.{◌+◌, take, sym, ◌∙◌, ap, subst}
-use Rattle.repair.specs.Worths.{IsOffer}
 use Rattle.repair.specs.Repairs.{AreNoted}
 use Rattle.std.proofs.lemmas.List.{get_or_default}
 use Rattle.repair.proofs.Valued.{offer_known}

@@ -1,5 +1,4 @@
-use Rattle.std.proofs.Common.{◌∙◌, ap, arith}
-use Rattle.repair.specs.declared.ranked.Ranked.{Ranked}
+use Rattle.std.proofs.Common.{◌∙◌, arith}
 use Rattle.repair.proofs.Sorting.{not_less}
 use Rattle.repair.proofs.Foremost.{ordered_from_noted}
 use Rattle.repair.proofs.ranked.rank_starts.Goals as goal

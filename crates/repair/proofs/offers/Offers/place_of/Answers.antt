@@ -1,4 +1,4 @@
-use Rattle.std.proofs.Common.{sym, ◌∙◌, arith}
+use Rattle.std.proofs.Common.{sym, arith}
 use Rattle.repair.proofs.Valued.{guess_right}
 use Rattle.repair.proofs.offers.Offers.place_of.Goals as goal
 
