@@ -25,7 +25,8 @@ pub(crate) struct Ranked {
 }
 
 /// Writes down, of each request outside every AND that has some of these starts, the one that is tried first, in the
-/// order in which they are tried. It notes them by the places of the requests, and takes no memory.
+/// order in which they are tried. The starts share no slices, so where it can't be added no other of its request can. It
+/// notes them by the places of the requests, and takes no memory.
 pub(crate) fn rank_starts(
     snapshot: &Snapshot,
     offers: &Offers,
