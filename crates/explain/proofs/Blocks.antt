@@ -1,77 +1,79 @@
 -- Placements that share a slice with a start of a request, and lists that keep them.
-use Rattle.std.proofs.Common.{◌≡◌, ◌↔◌, ℕ, ◌+◌, ◌-◌, ◌<◌, ◌≤◌, ◌⊎◌, inl, inr, ℤ, List, [], ◌∷◌, ◌++◌, length, take, slice_index_or, refl, sym, ◌∙◌, ap, subst, arith}
-use Rattle.std.proofs.lemmas.List.{take_more, take_all}
+use Rattle.std.proofs.Common.{◌≡◌, ◌↔◌, ℕ, ◌+◌, ◌-◌, ◌<◌, ◌≤◌, ◌⊎◌, inl, inr, Bool, true, false, min, List, [], ◌∷◌, ◌++◌, length, take, slice_index_or, refl, sym, ◌∙◌, ap, subst, arith}
+use Rattle.std.proofs.lemmas.Bool.{false≢true}
+use Rattle.std.proofs.lemmas.List.{take_more, take_all, get_or_past}
 use Rattle.plan_base.specs.declared.parts.Parts.{Parts}
 use Rattle.plan_base.specs.declared.claim.Placement.{Placement}
 use Rattle.plan_base.specs.Snapshot.{IsOrderly}
-use Rattle.plan_base.specs.Requests.{listed, place_of}
 use Rattle.plan_base.specs.Starts.{IsPossibleStart, size_of}
 use Rattle.plan_base.proofs.Sizes.{start_size_above}
-use Rattle.explain.specs.declared.offer.Offer.{Offer}
-use Rattle.explain.specs.Forced.{IsStartFor, IsStartAt}
+use Rattle.explain.specs.Forced.{IsStartFor}
 use Rattle.explain.specs.Left.{Blocks, AreKept}
-use Rattle.explain.specs.Offers.{IsGoodOffer, AreOffers}
-use Rattle.explain.specs.Openings.{CanStartHere}
-use Rattle.explain.specs.Blocking.{HasStartWithin}
-use Rattle.explain.proofs.Offering.{same_number, below_or_at}
+use Rattle.explain.specs.Openings.{IsSet, HasFlagWithin, CanStartAt, IsOpenRow}
+use Rattle.explain.proofs.Numbers.{below_or_at}
 
--- the size of a placement's request, by the offer at its place
-pub size_read : (s : Parts) (prices : List ℤ) (offers : List Offer) (p : Placement) (d : Offer) (i : ℕ) → AreOffers s prices offers → IsPossibleStart s p → i ≡ place_of s p.request.0
-    → (slice_index_or offers i d).size ≡ size_of s p.request.0
-size_read s prices offers p d i offering possible at =
-    let known : place_of s p.request.0 < length (listed s) = possible.known in
-    let count : length offers ≡ length (listed s) = offering.count in
-    let good : IsGoodOffer s prices i (slice_index_or offers i d) = offering.each i d (omega arith) in
-    good.offer.size ∙ ap (size_of s) (same_number s _ p.request.0 good.offer.known possible.known (good.offer.at ∙ at))
-
-module _ (s : Parts) (prices : List ℤ) (place : ℕ) (o : Offer) (p : Placement) (orderly : IsOrderly s) (good : IsGoodOffer s prices place o) (possible : IsPossibleStart s p) where
-  size_is : (q : Placement) → IsStartFor s o.request.0 q → o.size ≡ size_of s q.request.0
-  size_is q start = good.offer.size ∙ ap (size_of s) (sym start.same_request)
+module _ (s : Parts) (r size : ℕ) (flags : List Bool) (p : Placement) (orderly : IsOrderly s) (size_is : size ≡ size_of s r) (open_row : IsOpenRow s p.telescope.0 r flags) (possible : IsPossibleStart s p) where
+  later_or_not : (a b : ℕ) → (a ≤ b) ⊎ (b < a)
+  later_or_not a b = grind arith
 
   -- the slices at which a start of the request shares a slice with the placement
-  pub blocks_iff : (taken : ℕ) → taken ≡ size_of s p.request.0 → HasStartWithin s p.telescope.0 o.request.0 (p.slice.0 + 1 - o.size) (p.slice.0 + taken) ↔ Blocks s o.request.0 p
-  blocks_iff taken is = (to, from)
+  pub blocks_iff : (slice taken : ℕ) → p.slice.0 ≡ s.first.0 + slice → taken ≡ size_of s p.request.0 → HasFlagWithin flags (slice + 1 - size) (slice + taken) ↔ Blocks s r p
+  blocks_iff slice taken at is = (to, from)
     where
-      later_or_not : (a b : ℕ) → (a ≤ b) ⊎ (b < a)
-      later_or_not a b = grind arith
-
-      to : HasStartWithin s p.telescope.0 o.request.0 (p.slice.0 + 1 - o.size) (p.slice.0 + taken) → Blocks s o.request.0 p
-      to (q, start, low, high) =
-          let size : o.size ≡ size_of s q.request.0 = size_is q start.start in
-          let some : 0 < size_of s q.request.0 = start_size_above s orderly q start.start.possible in
+      to : HasFlagWithin flags (slice + 1 - size) (slice + taken) → Blocks s r p
+      to (i, low, high, is_set) =
+          let can : CanStartAt s p.telescope.0 r (s.first.0 + i) = (open_row.each i).0 is_set in
+          let q : Placement = can.0 in
+          let there : q.slice.0 ≡ s.first.0 + i = can.2 in
+          let same : size ≡ size_of s q.request.0 = size_is ∙ ap (size_of s) (sym can.1.start.same_request) in
+          let some : 0 < size_of s q.request.0 = start_size_above s orderly q can.1.start.possible in
           let also : 0 < size_of s p.request.0 = start_size_above s orderly p possible in
-          let on : p.telescope ≡ q.telescope = λ i. record { 0 = sym start.same_telescope i } in
+          let on : p.telescope ≡ q.telescope = λ j. record { 0 = sym can.1.same_telescope j } in
           elim (later_or_not p.slice.0 q.slice.0) [
-            | inl later ↦ (q, start.start, (on, q.slice.0, (later, omega arith), (omega arith, omega arith)))
-            | inr before ↦ (q, start.start, (on, p.slice.0, (omega arith, omega arith), (omega arith, omega arith)))
+            | inl later ↦ (q, can.1.start, (on, q.slice.0, (later, omega arith), (omega arith, omega arith)))
+            | inr before ↦ (q, can.1.start, (on, p.slice.0, (omega arith, omega arith), (omega arith, omega arith)))
           ]
 
-      from : Blocks s o.request.0 p → HasStartWithin s p.telescope.0 o.request.0 (p.slice.0 + 1 - o.size) (p.slice.0 + taken)
+      from : Blocks s r p → HasFlagWithin flags (slice + 1 - size) (slice + taken)
       from (q, start, (on, k, (a, b), (c, d))) =
-          let size : o.size ≡ size_of s q.request.0 = size_is q start in
-          (q, record { start = start; same_telescope = ap (λ t. t.0) (sym on) }, omega arith, omega arith)
+          let same : size ≡ size_of s q.request.0 = size_is ∙ ap (size_of s) (sym start.same_request) in
+          let begins : s.first.0 ≤ q.slice.0 = start.possible.begins in
+          let there : q.slice.0 ≡ s.first.0 + (q.slice.0 - s.first.0) = omega arith in
+          (q.slice.0 - s.first.0, omega arith, omega arith, (open_row.each (q.slice.0 - s.first.0)).1 (q, record { start = start; same_telescope = ap (λ t. t.0) (sym on) }, there))
 
--- a start at a slice, as the offer may start there
-pub start_here : (s : Parts) (prices : List ℤ) (t place k : ℕ) (o : Offer) → IsGoodOffer s prices place o → CanStartHere s t place k → (p : Placement) × IsStartAt s t o.request.0 p × (p.slice.0 ≡ k)
-start_here s prices t place k o good (p, here) =
-    (p, record { start = record { possible = here.start.possible; same_request = same_number s p.request.0 o.request.0 here.start.possible.known good.offer.known (here.at ∙ sym good.offer.at) }; same_telescope = here.start.same_telescope }, here.slice)
+  -- where there is no flag, nothing is blocked
+  pub blocks_none : length flags ≡ 0 → ¬ (Blocks s r p)
+  blocks_none none (q, start, (on, k, a, b)) =
+      let begins : s.first.0 ≤ q.slice.0 = start.possible.begins in
+      let there : q.slice.0 ≡ s.first.0 + (q.slice.0 - s.first.0) = omega arith in
+      let is_set : IsSet flags (q.slice.0 - s.first.0) = (open_row.each (q.slice.0 - s.first.0)).1 (q, record { start = start; same_telescope = ap (λ t. t.0) (sym on) }, there) in
+      false≢true (sym (get_or_past flags (q.slice.0 - s.first.0) false (omega arith)) ∙ is_set)
 
-pub here_from_start : (s : Parts) (prices : List ℤ) (t place k : ℕ) (o : Offer) → IsGoodOffer s prices place o → (p : Placement) → IsStartAt s t o.request.0 p → p.slice.0 ≡ k → CanStartHere s t place k
-here_from_start s prices t place k o good p start at =
-    (p, record { start = record { possible = start.start.possible; same_telescope = start.same_telescope }; at = ap (place_of s) start.start.same_request ∙ good.offer.at; slice = at })
+-- no flag before a place, and none at it
+pub none_more : (flags : List Bool) (a k : ℕ) → ¬ (HasFlagWithin flags a k) → ¬ (IsSet flags k) → ¬ (HasFlagWithin flags a (k + 1))
+none_more flags a k none here (i, low, high, is_set) = elim (below_or_at i k high) [ inl below ↦ none (i, low, below, is_set) | inr at ↦ here (subst (IsSet flags) at is_set) ]
 
--- no start before slice k, and none at it
-pub none_more : (s : Parts) (t r a k : ℕ) → ¬ (HasStartWithin s t r a k) → ((p : Placement) → IsStartAt s t r p → ¬ (p.slice.0 ≡ k)) → ¬ (HasStartWithin s t r a (k + 1))
-none_more s t r a k none here (p, start, low, high) = elim (below_or_at p.slice.0 k high) [ inl below ↦ none (p, start, low, below) | inr at ↦ here p start at ]
-
-pub none_first : (s : Parts) (t r a : ℕ) → ¬ (HasStartWithin s t r a a)
-none_first s t r a (p, start, low, high) = not_both p.slice.0 a low high
+pub none_first : (flags : List Bool) (a : ℕ) → ¬ (HasFlagWithin flags a a)
+none_first flags a (i, low, high, is_set) = not_both i a low high
   where
     not_both : (x y : ℕ) → y ≤ x → x < y → ⊥
     not_both x y h l = omega arith
 
-pub none_empty : (s : Parts) (t r a b k : ℕ) → b ≤ k → ¬ (HasStartWithin s t r a k) → ¬ (HasStartWithin s t r a b)
-none_empty s t r a b k l none (p, start, low, high) = none (p, start, low, omega arith)
+-- none up to a place, which is past the last of those that are asked for or of all
+pub none_past : (flags : List Bool) (a b k : ℕ) → min b (length flags) ≤ k → ¬ (HasFlagWithin flags a k) → ¬ (HasFlagWithin flags a b)
+none_past flags a b k far none (i, low, high, is_set) = elim (later_or_not k i) [
+  | inr below ↦ none (i, low, below, is_set)
+  | inl from ↦ elim (one_past b (length flags) k far) [
+    | inl over ↦ absurd (omega arith)
+    | inr past ↦ false≢true (sym (get_or_past flags i false (omega arith)) ∙ is_set)
+  ]
+]
+  where
+    later_or_not : (a b : ℕ) → (a ≤ b) ⊎ (b < a)
+    later_or_not a b = grind arith
+
+    one_past : (n m l : ℕ) → min n m ≤ l → (n ≤ l) ⊎ (m ≤ l)
+    one_past n m l h = grind arith
 
 -- one more at the end that is kept, or not
 pub kept_more : {X : Type 0} (P : X → Type 0) (xs ys : List X) (x : X) → AreKept P xs ys → P x → AreKept P (xs ++ x ∷ []) (ys ++ x ∷ [])

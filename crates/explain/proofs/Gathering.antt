@@ -17,7 +17,7 @@ use Rattle.explain.specs.Through.{IsBestUntil, IsThrough, IsGain}
 use Rattle.explain.specs.Forced.{IsStartFor, IsStartAt, CanTake, IsDetour, IsGreatestDetour}
 use Rattle.explain.specs.Left.{HasStarts}
 use Rattle.explain.specs.Crossings.{HasStartsWhere, IsOnBefore, IsOn, IsBeforeTelescope, IsLargerOf, count_of, IsGainAt, IsGainIfAny, IsGreatestGain, AreGainsTo, IsDetourInRange, IsDetourIfAny, IsCrossing, IsGreatestDetourTo, IsPassedTo}
-use Rattle.explain.proofs.Offering.{below_or_at, same_start}
+use Rattle.explain.proofs.Numbers.{below_or_at, same_start}
 use Rattle.explain.proofs.Passing.{through_is}
 use Rattle.explain.proofs.Pieces.{pairs_append}
 
@@ -167,6 +167,17 @@ module _ (s : Parts) (prices : List ℤ) (t r : ℕ) (orderly : IsOrderly s) whe
       let some : 0 < size_of s p.request.0 = start_size_above s orderly p start.possible in
       let ends : p.slice.0 + size_of s p.request.0 ≤ horizon_end s = start.possible.ends in
       omega arith
+
+  -- the gains before slice k are all, where no start is at it or later
+  pub gains_all : (k n : ℕ) (greatest : Option ℤ) → ((p : Placement) → IsStartAt s t r p → p.slice.0 < k) → AreGainsTo s prices t r k n greatest → AreGainsTo s prices t r (horizon_end s) n greatest
+  gains_all k n None before gains = record {
+    starts = starts_same s r (IsOnBefore t k) (IsOnBefore t (horizon_end s)) n (λ p start is. (is.0, in_horizon p start)) (λ p start is. (is.0, before p (record { start = start; same_telescope = is.0 }))) gains.starts;
+    gain = λ p start l. gains.gain p start (before p start);
+  }
+  gains_all k n (Some b) before gains = record {
+    starts = starts_same s r (IsOnBefore t k) (IsOnBefore t (horizon_end s)) n (λ p start is. (is.0, in_horizon p start)) (λ p start is. (is.0, before p (record { start = start; same_telescope = is.0 }))) gains.starts;
+    gain = record { reached = gains.gain.reached; bound = λ p start l. gains.gain.bound p start (before p start) };
+  }
 
   -- all gains of the horizon give what the telescope gives through the request
   pub through_gains : (n : ℕ) (greatest : Option ℤ) → AreGainsTo s prices t r (horizon_end s) n greatest → MatchOption greatest (¬ (CanTake s t r)) (IsThrough s prices t r)

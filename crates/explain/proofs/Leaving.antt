@@ -24,7 +24,7 @@ use Rattle.explain.specs.Crossings.{AreChartsTo, IsDetourInRange, IsPassedTo}
 use Rattle.explain.specs.Explained.{AreLeftTo}
 use Rattle.explain.proofs.Excluding.{excluded}
 use Rattle.explain.proofs.Gathering.{greatest_detour}
-use Rattle.explain.proofs.Offering.{below_or_at}
+use Rattle.explain.proofs.Numbers.{below_or_at}
 
 pub charts_more : (s : Parts) (prices : List ℤ) (n : ℕ) (charts : List Chart) (chart : Chart) → AreChartsTo s prices n charts → IsChart s prices n chart → AreChartsTo s prices (n + 1) (charts ++ chart ∷ [])
 charts_more s prices n charts chart are next =

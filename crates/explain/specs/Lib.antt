@@ -2,11 +2,9 @@ pub mod Through
 pub mod Choice
 pub mod Forced
 pub mod Left
-pub mod Offers
 pub mod Openings
 pub mod Steps
 pub mod Crossings
-pub mod Blocking
 pub mod Explained
 pub mod Told
 pub mod Run

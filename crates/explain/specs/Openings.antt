@@ -1,46 +1,50 @@
--- Where requests may start on a telescope: a row of flags for each slice, with a flag for each request.
-use Rattle.std.specs.Prelude.{◌≡◌, ◌↔◌, ℕ, ◌+◌, ◌≤◌, ◌<◌, Bool, true, false, List, length, slice_index_or}
+-- Where a request may start: a row of flags for each telescope, with a flag for each slice.
+use Rattle.std.specs.Prelude.{◌≡◌, ◌↔◌, ℕ, ◌+◌, ◌≤◌, ◌<◌, ℤ, Bool, true, false, List, length, slice_index_or}
 use Rattle.plan_base.specs.declared.parts.Parts.{Parts}
 use Rattle.plan_base.specs.declared.claim.Placement.{Placement}
-use Rattle.plan_base.specs.Requests.{listed, place_of}
-use Rattle.plan_base.specs.Tables.{IsStartOn, row}
-use Rattle.explain.specs.declared.offer.Offer.{Offer}
+use Rattle.plan_base.specs.Requests.{IsKnown}
+use Rattle.plan_base.specs.Starts.{size_of}
+use Rattle.plan_base.specs.Bound.{weight}
+use Rattle.plan_base.specs.Tables.{row}
+use Rattle.bound_checker.specs.declared.worth.Offer.{Offer}
+use Rattle.bound_checker.specs.Offers.{IsOfferRange, offer_weight}
+use Rattle.explain.specs.declared.opening.Openings.{Openings}
+use Rattle.explain.specs.Forced.{IsStartAt}
 
--- a start of telescope t at slice k of the request at a place
-pub record IsStartHere (s : Parts) (t place k : ℕ) (p : Placement) : Type 0 where
-  pub start : IsStartOn s t p
-  pub at : place_of s p.request.0 ≡ place
-  pub slice : p.slice.0 ≡ k
+-- the flag at place i is set
+abbrev pub IsSet : List Bool → ℕ → Type 0
+IsSet flags i = slice_index_or flags i false ≡ true
 
--- the request at a place may start on telescope t at slice k
-abbrev pub CanStartHere : Parts → ℕ → ℕ → ℕ → Type 0
-CanStartHere s t place k = (p : Placement) × IsStartHere s t place k p
+-- one of the flags from place a to the one before b is set
+abbrev pub HasFlagWithin : List Bool → ℕ → ℕ → Type 0
+HasFlagWithin flags a b = (i : ℕ) × (a ≤ i) × (i < b) × IsSet flags i
 
--- the first n flags say of the requests at their places whether they may start on telescope t at slice k
-pub record IsOpenRowTo (s : Parts) (t k n : ℕ) (flags : List Bool) : Type 0 where
-  pub count : length flags ≡ n
-  pub each : (place : ℕ) → place < n → (slice_index_or flags place false ≡ true) ↔ CanStartHere s t place k
+-- at most n flags, which are set where P holds
+pub record IsFlagged (P : ℕ → Type 0) (n : ℕ) (flags : List Bool) : Type 0 where
+  pub few : length flags ≤ n
+  pub each : (i : ℕ) → IsSet flags i ↔ P i
 
--- the flags of all requests
+-- request r has a start on telescope t at slice k
+abbrev pub CanStartAt : Parts → ℕ → ℕ → ℕ → Type 0
+CanStartAt s t r k = (p : Placement) × IsStartAt s t r p × (p.slice.0 ≡ k)
+
+-- the flags say for each slice of the horizon whether request r has a start there on telescope t
 abbrev pub IsOpenRow : Parts → ℕ → ℕ → List Bool → Type 0
-IsOpenRow s t k flags = IsOpenRowTo s t k (length (listed s)) flags
+IsOpenRow s t r flags = IsFlagged (λ i. CanStartAt s t r (s.first.0 + i)) s.slices flags
 
--- the rows of the first n slices of the horizon
-pub record AreOpenRowsTo (s : Parts) (t n : ℕ) (rows : List (List Bool)) : Type 0 where
+-- what request r offers at the prices
+pub record IsOfferOf (s : Parts) (prices : List ℤ) (r : ℕ) (o : Offer) : Type 0 where
+  pub size : o.size ≡ size_of s r
+  pub weighs : (p : Placement) → p.request.0 ≡ r → s.first.0 ≤ p.slice.0 → offer_weight o p.slice.0 ≡ weight s prices p
+  pub range : IsOfferRange o
+
+-- the rows of the first n telescopes, of request r
+pub record AreRowsTo (s : Parts) (r n : ℕ) (rows : List (List Bool)) : Type 0 where
   pub count : length rows ≡ n
-  pub each : (i : ℕ) → i < n → IsOpenRow s t (s.first.0 + i) (row rows i)
+  pub each : (t : ℕ) → t < n → IsOpenRow s t r (row rows t)
 
--- the rows of all slices of the horizon
-abbrev pub AreOpenRows : Parts → ℕ → List (List Bool) → Type 0
-AreOpenRows s t rows = AreOpenRowsTo s t s.slices rows
-
--- the flag of the request at a place in row i
-abbrev pub is_open : List (List Bool) → ℕ → ℕ → Bool
-is_open rows i place = slice_index_or (row rows i) place false
-
--- o is the offer at a place, which may start in row i and ends within the rows
-pub record IsOpening (rows : List (List Bool)) (offers : List Offer) (place i : ℕ) (o : Offer) : Type 0 where
-  pub fits : i + o.size ≤ length rows
-  pub within : place < length offers
-  pub offer : slice_index_or offers place o ≡ o
-  pub flag : is_open rows i place ≡ true
+-- what the request offers, and a row for each telescope
+pub record AreOpenings (s : Parts) (prices : List ℤ) (x : Openings) : Type 0 where
+  pub known : IsKnown s x.request.0
+  pub offer : IsOfferOf s prices x.request.0 x.offer
+  pub rows : AreRowsTo s x.request.0 (length s.telescopes) x.rows.items

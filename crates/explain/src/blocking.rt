@@ -1,16 +1,16 @@
 // The placements of a claim that stand in the way of a request.
 
-ghost use Rattle.std.specs.Prelude.{◌↔◌, ℕ, ℤ, List, IfOk, IsTrue};
-ghost use Rattle.plan_base.specs.Starts.{IsPossibleStart};
+ghost use Rattle.std.specs.Prelude.{◌≡◌, ◌↔◌, ℤ, List, IfOk, IsTrue};
+ghost use Rattle.plan_base.specs.Requests.{IsKnown};
+ghost use Rattle.plan_base.specs.Starts.{IsPossibleStart, size_of};
 ghost use Rattle.plan_base.specs.Feasible.{IsEachPossible};
 ghost use Rattle.explain.specs.Left.{AreKept, Blocks};
-ghost use Rattle.explain.specs.Offers.{IsGoodOffer, AreOffers};
-ghost use Rattle.explain.specs.Blocking.{HasStartWithin};
+ghost use Rattle.explain.specs.Openings.{AreOpenings, HasFlagWithin};
 
 use crate::answer::Blocking;
-use crate::offer::Offer;
-use crate::opening::can_start;
-use plan_base::{ListOf, Placement, SliceNo, Snapshot, TelescopeNo};
+use crate::opening::Openings;
+use bound_checker::request_of;
+use plan_base::{ListOf, Placement, RequestNo, Snapshot, slices_for};
 use std::alloc::{AllocError, Global};
 
 /// The placements of a plan that share a slice with a possible start of a request. Fails only for want of memory.
@@ -18,17 +18,15 @@ pub(crate) fn blocking_of(
     alloc: Global,
     snapshot: &Snapshot,
     plan: &[Placement],
-    offers: &[Offer],
-    offer: &Offer,
+    openings: &Openings,
 ) -> Result<Blocking, AllocError>
     requires plan { IsEachPossible snapshot.now plan.now }
-    requires offers { (prices : List ℤ) × AreOffers snapshot.now prices offers.now }
-    requires offer { (prices : List ℤ) × (place : ℕ) × IsGoodOffer snapshot.now prices place offer.now }
-    ensures { IfOk result (λ blocking. AreKept (Blocks snapshot.now offer.now.request.0) plan.now blocking) }
+    requires openings { (prices : List ℤ) × AreOpenings snapshot.now prices openings.now }
+    ensures { IfOk result (λ blocking. AreKept (Blocks snapshot.now openings.now.request.0) plan.now blocking) }
 {
     let mut placements = Vec::new(alloc);
     for placement in plan {
-        if blocks(snapshot, *placement, offers, offer) {
+        if blocks(snapshot, *placement, openings) {
             placements.push(*placement)?;
         }
     }
@@ -38,38 +36,38 @@ pub(crate) fn blocking_of(
 }
 
 /// Whether a placement shares a slice with a possible start of a request.
-fn blocks(snapshot: &Snapshot, placement: Placement, offers: &[Offer], offer: &Offer) -> bool
+fn blocks(snapshot: &Snapshot, placement: Placement, openings: &Openings) -> bool
     requires placement { IsPossibleStart snapshot.now placement }
-    requires offers { (prices : List ℤ) × AreOffers snapshot.now prices offers.now }
-    requires offer { (prices : List ℤ) × (place : ℕ) × IsGoodOffer snapshot.now prices place offer.now }
-    ensures { IsTrue result ↔ Blocks snapshot.now offer.now.request.0 placement }
+    requires openings { (prices : List ℤ) × AreOpenings snapshot.now prices openings.now }
+    ensures { IsTrue result ↔ Blocks snapshot.now openings.now.request.0 placement }
 {
     snapshot.recall_valid();
-    let taken = offers[snapshot.known_place(placement.request)].size;
-    let slice = u64::from(placement.slice.0);
-    let from = (slice + 1).saturating_sub(offer.size);
-    has_start_within(
-        snapshot,
-        placement.telescope,
-        offer,
-        from as u32,
-        (slice + taken) as u32,
-    )
+    let flags = openings.rows[usize::from(placement.telescope.0)].as_slice();
+    if flags.is_empty() {
+        return false;
+    }
+    let slice = u64::from(placement.slice.0 - snapshot.parts().first.0);
+    let from = (slice + 1).saturating_sub(openings.offer.size);
+    let taken = size_at(snapshot, placement.request);
+    has_flag_within(flags, from as usize, (slice + taken) as usize)
 }
 
-/// Whether a request has a possible start on a telescope at one of the slices from one to the one before another.
-fn has_start_within(
-    snapshot: &Snapshot,
-    telescope: TelescopeNo,
-    offer: &Offer,
-    from: u32,
-    to: u32,
-) -> bool
-    requires offer { (prices : List ℤ) × (place : ℕ) × IsGoodOffer snapshot.now prices place offer.now }
-    ensures { IsTrue result ↔ HasStartWithin snapshot.now telescope.0 offer.now.request.0 from to }
+/// How many slices a request takes.
+fn size_at(snapshot: &Snapshot, request: RequestNo) -> u64
+    requires { IsKnown snapshot.now request.0 }
+    ensures { result ≡ size_of snapshot.now request.0 }
 {
-    for slice in from..to {
-        if can_start(snapshot, telescope, offer, SliceNo(slice)) {
+    snapshot.recall_valid();
+    let seconds = request_of(snapshot, request).seconds;
+    slices_for(u64::from(snapshot.parts().len), u64::from(seconds))
+}
+
+/// Whether one of the flags from one place to the one before another is set. A flag that is lacking isn't set.
+fn has_flag_within(flags: &[bool], from: usize, to: usize) -> bool
+    ensures { IsTrue result ↔ HasFlagWithin flags.now from to }
+{
+    for place in from..to.min(flags.len()) {
+        if flags[place] {
             return true;
         }
     }

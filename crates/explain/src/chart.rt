@@ -1,43 +1,48 @@
 // The bests of a telescope, until each slice and from each slice on.
 
-ghost use Rattle.std.specs.Prelude.{IfOk};
-ghost use Rattle.explain.specs.Offers.{AreOffers};
+ghost use Rattle.std.specs.Prelude.{◌≡◌, ◌<◌, pos, length, replicate, All, IfOk};
+ghost use Rattle.plan_base.specs.Requests.{listed};
+ghost use Rattle.plan_base.specs.Verdict.{IsPriceInRange};
 ghost use Rattle.explain.specs.Steps.{IsChart};
 
-use crate::offer::Offer;
-use crate::opening::{Openings, rows_of};
-use crate::table::{Way, fill_table};
+use crate::until::fill_until;
+use bound_checker::{fill_table, starts_of};
 use plan_base::{Prices, Snapshot, TelescopeNo};
 use std::alloc::{AllocError, Global};
 
-/// The bests of a telescope.
+/// The bests of a telescope. Each table has a number for each slice of the horizon, and one for its end.
 #[derive(Debug, Drop)]
 pub(crate) struct Chart {
-    /// That of the first so many slices.
+    /// What ends by each slice.
     pub until: Vec<i64>,
-    /// That of the last so many slices.
+    /// What begins at each slice or later.
     pub after: Vec<i64>,
 }
 
-/// The chart of a telescope. Fails only for want of memory.
+/// The chart of a telescope: one pass forward over its starts, and one backward. Fails only for want of memory.
 pub(crate) fn chart_of(
     alloc: Global,
     snapshot: &Snapshot,
     telescope: TelescopeNo,
     prices: &Prices,
-    offers: &[Offer],
 ) -> Result<Chart, AllocError>
-    requires offers { AreOffers snapshot.now prices.now.0 offers.now }
+    requires telescope { telescope.0 < length snapshot.now.telescopes }
+    requires count { length prices.now.0 ≡ length (listed snapshot.now) }
+    requires range { All IsPriceInRange prices.now.0 }
     ensures { IfOk result (λ chart. IsChart snapshot.now prices.now.0 telescope.0 chart) }
 {
-    let rows = rows_of(alloc, snapshot, telescope, offers)?;
-    let openings = Openings {
-        offers,
-        rows: rows.as_slice(),
-        first: u64::from(snapshot.parts().first.0),
-    };
-    Ok(Chart {
-        until: fill_table(alloc, &openings, Way::Until)?,
-        after: fill_table(alloc, &openings, Way::After)?,
-    })
+    snapshot.recall_valid();
+    let rows = starts_of(alloc, snapshot, telescope, prices)?;
+    let mut until = empty_table(alloc, rows.len() + 1)?;
+    fill_until(rows.as_slice(), until.as_mut_slice());
+    let mut after = empty_table(alloc, rows.len() + 1)?;
+    fill_table(rows.as_slice(), after.as_mut_slice());
+    Ok(Chart { until, after })
+}
+
+/// So many entries of 0. Fails only for want of memory.
+fn empty_table(alloc: Global, count: usize) -> Result<Vec<i64>, AllocError>
+    ensures { IfOk result (λ table. table.items ≡ replicate count (pos 0)) }
+{
+    vec![in alloc; 0; count]
 }

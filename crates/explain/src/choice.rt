@@ -1,15 +1,14 @@
 // What a group gives at net prices where one of its requests is taken.
 
-ghost use Rattle.std.specs.Prelude.{◌≡◌, ◌⊎◌, ◌*◌, ◌<◌, ◌≤◌, pos, neg_ℤ, ◌≤ℤ◌, length, map, All};
-ghost use Rattle.plan_base.specs.Limits.{most_quota_price, most_seconds};
+ghost use Rattle.std.specs.Prelude.{◌≡◌, ◌⊎◌, ◌<◌, ◌≤◌, pos, neg_ℤ, ◌≤ℤ◌, length, map, All};
+ghost use Rattle.plan_base.specs.Limits.{most_quota_price};
 ghost use Rattle.plan_base.specs.Requests.{listed, members, group_of, IsKnown};
 ghost use Rattle.plan_base.specs.Bound.{net_price};
 ghost use Rattle.plan_base.specs.NetPrices.{IsNetInRange, price_sum};
 ghost use Rattle.plan_base.specs.Verdict.{IsPriceInRange};
-ghost use Rattle.bound_checker.specs.Nets.{price_of};
 ghost use Rattle.explain.specs.Choice.{IsRebateWith};
 
-use bound_checker::rebate_of;
+use bound_checker::{cost_of, known_group, known_quota, price_of, rebate_of, request_of};
 use plan_base::{Op, Prices, QuotaPrices, RequestNo, Snapshot};
 
 /// A sum that grows.
@@ -34,7 +33,7 @@ pub(crate) fn rebate_with(
     ensures most { result ≤ℤ pos 2000000000000000 }
 {
     snapshot.recall_valid();
-    let group = snapshot.group_at(snapshot.known_place(request));
+    let group = known_group(snapshot, request);
     let net = net_of(snapshot, request, prices, quota_prices);
     match snapshot.parts().groups.as_slice()[group].op {
         Op::Single | Op::Many => rebate_of(snapshot, group, prices, quota_prices) + loss_of(net),
@@ -83,30 +82,8 @@ fn net_of(
     ensures range { IsNetInRange result }
 {
     snapshot.recall_valid();
-    let place = snapshot.known_place(request);
-    let seconds = snapshot.request_at(place).seconds;
-    let quota = snapshot.parts().groups.as_slice()[snapshot.group_at(place)].quota;
-    let price = prices.0.as_slice()[place];
+    let seconds = request_of(snapshot, request).seconds;
+    let quota = known_quota(snapshot, request);
+    let price = prices.0.as_slice()[snapshot.known_place(request)];
     price - cost_of(price_of(quota_prices.0.as_slice(), quota), seconds)
-}
-
-/// The price of a second of a quota: 0 past the end of the list, or where no quota is named.
-fn price_of(quota_prices: &[u32], quota: Option<u16>) -> u32
-    requires { All (λ u. u ≤ most_quota_price) quota_prices.now }
-    ensures value { result ≡ price_of quota_prices.now quota }
-    ensures most { result ≤ most_quota_price }
-{
-    match quota {
-        Some(quota) => quota_prices.get(usize::from(quota)).copied().unwrap_or(0),
-        None => 0,
-    }
-}
-
-/// What so many seconds cost at a price.
-fn cost_of(quota_price: u32, seconds: u32) -> i64
-    requires price { quota_price ≤ most_quota_price }
-    requires seconds { seconds ≤ most_seconds }
-    ensures { result ≡ pos (quota_price * seconds) }
-{
-    i64::from(quota_price) * i64::from(seconds)
 }

@@ -1,17 +1,18 @@
 // A request on a telescope: how many starts it has there, and what the telescope gives through one of them.
 
-ghost use Rattle.std.specs.Prelude.{◌≡◌, ◌⊎◌, ℕ, ◌+◌, ◌<◌, ◌≤◌, All, MatchOption};
+ghost use Rattle.std.specs.Prelude.{◌≡◌, ◌⊎◌, ◌+◌, ◌<◌, ◌≤◌, length, All, MatchOption};
 ghost use Rattle.plan_base.specs.Verdict.{IsPriceInRange};
 ghost use Rattle.explain.specs.Through.{IsThrough};
 ghost use Rattle.explain.specs.Forced.{CanTake};
-ghost use Rattle.explain.specs.Offers.{IsGoodOffer};
+ghost use Rattle.plan_base.specs.Tables.{row};
+ghost use Rattle.explain.specs.Openings.{AreOpenings};
 ghost use Rattle.explain.specs.Steps.{IsChart};
 ghost use Rattle.explain.specs.Crossings.{IsLargerOf, count_of, IsGainIfAny, AreGainsTo, IsDetourIfAny, IsCrossing};
 
 use crate::chart::Chart;
-use crate::offer::{Offer, weight_at};
-use crate::opening::can_start;
-use plan_base::{Prices, SliceNo, Snapshot, TelescopeNo, larger};
+use crate::opening::Openings;
+use bound_checker::weight_at;
+use plan_base::{Prices, Snapshot, TelescopeNo, larger};
 
 /// What is known of a request on a telescope.
 #[derive(Clone, Copy, Debug)]
@@ -35,18 +36,19 @@ pub(crate) fn cross(
     prices: &Prices,
     telescope: TelescopeNo,
     chart: &Chart,
-    offer: &Offer,
+    openings: &Openings,
 ) -> Crossing
     requires prices { All IsPriceInRange prices.now.0 }
     requires chart { IsChart snapshot.now prices.now.0 telescope.0 chart.now }
-    requires offer { (place : ℕ) × IsGoodOffer snapshot.now prices.now.0 place offer.now }
-    ensures { IsCrossing snapshot.now prices.now.0 telescope.0 offer.now.request.0 result.starts result.detour }
+    requires telescope { telescope.0 < length snapshot.now.telescopes }
+    requires openings { AreOpenings snapshot.now prices.now.0 openings.now }
+    ensures { IsCrossing snapshot.now prices.now.0 telescope.0 openings.now.request.0 result.starts result.detour }
 {
     snapshot.recall_valid();
-    let gains = gains_of(snapshot, prices, telescope, chart, offer);
+    let gains = gains_of(snapshot, prices, telescope, chart, openings);
     Crossing {
         starts: gains.starts,
-        detour: detour_of(snapshot, prices, telescope, chart, offer, gains.greatest),
+        detour: detour_of(snapshot, prices, telescope, chart, openings, gains.greatest),
     }
 }
 
@@ -56,20 +58,23 @@ fn gains_of(
     prices: &Prices,
     telescope: TelescopeNo,
     chart: &Chart,
-    offer: &Offer,
+    openings: &Openings,
 ) -> Gains
     requires prices { All IsPriceInRange prices.now.0 }
     requires chart { IsChart snapshot.now prices.now.0 telescope.0 chart.now }
-    requires offer { (place : ℕ) × IsGoodOffer snapshot.now prices.now.0 place offer.now }
-    ensures gains { AreGainsTo snapshot.now prices.now.0 telescope.0 offer.now.request.0 (snapshot.now.first.0 + snapshot.now.slices) result.starts result.greatest }
+    requires telescope { telescope.0 < length snapshot.now.telescopes }
+    requires openings { AreOpenings snapshot.now prices.now.0 openings.now }
+    ensures gains { AreGainsTo snapshot.now prices.now.0 telescope.0 openings.now.request.0
+        (snapshot.now.first.0 + snapshot.now.slices) result.starts result.greatest }
     ensures few { result.starts ≤ 1440 }
 {
+    snapshot.recall_valid();
     let mut gains = Gains {
         starts: 0,
         greatest: None,
     };
-    for index in 0..snapshot.parts().slices {
-        let gain = gain_at(snapshot, prices, telescope, chart, offer, index);
+    for index in 0..openings.rows[usize::from(telescope.0)].len() {
+        let gain = gain_at(snapshot, prices, telescope, chart, openings, index);
         gains = with_gain(gains, gain);
     }
     gains
@@ -81,23 +86,24 @@ fn gain_at(
     prices: &Prices,
     telescope: TelescopeNo,
     chart: &Chart,
-    offer: &Offer,
-    index: u32,
+    openings: &Openings,
+    index: usize,
 ) -> Option<i64>
     requires prices { All IsPriceInRange prices.now.0 }
     requires chart { IsChart snapshot.now prices.now.0 telescope.0 chart.now }
-    requires offer { (place : ℕ) × IsGoodOffer snapshot.now prices.now.0 place offer.now }
-    requires index { index < snapshot.now.slices }
-    ensures { IsGainIfAny snapshot.now prices.now.0 telescope.0 offer.now.request.0 (snapshot.now.first.0 + index) result }
+    requires telescope { telescope.0 < length snapshot.now.telescopes }
+    requires openings { AreOpenings snapshot.now prices.now.0 openings.now }
+    requires index { index < length (row openings.now.rows.items telescope.0) }
+    ensures { IsGainIfAny snapshot.now prices.now.0 telescope.0 openings.now.request.0 (snapshot.now.first.0 + index) result }
 {
-    let parts = snapshot.parts();
-    let slice = SliceNo(parts.first.0 + index);
-    if !can_start(snapshot, telescope, offer, slice) {
+    let flags = openings.rows[usize::from(telescope.0)].as_slice();
+    if !flags[index] {
         return None;
     }
-    let weight = weight_at(offer, u64::from(slice.0));
-    let until = chart.until[index as usize];
-    let after = chart.after[parts.slices as usize - index as usize - offer.size as usize];
+    let first = u64::from(snapshot.parts().first.0);
+    let weight = weight_at(&openings.offer, first + index as u64);
+    let until = chart.until[index];
+    let after = chart.after[index + openings.offer.size as usize];
     Some(until + weight + after)
 }
 
@@ -130,15 +136,18 @@ fn detour_of(
     prices: &Prices,
     telescope: TelescopeNo,
     chart: &Chart,
-    offer: &Offer,
+    openings: &Openings,
     through: Option<i64>,
 ) -> Option<i64>
     requires prices { All IsPriceInRange prices.now.0 }
     requires chart { IsChart snapshot.now prices.now.0 telescope.0 chart.now }
-    requires through { MatchOption through (¬ (CanTake snapshot.now telescope.0 offer.now.request.0)) (IsThrough snapshot.now prices.now.0 telescope.0 offer.now.request.0) }
-    ensures { IsDetourIfAny snapshot.now prices.now.0 telescope.0 offer.now.request.0 result }
+    requires through { MatchOption through
+        (¬ (CanTake snapshot.now telescope.0 openings.now.request.0))
+        (IsThrough snapshot.now prices.now.0 telescope.0 openings.now.request.0) }
+    ensures { IsDetourIfAny snapshot.now prices.now.0 telescope.0 openings.now.request.0 result }
 {
-    let best = chart.after[snapshot.parts().slices as usize];
+    snapshot.recall_valid();
+    let best = chart.after[0];
     match through {
         Some(through) => Some(through - best),
         None => None,

@@ -13,8 +13,10 @@ use plan_base::{Claim, Snapshot};
 /// bound says. So a request that is excluded is in no feasible plan that is worth the claim's value.
 pub fn forced_bounds_plans(snapshot: &Snapshot, claim: &Claim)
     requires bound { IsBound snapshot.now claim.now.prices.0 claim.now.quota_prices.0 (pos claim.now.bound) }
-    ensures bound { (r : ℕ) (b : ℤ) (plan : List Placement) → IsForcedBound snapshot.now claim.now r b → IsPlanWith snapshot.now r plan → pos (value_of_plan snapshot.now plan) ≤ℤ b }
-    ensures excluded { (r : ℕ) (forced : ForcedSeen) → ForcedValue snapshot.now claim.now r forced → Excludes claim.now forced → IsInNoGoodPlan snapshot.now claim.now r }
+    ensures bound { (r : ℕ) (b : ℤ) (plan : List Placement) → IsForcedBound snapshot.now claim.now r b
+        → IsPlanWith snapshot.now r plan → pos (value_of_plan snapshot.now plan) ≤ℤ b }
+    ensures excluded { (r : ℕ) (forced : ForcedSeen) → ForcedValue snapshot.now claim.now r forced
+        → Excludes claim.now forced → IsInNoGoodPlan snapshot.now claim.now r }
 {
     snapshot.recall_valid();
 }

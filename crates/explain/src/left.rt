@@ -1,6 +1,6 @@
 // What is said of one request that a claim leaves out.
 
-ghost use Rattle.std.specs.Prelude.{◌≡◌, ◌↔◌, ◌<◌, ℕ, pos, ◌+ℤ◌, ◌-ℤ◌, Any, IfOk, IsTrue, MatchOption};
+ghost use Rattle.std.specs.Prelude.{◌≡◌, ◌↔◌, ◌<◌, pos, ◌+ℤ◌, ◌-ℤ◌, Any, IfOk, IsTrue, MatchOption};
 ghost use Rattle.plan_base.specs.Limits.{bound_limit};
 ghost use Rattle.plan_base.specs.declared.claim.Placement.{Placement as PlacementSeen};
 ghost use Rattle.plan_base.specs.Requests.{IsKnown};
@@ -8,16 +8,15 @@ ghost use Rattle.plan_base.specs.Verdict.{IsCertified};
 ghost use Rattle.explain.specs.Forced.{IsStartFor, IsGreatestDetour, IsForcedBound, ForcedValue};
 ghost use Rattle.explain.specs.Left.{IsLeft};
 ghost use Rattle.explain.specs.Choice.{IsRebateSize};
-ghost use Rattle.explain.specs.Offers.{IsGoodOffer, AreOffers};
 ghost use Rattle.explain.specs.Crossings.{AreCharts, IsDetourInRange};
 
 use crate::answer::{Forced, Left};
 use crate::blocking::blocking_of;
 use crate::chart::Chart;
 use crate::choice::rebate_with;
-use crate::offer::Offer;
+use crate::opening::openings_of;
 use crate::passage::pass;
-use bound_checker::rebate_of;
+use bound_checker::{known_group, rebate_of};
 use plan_base::{Claim, Placement, RequestNo, Snapshot, bound_limit};
 use std::alloc::{AllocError, Global};
 
@@ -27,23 +26,22 @@ pub(crate) fn left_of(
     snapshot: &Snapshot,
     claim: &Claim,
     charts: &[Chart],
-    offers: &[Offer],
-    offer: &Offer,
+    request: RequestNo,
 ) -> Result<Left, AllocError>
     requires certified { IsCertified snapshot.now claim.now }
     requires charts { AreCharts snapshot.now claim.now.prices.0 charts.now }
-    requires offers { AreOffers snapshot.now claim.now.prices.0 offers.now }
-    requires offer { (place : ℕ) × IsGoodOffer snapshot.now claim.now.prices.0 place offer.now }
-    ensures { IfOk result (IsLeft snapshot.now claim.now offer.now.request.0) }
+    requires request { IsKnown snapshot.now request.0 }
+    ensures { IfOk result (IsLeft snapshot.now claim.now request.0) }
 {
     snapshot.recall_valid();
-    let passage = pass(snapshot, &claim.prices, charts, offer);
+    let openings = openings_of(alloc, snapshot, &claim.prices, request)?;
+    let passage = pass(snapshot, &claim.prices, charts, &openings);
     let plan = claim.placements.as_slice();
     Ok(Left {
-        request: offer.request,
+        request,
         starts: passage.starts,
-        blocking: blocking_of(alloc, snapshot, plan, offers, offer)?,
-        forced: forced_of(snapshot, claim, offer.request, passage.detour),
+        blocking: blocking_of(alloc, snapshot, plan, &openings)?,
+        forced: forced_of(snapshot, claim, request, passage.detour),
     })
 }
 
@@ -72,7 +70,7 @@ fn bound_with(snapshot: &Snapshot, claim: &Claim, request: RequestNo, detour: i6
 {
     snapshot.recall_valid();
     bound_limit(snapshot, &claim.prices, &claim.quota_prices);
-    let group = snapshot.group_at(snapshot.known_place(request));
+    let group = known_group(snapshot, request);
     let rebate = rebate_of(snapshot, group, &claim.prices, &claim.quota_prices);
     let with = rebate_with(snapshot, request, &claim.prices, &claim.quota_prices);
     forced_sum(claim.bound, rebate, with, detour)

@@ -8,14 +8,13 @@ mod choice;
 mod crossing;
 mod laws;
 mod left;
-mod offer;
 mod opening;
 mod passage;
 mod run;
-mod table;
 #[cfg(test)]
 mod tests;
 mod told;
+mod until;
 mod why;
 
 pub use answer::{Blocking, ExplainAnswer, Explanation, Forced, Left};

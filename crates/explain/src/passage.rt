@@ -1,13 +1,14 @@
 // A request on all telescopes.
 
-ghost use Rattle.std.specs.Prelude.{ℕ, length, All, IfOk};
+ghost use Rattle.std.specs.Prelude.{◌≡◌, length, All, IfOk};
+ghost use Rattle.plan_base.specs.Requests.{listed};
 ghost use Rattle.plan_base.specs.Verdict.{IsPriceInRange};
-ghost use Rattle.explain.specs.Offers.{IsGoodOffer, AreOffers};
+ghost use Rattle.explain.specs.Openings.{AreOpenings};
 ghost use Rattle.explain.specs.Crossings.{AreCharts, IsPassedTo};
 
 use crate::chart::{Chart, chart_of};
 use crate::crossing::{cross, larger_of};
-use crate::offer::Offer;
+use crate::opening::Openings;
 use plan_base::{Prices, Snapshot, TelescopeNo};
 use std::alloc::{AllocError, Global};
 
@@ -25,26 +26,31 @@ pub(crate) fn charts_of(
     alloc: Global,
     snapshot: &Snapshot,
     prices: &Prices,
-    offers: &[Offer],
 ) -> Result<Vec<Chart>, AllocError>
-    requires { AreOffers snapshot.now prices.now.0 offers.now }
+    requires count { length prices.now.0 ≡ length (listed snapshot.now) }
+    requires range { All IsPriceInRange prices.now.0 }
     ensures { IfOk result (λ charts. AreCharts snapshot.now prices.now.0 charts.items) }
 {
     let mut charts = Vec::new(alloc);
     for telescope in 0..snapshot.parts().telescopes.len() {
         snapshot.recall_valid();
         let number = TelescopeNo(telescope as u16);
-        charts.push(chart_of(alloc, snapshot, number, prices, offers)?)?;
+        charts.push(chart_of(alloc, snapshot, number, prices)?)?;
     }
     Ok(charts)
 }
 
 /// What is known of a request.
-pub(crate) fn pass(snapshot: &Snapshot, prices: &Prices, charts: &[Chart], offer: &Offer) -> Passage
+pub(crate) fn pass(
+    snapshot: &Snapshot,
+    prices: &Prices,
+    charts: &[Chart],
+    openings: &Openings,
+) -> Passage
     requires prices { All IsPriceInRange prices.now.0 }
     requires charts { AreCharts snapshot.now prices.now.0 charts.now }
-    requires offer { (place : ℕ) × IsGoodOffer snapshot.now prices.now.0 place offer.now }
-    ensures { IsPassedTo snapshot.now prices.now.0 offer.now.request.0 (length snapshot.now.telescopes) result.starts result.detour }
+    requires openings { AreOpenings snapshot.now prices.now.0 openings.now }
+    ensures { IsPassedTo snapshot.now prices.now.0 openings.now.request.0 (length snapshot.now.telescopes) result.starts result.detour }
 {
     let mut passage = Passage {
         starts: 0,
@@ -53,7 +59,7 @@ pub(crate) fn pass(snapshot: &Snapshot, prices: &Prices, charts: &[Chart], offer
     for telescope in 0..charts.len() {
         snapshot.recall_valid();
         let number = TelescopeNo(telescope as u16);
-        let crossing = cross(snapshot, prices, number, &charts[telescope], offer);
+        let crossing = cross(snapshot, prices, number, &charts[telescope], openings);
         passage = Passage {
             starts: passage.starts + crossing.starts,
             detour: larger_of(passage.detour, crossing.detour),

@@ -88,7 +88,8 @@ pub(crate) fn explained_answer(
     claim: &Claim,
     explanation: &Explanation,
 ) -> Result<Answer, AllocError>
-    ensures text { IfOk result (λ a. a.text.items ≡ line_of (verdict_data (judged.Yes claim.now.value claim.now.bound)) ++ lines_of_lefts claim.now.value explanation.now) }
+    ensures text { IfOk result (λ a. a.text.items
+        ≡ line_of (verdict_data (judged.Yes claim.now.value claim.now.bound)) ++ lines_of_lefts claim.now.value explanation.now) }
     ensures said { IfOk result (λ a. a.said ≡ said.Yes) }
 {
     let verdict = Verdict::Yes {

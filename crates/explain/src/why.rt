@@ -4,14 +4,12 @@ ghost use Rattle.std.specs.Prelude.{◌≡◌, ◌+◌, ◌<◌, ℕ, IfOk, OnOk
 ghost use Rattle.plan_base.specs.Requests.{listed};
 ghost use Rattle.plan_base.specs.Verdict.{IsCertified};
 ghost use Rattle.explain.specs.Left.{IsExplanation, IsExplainAnswer, AreExclusionsSound};
-ghost use Rattle.explain.specs.Offers.{AreOffers};
 ghost use Rattle.explain.specs.Crossings.{AreCharts};
 ghost use Rattle.explain.specs.Explained.{AreLeftTo};
 
 use crate::answer::{ExplainAnswer, Explanation, Left};
 use crate::chart::Chart;
 use crate::left::{is_placed, left_of};
-use crate::offer::{Offer, offers_of};
 use crate::passage::charts_of;
 use bound_checker::check;
 use plan_base::{Claim, ListOf, Snapshot, Verdict};
@@ -23,8 +21,9 @@ use std::alloc::{AllocError, Global};
 /// claim's. The converse isn't claimed. `No` comes exactly where [`check`] says No. Fails only for want of memory.
 ///
 /// One table forward and one backward for each telescope serve all requests. Beside the claim's check it costs time for
-/// each request, telescope and slice, and for each placement beside each request that is left out; and memory for a flag
-/// for each request and slice, and two numbers for each telescope and slice.
+/// the windows, the spans and the possible starts of each telescope, once, and for each request that is left out for its
+/// own starts and for the placements on its telescopes; and memory for the possible starts of a telescope, and two
+/// numbers for each telescope and slice.
 ///
 /// [`check`]: bound_checker::check
 pub fn explain(
@@ -47,20 +46,10 @@ fn explained(alloc: Global, snapshot: &Snapshot, claim: &Claim) -> Result<Explan
     requires { IsCertified snapshot.now claim.now }
     ensures { IfOk result (IsExplanation snapshot.now claim.now) }
 {
-    let offers = offers_of(alloc, snapshot, &claim.prices)?;
-    let offers = offers.as_slice();
-    let charts = charts_of(alloc, snapshot, &claim.prices, offers)?;
+    let charts = charts_of(alloc, snapshot, &claim.prices)?;
     let mut lefts = Vec::new(alloc);
-    for place in 0..offers.len() {
-        add_left(
-            alloc,
-            snapshot,
-            claim,
-            charts.as_slice(),
-            offers,
-            place,
-            &mut lefts,
-        )?;
+    for place in 0..snapshot.request_count() {
+        add_left(alloc, snapshot, claim, charts.as_slice(), place, &mut lefts)?;
     }
     Ok(Explanation {
         lefts: ListOf::from_vec(lefts),
@@ -73,22 +62,21 @@ fn add_left(
     snapshot: &Snapshot,
     claim: &Claim,
     charts: &[Chart],
-    offers: &[Offer],
     place: usize,
     lefts: &mut Vec<Left>,
 ) -> Result<(), AllocError>
     requires certified { IsCertified snapshot.now claim.now }
     requires charts { AreCharts snapshot.now claim.now.prices.0 charts.now }
-    requires offers { AreOffers snapshot.now claim.now.prices.0 offers.now }
-    requires place { place < length offers.now }
+    requires place { place < length (listed snapshot.now) }
     requires lefts { AreLeftTo snapshot.now claim.now place lefts.old.items }
     ensures { OnOk result (AreLeftTo snapshot.now claim.now (place + 1) lefts.new.items) }
 {
-    let offer = &offers[place];
-    if is_placed(claim.placements.as_slice(), offer.request) {
+    snapshot.recall_valid();
+    let request = snapshot.request_at(place).request;
+    if is_placed(claim.placements.as_slice(), request) {
         return Ok(());
     }
-    let left = left_of(alloc, snapshot, claim, charts, offers, offer)?;
+    let left = left_of(alloc, snapshot, claim, charts, request)?;
     lefts.push(left)?;
     Ok(())
 }

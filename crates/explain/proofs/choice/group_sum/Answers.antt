@@ -9,7 +9,7 @@ use Rattle.plan_base.specs.NetPrices.{IsNetInRange, price_sum}
 use Rattle.plan_base.proofs.Growing.{IsGrown, grown_more, grown_all}
 use Rattle.bound_checker.proofs.Runs.{group_read, group_size}
 use Rattle.explain.proofs.Choosing.{IsMemberAt, member_at, members_count}
-use Rattle.explain.proofs.Filling.{fits_64}
+use Rattle.explain.proofs.Fits.{fits_64}
 use Rattle.explain.proofs.choice.group_sum.Goals as goal
 use mir.Val.{SFits}
 

@@ -1,33 +1,22 @@
 use Rattle.std.proofs.Common.{rules, ◌≡◌, ℕ, ◌*◌, ◌^◌, ℤ, pos, neg_ℤ, w64, ◌-ℤ◌, ◌≤ℤ◌, List, slice_index_or, sym, ◌∙◌, ap, subst, arith}
-use Rattle.std.specs.Prelude.{HoldsAt}
 use Rattle.std.proofs.lemmas.Int.{ints, to_z-of_z}
-use Rattle.plan_base.specs.declared.parts.Parts.{Parts}
-use Rattle.plan_base.specs.declared.parts.GroupPart.{GroupPart}
-use Rattle.plan_base.specs.Requests.{listed, group_of, quota_of}
 use Rattle.plan_base.specs.Bound.{price, net_price}
-use Rattle.plan_base.proofs.Here.{request_here}
 use Rattle.plan_base.proofs.Limits.{net_price_between}
-use Rattle.bound_checker.specs.Claims.{IsRequestOf}
-use Rattle.bound_checker.proofs.Requested.{request_is, group_here, quota_here}
 use Rattle.explain.proofs.Choosing.{net_read}
-use Rattle.explain.proofs.Filling.{fits_64}
+use Rattle.explain.proofs.Fits.{fits_64}
 use Rattle.explain.proofs.choice.net_of.Goals as goal
 use mir.Val.{SFits}
 
 pub cost_of-requires-clause-seconds : goal.cost_of-requires-clause-seconds
-cost_of-requires-clause-seconds c = (request_here c.args.snapshot.now c.known_place-place.result c.request_at.result.now c.recall_valid.ensures.orderly c.known_place-place.ensures.within c.request_at.ensures).asked.seconds_most
+cost_of-requires-clause-seconds c = c.request_of.ensures.ranges.most_seconds
 
 pub overflow_sub-result : goal.overflow_sub-result
 overflow_sub-result c =
     let r : ℕ = c.args.request.0 in
-    let p : ℤ = slice_index_or c.as_slice-2.result.now c.known_place-place.result (pos 0) in
-    let price_is : p ≡ price c.args.snapshot.now c.args.prices.now.0 r = ap (λ (xs : List ℤ). slice_index_or xs c.known_place-place.result (pos 0)) c.as_slice-2.ensures ∙ ap (λ (i : ℕ). slice_index_or c.args.prices.now.0 i (pos 0)) c.known_place-place.ensures.value in
-    let group : c.group_at.result ≡ group_of c.args.snapshot.now r = group_here c.args.snapshot.now r c.known_place-place.result c.group_at.result c.requires.request c.known_place-place.ensures.value c.group_at.ensures.value in
-    let quota : (slice_index_or c.as_slice.result.now c.group_at.result c.index-as_slice-group_at.result).quota ≡ quota_of c.args.snapshot.now r
-    = ap (λ (xs : List GroupPart). (slice_index_or xs c.group_at.result c.index-as_slice-group_at.result).quota) (c.as_slice.ensures ∙ ap (λ (s : Parts). s.groups) c.parts.ensures.value) ∙ quota_here c.args.snapshot.now r c.group_at.result c.index-as_slice-group_at.result c.requires.request group in
-    let asked : IsRequestOf c.args.snapshot.now r c.request_at.result.now = request_is c.args.snapshot.now r c.request_at.result.now c.requires.request (subst (HoldsAt (λ x. x.request ≡ c.request_at.result.now) (listed c.args.snapshot.now)) c.known_place-place.ensures.value c.request_at.ensures) in
+    let p : ℤ = slice_index_or c.as_slice.result.now c.known_place.result (pos 0) in
+    let price_is : p ≡ price c.args.snapshot.now c.args.prices.now.0 r = ap (λ (xs : List ℤ). slice_index_or xs c.known_place.result (pos 0)) c.as_slice.ensures ∙ ap (λ (i : ℕ). slice_index_or c.args.prices.now.0 i (pos 0)) c.known_place.ensures.value in
     let net : (p -ℤ c.cost_of.result) ≡ net_price c.args.snapshot.now c.args.prices.now.0 c.args.quota_prices.now.0 r
-    = net_read c.args.snapshot.now c.args.prices.now.0 c.args.quota_prices.now.0 c.as_slice-3.result.now r c.price_of.result c.request_at.result.now.seconds (slice_index_or c.as_slice.result.now c.group_at.result c.index-as_slice-group_at.result).quota p c.cost_of.result price_is c.cost_of.ensures c.price_of.ensures.value c.as_slice-3.ensures quota asked.seconds in
+    = net_read c.args.snapshot.now c.args.prices.now.0 c.args.quota_prices.now.0 c.as_slice-2.result.now r c.price_of.result c.request_of.result.now.seconds c.known_quota-quota.result p c.cost_of.result price_is c.cost_of.ensures c.price_of.ensures.value c.as_slice-2.ensures c.known_quota-quota.ensures.value c.request_of.ensures.is.seconds in
     let range = net_price_between c.args.snapshot.now c.args.prices.now.0 c.args.quota_prices.now.0 r c.recall_valid.ensures.orderly c.requires.request c.requires.range c.requires.quota_range in
     let low : neg_ℤ (pos (2 * 10 ^ 12)) ≤ℤ (p -ℤ c.cost_of.result) = subst (λ (z : ℤ). neg_ℤ (pos (2 * 10 ^ 12)) ≤ℤ z) (sym net) range.0 in
     let high : (p -ℤ c.cost_of.result) ≤ℤ pos (10 ^ 12) = subst (λ (z : ℤ). z ≤ℤ pos (10 ^ 12)) (sym net) range.1 in
@@ -39,14 +28,10 @@ overflow_sub-result c =
 pub returns-clause-value : goal.returns-clause-value
 returns-clause-value c =
     let r : ℕ = c.args.request.0 in
-    let p : ℤ = slice_index_or c.as_slice-2.result.now c.known_place-place.result (pos 0) in
-    let price_is : p ≡ price c.args.snapshot.now c.args.prices.now.0 r = ap (λ (xs : List ℤ). slice_index_or xs c.known_place-place.result (pos 0)) c.as_slice-2.ensures ∙ ap (λ (i : ℕ). slice_index_or c.args.prices.now.0 i (pos 0)) c.known_place-place.ensures.value in
-    let group : c.group_at.result ≡ group_of c.args.snapshot.now r = group_here c.args.snapshot.now r c.known_place-place.result c.group_at.result c.requires.request c.known_place-place.ensures.value c.group_at.ensures.value in
-    let quota : (slice_index_or c.as_slice.result.now c.group_at.result c.index-as_slice-group_at.result).quota ≡ quota_of c.args.snapshot.now r
-    = ap (λ (xs : List GroupPart). (slice_index_or xs c.group_at.result c.index-as_slice-group_at.result).quota) (c.as_slice.ensures ∙ ap (λ (s : Parts). s.groups) c.parts.ensures.value) ∙ quota_here c.args.snapshot.now r c.group_at.result c.index-as_slice-group_at.result c.requires.request group in
-    let asked : IsRequestOf c.args.snapshot.now r c.request_at.result.now = request_is c.args.snapshot.now r c.request_at.result.now c.requires.request (subst (HoldsAt (λ x. x.request ≡ c.request_at.result.now) (listed c.args.snapshot.now)) c.known_place-place.ensures.value c.request_at.ensures) in
+    let p : ℤ = slice_index_or c.as_slice.result.now c.known_place.result (pos 0) in
+    let price_is : p ≡ price c.args.snapshot.now c.args.prices.now.0 r = ap (λ (xs : List ℤ). slice_index_or xs c.known_place.result (pos 0)) c.as_slice.ensures ∙ ap (λ (i : ℕ). slice_index_or c.args.prices.now.0 i (pos 0)) c.known_place.ensures.value in
     let net : (p -ℤ c.cost_of.result) ≡ net_price c.args.snapshot.now c.args.prices.now.0 c.args.quota_prices.now.0 r
-    = net_read c.args.snapshot.now c.args.prices.now.0 c.args.quota_prices.now.0 c.as_slice-3.result.now r c.price_of.result c.request_at.result.now.seconds (slice_index_or c.as_slice.result.now c.group_at.result c.index-as_slice-group_at.result).quota p c.cost_of.result price_is c.cost_of.ensures c.price_of.ensures.value c.as_slice-3.ensures quota asked.seconds in
+    = net_read c.args.snapshot.now c.args.prices.now.0 c.args.quota_prices.now.0 c.as_slice-2.result.now r c.price_of.result c.request_of.result.now.seconds c.known_quota-quota.result p c.cost_of.result price_is c.cost_of.ensures c.price_of.ensures.value c.as_slice-2.ensures c.known_quota-quota.ensures.value c.request_of.ensures.is.seconds in
     let range = net_price_between c.args.snapshot.now c.args.prices.now.0 c.args.quota_prices.now.0 r c.recall_valid.ensures.orderly c.requires.request c.requires.range c.requires.quota_range in
     let low : neg_ℤ (pos (2 * 10 ^ 12)) ≤ℤ (p -ℤ c.cost_of.result) = subst (λ (z : ℤ). neg_ℤ (pos (2 * 10 ^ 12)) ≤ℤ z) (sym net) range.0 in
     let high : (p -ℤ c.cost_of.result) ≤ℤ pos (10 ^ 12) = subst (λ (z : ℤ). z ≤ℤ pos (10 ^ 12)) (sym net) range.1 in

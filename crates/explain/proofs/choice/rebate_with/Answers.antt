@@ -6,12 +6,11 @@ use Rattle.plan_base.specs.declared.parts.Op.TheVariants.{Single, Many, OneOf, A
 use Rattle.plan_base.specs.Requests.{IsKind, group_of, members}
 use Rattle.plan_base.specs.Bound.{net_price}
 use Rattle.plan_base.specs.NetPrices.{price_sum}
-use Rattle.bound_checker.proofs.Requested.{group_here}
 use Rattle.bound_checker.proofs.Runs.{kind_read}
 use Rattle.bound_checker.proofs.Summing.{rebate_between}
 use Rattle.explain.specs.Choice.{IsRebateWith}
 use Rattle.explain.proofs.Choosing.{with_any, with_one, with_group}
-use Rattle.explain.proofs.Filling.{fits_64}
+use Rattle.explain.proofs.Fits.{fits_64}
 use Rattle.explain.proofs.choice.rebate_with.Goals as goal
 use mir.Val.{SFits}
 
@@ -26,7 +25,7 @@ pub overflow_add-result : goal.overflow_add-result
 overflow_add-result c =
     let net : SFits w64 c.net_of-net.result = search rules in
     let loss = loss_between c.loss_of.result c.net_of-net.result (simp to_z-of_z at c.loss_of.ensures) c.net_of-net.ensures.range.0 in
-    let rebate = rebate_between c.args.snapshot.now c.args.prices.now.0 c.args.quota_prices.now.0 c.group_at-group.result c.rebate_of.result c.recall_valid.ensures.orderly c.requires.range c.requires.quota_range c.rebate_of.ensures in
+    let rebate = rebate_between c.args.snapshot.now c.args.prices.now.0 c.args.quota_prices.now.0 c.known_group-group.result c.rebate_of.result c.recall_valid.ensures.orderly c.requires.range c.requires.quota_range c.rebate_of.ensures in
     let low : neg_ℤ (pos (2 * 10 ^ 12)) ≤ℤ c.loss_of.result = loss.0 in
     let high : c.loss_of.result ≤ℤ pos 0 = loss.1 in
     let least : pos 0 ≤ℤ c.rebate_of.result = rebate.0 in
@@ -40,18 +39,18 @@ pub returns-in-Single : goal.returns-in-Single
 returns-in-Single c =
     let s : Parts = c.args.snapshot.now in
     let r : ℕ = c.args.request.0 in
-    let g : ℕ = c.group_at-group.result in
+    let g : ℕ = c.known_group-group.result in
     let f : ℕ → ℤ = net_price c.args.snapshot.now c.args.prices.now.0 c.args.quota_prices.now.0 in
-    let group : c.group_at-group.result ≡ group_of c.args.snapshot.now c.args.request.0 = group_here c.args.snapshot.now c.args.request.0 c.known_place.result c.group_at-group.result c.requires.request c.known_place.ensures.value c.group_at-group.ensures.value in
+    let group : c.known_group-group.result ≡ group_of c.args.snapshot.now c.args.request.0 = c.known_group-group.ensures.value in
     let groups = groups_are c.args.snapshot.now c.parts.result.now c.as_slice.result.now c.as_slice.ensures c.parts.ensures.value in
-    let kind : IsKind c.args.snapshot.now Single c.group_at-group.result ⊎ IsKind c.args.snapshot.now Many c.group_at-group.result = elim c.in-Single.is [
-      | inl e ↦ inl (kind_read c.args.snapshot.now _ c.group_at-group.result _ Single groups c.group_at-group.ensures.within e)
-      | inr e ↦ inr (kind_read c.args.snapshot.now _ c.group_at-group.result _ Many groups c.group_at-group.ensures.within e)
+    let kind : IsKind c.args.snapshot.now Single c.known_group-group.result ⊎ IsKind c.args.snapshot.now Many c.known_group-group.result = elim c.in-Single.is [
+      | inl e ↦ inl (kind_read c.args.snapshot.now _ c.known_group-group.result _ Single groups c.known_group-group.ensures.within e)
+      | inr e ↦ inr (kind_read c.args.snapshot.now _ c.known_group-group.result _ Many groups c.known_group-group.ensures.within e)
     ] in
     let net : SFits w64 c.net_of-net.result = search rules in
     let sign = simp to_z-of_z at c.loss_of.ensures in
     let loss = loss_between c.loss_of.result c.net_of-net.result sign c.net_of-net.ensures.range.0 in
-    let rebate = rebate_between c.args.snapshot.now c.args.prices.now.0 c.args.quota_prices.now.0 c.group_at-group.result c.rebate_of.result c.recall_valid.ensures.orderly c.requires.range c.requires.quota_range c.rebate_of.ensures in
+    let rebate = rebate_between c.args.snapshot.now c.args.prices.now.0 c.args.quota_prices.now.0 c.known_group-group.result c.rebate_of.result c.recall_valid.ensures.orderly c.requires.range c.requires.quota_range c.rebate_of.ensures in
     let low : neg_ℤ (pos (2 * 10 ^ 12)) ≤ℤ c.loss_of.result = loss.0 in
     let high : c.loss_of.result ≤ℤ pos 0 = loss.1 in
     let least : pos 0 ≤ℤ c.rebate_of.result = rebate.0 in
@@ -69,12 +68,12 @@ returns-in-Single c =
 pub returns-in-OneOf : goal.returns-in-OneOf
 returns-in-OneOf c =
     let f : ℕ → ℤ = net_price c.args.snapshot.now c.args.prices.now.0 c.args.quota_prices.now.0 in
-    let group : c.group_at-group.result ≡ group_of c.args.snapshot.now c.args.request.0 = group_here c.args.snapshot.now c.args.request.0 c.known_place.result c.group_at-group.result c.requires.request c.known_place.ensures.value c.group_at-group.ensures.value in
+    let group : c.known_group-group.result ≡ group_of c.args.snapshot.now c.args.request.0 = c.known_group-group.ensures.value in
     let groups = groups_are c.args.snapshot.now c.parts.result.now c.as_slice.result.now c.as_slice.ensures c.parts.ensures.value in
-    let kind : IsKind c.args.snapshot.now OneOf c.group_at-group.result = kind_read c.args.snapshot.now _ c.group_at-group.result _ OneOf groups c.group_at-group.ensures.within c.in-OneOf.is in
+    let kind : IsKind c.args.snapshot.now OneOf c.known_group-group.result = kind_read c.args.snapshot.now _ c.known_group-group.result _ OneOf groups c.known_group-group.ensures.within c.in-OneOf.is in
     let value : IsRebateWith c.args.snapshot.now f (group_of c.args.snapshot.now c.args.request.0) c.args.request.0 c.net_of-net.result
     = subst (IsRebateWith c.args.snapshot.now f (group_of c.args.snapshot.now c.args.request.0) c.args.request.0) (sym c.net_of-net.ensures.value)
-    (subst (λ (h : ℕ). IsRebateWith c.args.snapshot.now f h c.args.request.0 (f c.args.request.0)) group (with_one c.args.snapshot.now f c.group_at-group.result c.args.request.0 (c.requires.request, sym group) kind)) in
+    (subst (λ (h : ℕ). IsRebateWith c.args.snapshot.now f h c.args.request.0 (f c.args.request.0)) group (with_one c.args.snapshot.now f c.known_group-group.result c.args.request.0 (c.requires.request, sym group) kind)) in
     let low : neg_ℤ (pos (2 * 10 ^ 12)) ≤ℤ c.net_of-net.result = c.net_of-net.ensures.range.0 in
     let high : c.net_of-net.result ≤ℤ pos (2 * 10 ^ 12) = c.net_of-net.ensures.range.1 in
     let net : SFits w64 c.net_of-net.result = search rules in
@@ -85,12 +84,12 @@ returns-in-OneOf c =
 pub returns-in-And : goal.returns-in-And
 returns-in-And c =
     let f : ℕ → ℤ = net_price c.args.snapshot.now c.args.prices.now.0 c.args.quota_prices.now.0 in
-    let group : c.group_at-group.result ≡ group_of c.args.snapshot.now c.args.request.0 = group_here c.args.snapshot.now c.args.request.0 c.known_place.result c.group_at-group.result c.requires.request c.known_place.ensures.value c.group_at-group.ensures.value in
+    let group : c.known_group-group.result ≡ group_of c.args.snapshot.now c.args.request.0 = c.known_group-group.ensures.value in
     let groups = groups_are c.args.snapshot.now c.parts.result.now c.as_slice.result.now c.as_slice.ensures c.parts.ensures.value in
-    let kind : IsKind c.args.snapshot.now And c.group_at-group.result = kind_read c.args.snapshot.now _ c.group_at-group.result _ And groups c.group_at-group.ensures.within c.in-And.is in
+    let kind : IsKind c.args.snapshot.now And c.known_group-group.result = kind_read c.args.snapshot.now _ c.known_group-group.result _ And groups c.known_group-group.ensures.within c.in-And.is in
     let value : IsRebateWith c.args.snapshot.now f (group_of c.args.snapshot.now c.args.request.0) c.args.request.0 c.group_sum.result
     = subst (IsRebateWith c.args.snapshot.now f (group_of c.args.snapshot.now c.args.request.0) c.args.request.0) (sym c.group_sum.ensures.value)
-    (subst (λ (h : ℕ). IsRebateWith c.args.snapshot.now f h c.args.request.0 (price_sum (map f (members c.args.snapshot.now c.group_at-group.result)))) group (with_group c.args.snapshot.now f c.group_at-group.result c.args.request.0 c.recall_valid.ensures.orderly (c.requires.request, sym group) kind)) in
+    (subst (λ (h : ℕ). IsRebateWith c.args.snapshot.now f h c.args.request.0 (price_sum (map f (members c.args.snapshot.now c.known_group-group.result)))) group (with_group c.args.snapshot.now f c.known_group-group.result c.args.request.0 c.recall_valid.ensures.orderly (c.requires.request, sym group) kind)) in
     let low : neg_ℤ (pos 512000000000000) ≤ℤ c.group_sum.result = c.group_sum.ensures.least in
     let high : c.group_sum.result ≤ℤ pos 512000000000000 = c.group_sum.ensures.most in
     let net : SFits w64 c.group_sum.result = search rules in

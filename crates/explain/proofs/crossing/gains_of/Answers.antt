@@ -1,7 +1,8 @@
-use Rattle.std.proofs.Common.{◌≡◌, ℕ, ◌+◌, ◌≤◌, Option, Some, None, ℤ, ap, subst, arith}
-use Rattle.plan_base.specs.declared.parts.Parts.{Parts}
+use Rattle.std.proofs.Common.{◌≡◌, ℕ, ◌+◌, ◌≤◌, Bool, Option, Some, None, ℤ, List, length, ap, subst, arith}
+use Rattle.plan_base.specs.Tables.{row}
 use Rattle.explain.specs.Crossings.{count_of, AreGainsTo}
-use Rattle.explain.proofs.Gathering.{gains_more}
+use Rattle.explain.proofs.Flags.{row_read, start_before}
+use Rattle.explain.proofs.Gathering.{gains_more, gains_all}
 use Rattle.explain.proofs.crossing.gains_of.Goals as goal
 
 pub loop-index-preserved : goal.loop-index-preserved
@@ -11,8 +12,8 @@ loop-index-preserved c =
     let count : c.with_gain-gains.result.starts ≡ c.loop-index.gains.starts + count_of c.gain_at-gain.result = c.with_gain-gains.ensures.starts in
     let one : count_of c.gain_at-gain.result ≤ 1 = at_most_one c.gain_at-gain.result in
     record {
-      gains = subst (λ (k : ℕ). AreGainsTo c.args.snapshot.now c.args.prices.now.0 c.args.telescope.0 c.args.offer.now.request.0 k c.with_gain-gains.result.starts c.with_gain-gains.result.greatest) next
-          (gains_more c.args.snapshot.now c.args.prices.now.0 c.args.telescope.0 c.args.offer.now.request.0 c.parts.ensures.orderly (c.args.snapshot.now.first.0 + c.loop-index.index) c.loop-index.gains.starts c.with_gain-gains.result.starts c.loop-index.gains.greatest c.gain_at-gain.result c.with_gain-gains.result.greatest c.loop-index.invariant.gains c.gain_at-gain.ensures count c.with_gain-gains.ensures.greatest);
+      gains = subst (λ (k : ℕ). AreGainsTo c.args.snapshot.now c.args.prices.now.0 c.args.telescope.0 c.args.openings.now.request.0 k c.with_gain-gains.result.starts c.with_gain-gains.result.greatest) next
+          (gains_more c.args.snapshot.now c.args.prices.now.0 c.args.telescope.0 c.args.openings.now.request.0 c.recall_valid.ensures.orderly (c.args.snapshot.now.first.0 + c.loop-index.index) c.loop-index.gains.starts c.with_gain-gains.result.starts c.loop-index.gains.greatest c.gain_at-gain.result c.with_gain-gains.result.greatest c.loop-index.invariant.gains c.gain_at-gain.ensures count c.with_gain-gains.ensures.greatest);
       few = omega arith;
     }
   where
@@ -22,6 +23,9 @@ loop-index-preserved c =
 
 pub returns-clause-gains : goal.returns-clause-gains
 returns-clause-gains c =
-    let count : c.parts.result.now.slices ≡ c.args.snapshot.now.slices = ap (λ (s : Parts). s.slices) c.parts.ensures.value in
-    let all : c.loop-index.index ≡ c.args.snapshot.now.slices = omega arith in
-    subst (λ (k : ℕ). AreGainsTo c.args.snapshot.now c.args.prices.now.0 c.args.telescope.0 c.args.offer.now.request.0 (c.args.snapshot.now.first.0 + k) c.loop-index.gains.starts c.loop-index.gains.greatest) all c.loop-index.invariant.gains
+    let rows : length c.args.openings.now.rows.items ≡ length c.args.snapshot.now.telescopes = c.requires.openings.rows.count in
+    let read : c.index.result.now ≡ row c.args.openings.now.rows.items c.args.telescope.0 = row_read c.args.openings.now.rows.items c.args.telescope.0 c.from.result c.index.result.now c.index.result.now (omega (arith, c.requires.telescope)) c.from.ensures c.index.ensures (λ i. c.index.result.now) in
+    let count : length c.index.result.now ≡ length (row c.args.openings.now.rows.items c.args.telescope.0) = ap (λ (xs : List Bool). length xs) read in
+    let end : c.len-index-end.result ≡ length c.index.result.now = c.len-index-end.ensures in
+    gains_all c.args.snapshot.now c.args.prices.now.0 c.args.telescope.0 c.args.openings.now.request.0 c.recall_valid.ensures.orderly (c.args.snapshot.now.first.0 + c.loop-index.index) c.loop-index.gains.starts c.loop-index.gains.greatest
+    (start_before c.args.snapshot.now c.args.telescope.0 c.args.openings.now.request.0 c.loop-index.index (row c.args.openings.now.rows.items c.args.telescope.0) (c.requires.openings.rows.each c.args.telescope.0 c.requires.telescope) (omega (arith, c.loop-index-test.false))) c.loop-index.invariant.gains

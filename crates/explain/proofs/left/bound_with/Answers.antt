@@ -2,7 +2,6 @@ use Rattle.std.proofs.Common.{rules, ◌≡◌, ℕ, ◌^◌, pos, neg_ℤ, w64,
 use Rattle.std.proofs.lemmas.Int.{ints, to_z-of_z}
 use Rattle.plan_base.specs.Requests.{group_of}
 use Rattle.plan_base.specs.Bound.{net_price, IsRebate}
-use Rattle.bound_checker.proofs.Requested.{group_here}
 use Rattle.bound_checker.proofs.Summing.{rebate_between}
 use Rattle.explain.specs.Forced.{IsForcedBound}
 use Rattle.explain.proofs.left.bound_with.Goals as goal
@@ -15,7 +14,7 @@ forced_sum-requires-clause-bound c =
 
 pub forced_sum-requires-clause-rebate : goal.forced_sum-requires-clause-rebate
 forced_sum-requires-clause-rebate c =
-    let rebate = rebate_between c.args.snapshot.now c.args.claim.now.prices.0 c.args.claim.now.quota_prices.0 c.group_at-group.result c.rebate_of-rebate.result c.recall_valid.ensures.orderly c.requires.certified.price_range c.requires.certified.quota_price_range c.rebate_of-rebate.ensures in
+    let rebate = rebate_between c.args.snapshot.now c.args.claim.now.prices.0 c.args.claim.now.quota_prices.0 c.known_group-group.result c.rebate_of-rebate.result c.recall_valid.ensures.orderly c.requires.certified.price_range c.requires.certified.quota_price_range c.rebate_of-rebate.ensures in
     let low : pos 0 ≤ℤ c.rebate_of-rebate.result = rebate.0 in
     let high : c.rebate_of-rebate.result ≤ℤ pos 1024000000000000 = rebate.1 in
     let one : SFits w64 c.rebate_of-rebate.result = search rules in
@@ -25,7 +24,7 @@ forced_sum-requires-clause-rebate c =
 
 pub returns : goal.returns
 returns c =
-    let group : c.group_at-group.result ≡ group_of c.args.snapshot.now c.args.request.0 = group_here c.args.snapshot.now c.args.request.0 c.known_place.result c.group_at-group.result c.requires.request c.known_place.ensures.value c.group_at-group.ensures.value in
+    let group : c.known_group-group.result ≡ group_of c.args.snapshot.now c.args.request.0 = c.known_group-group.ensures.value in
     let one : SFits w64 c.rebate_of-rebate.result = search rules in
     let two : SFits w64 c.rebate_with-with.result = search rules in
     let three : SFits w64 c.args.detour = search rules in
