@@ -1,5 +1,5 @@
 -- Placements that share a slice with a start of a request, and lists that keep them.
-use Rattle.std.proofs.Common.{◌≡◌, ◌↔◌, ℕ, ◌+◌, ◌-◌, ◌<◌, ◌≤◌, ◌⊎◌, inl, inr, Bool, true, false, min, List, [], ◌∷◌, ◌++◌, length, take, slice_index_or, refl, sym, ◌∙◌, ap, subst, arith}
+use Rattle.std.proofs.Common.{◌≡◌, ◌↔◌, ℕ, ◌+◌, ◌-◌, ◌<◌, ◌≤◌, ◌⊎◌, inl, inr, Bool, false, min, List, [], ◌∷◌, ◌++◌, length, take, slice_index_or, refl, sym, ◌∙◌, ap, subst, arith}
 use Rattle.std.proofs.lemmas.Bool.{false≢true}
 use Rattle.std.proofs.lemmas.List.{take_more, take_all, get_or_past}
 use Rattle.plan_base.specs.declared.parts.Parts.{Parts}
@@ -7,7 +7,6 @@ use Rattle.plan_base.specs.declared.claim.Placement.{Placement}
 use Rattle.plan_base.specs.Snapshot.{IsOrderly}
 use Rattle.plan_base.specs.Starts.{IsPossibleStart, size_of}
 use Rattle.plan_base.proofs.Sizes.{start_size_above}
-use Rattle.explain.specs.Forced.{IsStartFor}
 use Rattle.explain.specs.Left.{Blocks, AreKept}
 use Rattle.explain.specs.Openings.{IsSet, HasFlagWithin, CanStartAt, IsOpenRow}
 use Rattle.explain.proofs.Numbers.{below_or_at}

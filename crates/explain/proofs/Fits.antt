@@ -1,5 +1,5 @@
 -- Numbers that fit 64 bits.
-use Rattle.std.proofs.Common.{◌^◌, ◌≤◌, ℤ, pos, negsuc, neg_ℤ, w64, ◌≤ℤ◌, arith}
+use Rattle.std.proofs.Common.{◌^◌, ℤ, pos, negsuc, neg_ℤ, w64, ◌≤ℤ◌, arith}
 use Rattle.std.proofs.lemmas.Int.{ints}
 use mir.Val.{SFits}
 

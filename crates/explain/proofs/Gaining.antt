@@ -1,5 +1,5 @@
 -- The gain of a start, by a telescope's chart.
-use Rattle.std.proofs.Common.{◌≡◌, ◌≢◌, ℕ, ◌+◌, ◌-◌, ◌^◌, ◌<◌, ◌≤◌, ℤ, pos, neg_ℤ, w64, ◌+ℤ◌, ◌≤ℤ◌, List, length, slice_index_or, All, sym, ◌∙◌, ap, subst, arith}
+use Rattle.std.proofs.Common.{◌≡◌, ℕ, ◌+◌, ◌-◌, ◌^◌, ◌≤◌, ℤ, pos, neg_ℤ, w64, ◌+ℤ◌, ◌≤ℤ◌, List, length, slice_index_or, All, sym, ◌∙◌, ap, subst, arith}
 use Rattle.std.proofs.lemmas.Int.{ints}
 use Rattle.std.proofs.lemmas.List.{get_or_default}
 use Rattle.plan_base.specs.declared.parts.Parts.{Parts}
@@ -7,7 +7,7 @@ use Rattle.plan_base.specs.declared.claim.Placement.{Placement}
 use Rattle.plan_base.specs.Snapshot.{IsOrderly}
 use Rattle.plan_base.specs.Starts.{size_of}
 use Rattle.plan_base.specs.Bound.{weight, IsBest}
-use Rattle.plan_base.specs.Tables.{slice_after, horizon_end, entry}
+use Rattle.plan_base.specs.Tables.{slice_after, entry}
 use Rattle.plan_base.specs.Verdict.{IsPriceInRange}
 use Rattle.plan_base.proofs.Limits.{best_between, weight_between}
 use Rattle.bound_checker.specs.declared.worth.Offer.{Offer}

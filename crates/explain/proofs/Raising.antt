@@ -5,8 +5,8 @@ use Rattle.std.proofs.lemmas.Nat.{mul-le}
 use Rattle.std.proofs.lemmas.List.{get_or_default, get_or_past, get_or-replicate, length-replicate}
 use Rattle.plan_base.specs.Tables.{entry, row}
 use Rattle.bound_checker.specs.declared.table.Start.{Start}
-use Rattle.bound_checker.specs.Tables.{IsEntry, IsFitting, DoRowsFit}
-use Rattle.explain.specs.Steps.{IsStep, IsStepBefore, IsForward, IsFilledTo, IsRaised}
+use Rattle.bound_checker.specs.Tables.{IsEntry, IsFitting}
+use Rattle.explain.specs.Steps.{IsStepBefore, IsForward, IsFilledTo, IsRaised}
 use Rattle.explain.proofs.Numbers.{below_or_at}
 
 same_or_not : (a b : ℕ) → (a ≡ b) ⊎ (a ≢ b)

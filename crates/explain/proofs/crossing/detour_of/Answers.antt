@@ -1,4 +1,4 @@
-use Rattle.std.proofs.Common.{rules, ◌≡◌, ℤ, pos, neg_ℤ, w64, ◌-ℤ◌, ◌≤ℤ◌, MatchOption, Option, subst, arith}
+use Rattle.std.proofs.Common.{rules, ℤ, pos, neg_ℤ, w64, ◌-ℤ◌, ◌≤ℤ◌, MatchOption, Option, subst, arith}
 use Rattle.std.proofs.lemmas.Int.{ints, to_z-of_z}
 use Rattle.plan_base.specs.Bound.{IsBest}
 use Rattle.explain.specs.Through.{IsThrough}

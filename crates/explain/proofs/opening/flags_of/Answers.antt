@@ -1,4 +1,4 @@
-use Rattle.std.proofs.Common.{rules, arith, ◌≡◌, ℕ, ◌+◌, ◌-◌, ◌≤◌, ◌<◌, Bool, List, min, sym, ◌∙◌, ap, subst}
+use Rattle.std.proofs.Common.{arith, ◌≡◌, ℕ, ◌+◌, ◌-◌, ◌≤◌, ◌<◌, min, sym, ◌∙◌, ap, subst}
 use Rattle.bound_checker.specs.Listings.{CanStart}
 use Rattle.explain.specs.Openings.{IsFlagged}
 use Rattle.explain.proofs.Flags.{IsFlaggedTo, flags_start, goes_on, flags_swept, flags_ended}

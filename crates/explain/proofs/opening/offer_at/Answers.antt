@@ -1,4 +1,4 @@
-use Rattle.std.proofs.Common.{rules, ◌≡◌, pos, ℤ, w64, List, slice_index_or, subst}
+use Rattle.std.proofs.Common.{rules, pos, ℤ, w64, List, slice_index_or, subst}
 use Rattle.std.proofs.lemmas.Int.{to_z-of_z}
 use Rattle.plan_base.specs.declared.parts.Parts.{Parts}
 use Rattle.plan_base.proofs.Here.{IsHere, request_here}

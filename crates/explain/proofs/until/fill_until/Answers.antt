@@ -1,4 +1,4 @@
-use Rattle.std.proofs.Common.{◌≡◌, ℕ, ◌≤◌, length, subst, arith}
+use Rattle.std.proofs.Common.{◌≡◌, ℕ, length, subst, arith}
 use Rattle.explain.specs.Steps.{IsFilledTo}
 use Rattle.explain.proofs.Raising.{filled_none}
 use Rattle.explain.proofs.until.fill_until.Goals as goal

@@ -1,4 +1,4 @@
-use Rattle.std.proofs.Common.{rules, ◌≡◌, ◌+◌, ◌≤◌, pos, w64, List, length, slice_index_or, arith}
+use Rattle.std.proofs.Common.{rules, ◌≡◌, pos, w64, length, slice_index_or, arith}
 use Rattle.std.proofs.lemmas.Int.{ints, to_z-of_z}
 use Rattle.std.proofs.lemmas.List.{get_or_default}
 use Rattle.plan_base.specs.Tables.{row}
