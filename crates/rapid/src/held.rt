@@ -6,7 +6,8 @@ ghost use Rattle.plan_base.specs.Requests.{IsKnown, quota_of, seconds_of};
 ghost use Rattle.bound_checker.specs.Claims.{IsEachKnown};
 ghost use Rattle.rapid.specs.Held.{and_at, is_same_quota, counted_of, held_of, HasPlaceBelow};
 
-use crate::known::{group_of, op_at, quota_of, request_of, slice_after, worth_of};
+use crate::known::{op_at, slice_after, worth_of};
+use bound_checker::{known_group, known_quota, request_of};
 use plan_base::{Op, Placement, RequestNo, Snapshot};
 use std::alloc::{AllocError, Global};
 
@@ -51,7 +52,7 @@ fn counted_of(snapshot: &Snapshot, quota: Option<u16>, request: RequestNo) -> u6
     ensures most { result ≤ most_seconds }
 {
     let seconds = request_of(snapshot, request).seconds;
-    if is_same_quota(quota, quota_of(snapshot, request)) {
+    if is_same_quota(quota, known_quota(snapshot, request)) {
         u64::from(seconds)
     } else {
         0
@@ -67,7 +68,7 @@ pub(crate) fn held_of(snapshot: &Snapshot, quota: Option<u16>, placement: Placem
     ensures counted { result.counted ≤ most_seconds }
 {
     let request = request_of(snapshot, placement.request);
-    let group = group_of(snapshot, placement.request);
+    let group = known_group(snapshot, placement.request);
     Held {
         placement,
         after: slice_after(snapshot, request, placement.slice),

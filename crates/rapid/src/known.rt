@@ -1,33 +1,12 @@
-// What the snapshot has of a request that it knows.
+// What the snapshot has of a group and of a start of a request.
 
-ghost use Rattle.std.specs.Prelude.{◌≡◌, ◌<◌, ◌≤◌, ◌+◌, ◌-◌, ◌↔◌, IsTrue, ℕ, length, map, Some};
+ghost use Rattle.std.specs.Prelude.{◌≡◌, ◌<◌, ◌≤◌, ◌+◌, ◌-◌, length, map};
 ghost use Rattle.plan_base.specs.Limits.{most_seconds, most_value};
-ghost use Rattle.plan_base.specs.Requests.{group_of, quota_of, IsKnown};
 ghost use Rattle.plan_base.specs.Round.{op_at};
-ghost use Rattle.plan_base.specs.Snapshot.{IsOrderly};
 ghost use Rattle.plan_base.specs.Starts.{slices_for, least_of, faded};
-ghost use Rattle.bound_checker.specs.Claims.{IsRequestOf, IsRequestInRanges};
+ghost use Rattle.bound_checker.specs.Claims.{IsRequestInRanges};
 
-use plan_base::{Op, RequestNo, RequestPart, SliceNo, Snapshot, faded, least_from, slices_for};
-
-/// A request that the snapshot has.
-pub(crate) fn request_of(snapshot: &Snapshot, request: RequestNo) -> &RequestPart
-    requires { IsKnown snapshot.now request.0 }
-    ensures is { IsRequestOf snapshot.now request.0 result.now }
-    ensures ranges { IsRequestInRanges (length snapshot.now.telescopes) result.now }
-{
-    snapshot.recall_valid();
-    snapshot.request_at(snapshot.known_place(request))
-}
-
-/// The place of the group of a request that the snapshot has.
-pub(crate) fn group_of(snapshot: &Snapshot, request: RequestNo) -> usize
-    requires { IsKnown snapshot.now request.0 }
-    ensures value { result ≡ group_of snapshot.now request.0 }
-    ensures within { result < length snapshot.now.groups }
-{
-    snapshot.group_at(snapshot.known_place(request))
-}
+use plan_base::{Op, RequestPart, SliceNo, Snapshot, faded, least_from, slices_for};
 
 /// The kind of the group at a place.
 pub(crate) fn op_at(snapshot: &Snapshot, group: usize) -> Op
@@ -35,16 +14,6 @@ pub(crate) fn op_at(snapshot: &Snapshot, group: usize) -> Op
     ensures { result ≡ op_at snapshot.now group }
 {
     snapshot.parts().groups.as_slice()[group].op
-}
-
-/// The quota that the group of a request names, if it names one.
-pub(crate) fn quota_of(snapshot: &Snapshot, request: RequestNo) -> Option<u16>
-    requires { IsKnown snapshot.now request.0 }
-    ensures value { result ≡ quota_of snapshot.now request.0 }
-    ensures within { (q : ℕ) → result ≡ Some q → q < length snapshot.now.quotas }
-{
-    let group = group_of(snapshot, request);
-    snapshot.parts().groups.as_slice()[group].quota
 }
 
 /// The slice after the last of the request, where it begins at this one.

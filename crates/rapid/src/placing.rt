@@ -12,8 +12,8 @@ ghost use Rattle.rapid.specs.Placing.{IsReady, IsPlacedSo};
 
 use crate::held::{Held, held_plan};
 use crate::inserted::Inserted;
-use crate::known::quota_of;
 use crate::seeking::{Found, earliest};
+use bound_checker::known_quota;
 use plan_base::{ListOf, Placement, RequestNo, Snapshot, listing_of};
 use std::alloc::{AllocError, Global};
 
@@ -109,7 +109,7 @@ pub(crate) fn place(
     ensures { IfOk result (IsPlacedSo snapshot.now plan.now request.0) }
 {
     snapshot.recall_valid();
-    let held = held_plan(alloc, snapshot, quota_of(snapshot, request), plan)?;
+    let held = held_plan(alloc, snapshot, known_quota(snapshot, request), plan)?;
     match earliest(alloc, snapshot, held.as_slice(), request)? {
         Some(found) => with_start(alloc, snapshot, held.as_slice(), request, &found),
         None => without_start(alloc, snapshot, plan, request),

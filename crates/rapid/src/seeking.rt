@@ -12,8 +12,8 @@ ghost use Rattle.rapid.specs.Stage.{IsStage};
 ghost use Rattle.rapid.specs.Found.{IsFound, IsFirstAt, IsSought};
 
 use crate::held::{Held, held_of};
-use crate::known::{quota_of, request_of};
 use crate::striking::{counted_kept, gone, kept, struck_ands, worth_gone};
+use bound_checker::{known_quota, request_of};
 use plan_base::{Placement, RequestNo, SliceNo, Snapshot, TelescopeNo};
 use snapshot_starts::is_possible;
 use std::alloc::{AllocError, Global};
@@ -55,7 +55,7 @@ fn qualify(
     if !is_possible(snapshot, start) {
         return Ok(None);
     }
-    let quota = quota_of(snapshot, start.request);
+    let quota = known_quota(snapshot, start.request);
     let new = held_of(snapshot, quota, start);
     let flags = struck_ands(alloc, snapshot.parts().groups.len(), &new, held)?;
     let lost = worth_gone(flags.as_slice(), &new, held);
