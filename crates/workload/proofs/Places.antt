@@ -1,5 +1,5 @@
 -- The subjects by their places, and the lines.
-use Rattle.std.proofs.Common.{◌≡◌, ℕ, ◌+◌, ◌-◌, ◌/◌, ◌%◌, ◌<◌, ◌≤◌, min, nat_lt, cond, List, length, map, get_or, slice_get, slice_index_or, take, sum_by, refl, sym, ◌∙◌, ap, arith, Some, None}
+use Rattle.std.proofs.Common.{◌≡◌, ℕ, ◌+◌, ◌-◌, ◌/◌, ◌%◌, ◌<◌, ◌≤◌, min, nat_lt, cond, Bool, true, false, List, length, map, get_or, slice_get, slice_index_or, take, sum_by, refl, sym, ◌∙◌, ap, arith, Some, None}
 use Rattle.std.specs.List.{range_with_len}
 use Rattle.std.proofs.lemmas.List.FromFn.{get_or-map-range_with_len, length-map-range_with_len}
 use Rattle.std.proofs.lemmas.List.Sums.{sum_by_more}
@@ -36,6 +36,10 @@ subject_by_place n few =
     ap (λ (ss : List Subject). get_or ss n Plan) are_by_place
     ∙ get_or-map-range_with_len by_place 0 211 n n Plan few (omega arith)
 
+either : (P : Subject → Type 0) (b : Bool) (q r : Subject) → P q → P r → P (cond b q r)
+either P true q r h g = h
+either P false q r h g = g
+
 -- in each range of places
 pub at_first : (n : ℕ) → n ≡ 0 → by_place n ≡ Open
 at_first n none = ap by_place none
@@ -67,6 +71,26 @@ in_groups n low high = grind (arith, nat_tests, low, high)
 pub at_last : (n : ℕ) → 210 ≤ n → by_place n ≡ Plan
 at_last n low = grind (arith, nat_tests, low)
 
+-- what holds of the subject of each range of places holds of that of a place
+pub of_each : (P : Subject → Type 0) (n : ℕ) → P Open → P (Instrument (class_drawn (n - 1))) → P (Telescope ((n - 3) / 2) (class_drawn ((n - 3) % 2))) → P (Night (n - 9))
+    → P (Visibility ((n - 12) / 3) ((n - 12) % 3)) → P (Grant ((n - 132) / 2) (class_drawn ((n - 132) % 2))) → P (cond (nat_lt n 210) (Submit (n - 140)) Plan) → P (by_place n)
+of_each P n opening instrument telescope night sky grant last =
+    either P (nat_lt n 1) _ _ opening
+    (either P (nat_lt n 3) _ _ instrument
+    (either P (nat_lt n 9) _ _ telescope (either P (nat_lt n 12) _ _ night (either P (nat_lt n 132) _ _ sky (either P (nat_lt n 140) _ _ grant last)))))
+
+-- whether a line asks for a plan
+abbrev pub is_plan : Subject → Bool
+is_plan Plan = true
+is_plan _ = false
+
+-- the last line alone is about a plan
+pub before_last : (n : ℕ) → n < 210 → is_plan (slice_index_or subjects n Plan) ≡ false
+before_last n few =
+    let here : nat_lt n 210 ≡ true = grind (arith, nat_tests, few) in
+    ap is_plan (subject_by_place n (omega (arith, few)))
+    ∙ of_each (λ s. is_plan s ≡ false) n refl refl refl refl refl refl (ap (λ (b : Bool). is_plan (cond b (Submit (n - 140)) Plan)) here)
+
 pub subjects_count : length subjects ≡ 211
 unfolding subjects
 subjects_count = refl
@@ -83,6 +107,11 @@ number_more number n subject few is =
 
 -- ---- the lines by their places
 
+pub line_there : (number workers n : ℕ) → n < 211 → slice_get (workload_lines number workers) n ≡ Some (line_at number workers n)
+line_there number workers n few =
+    slice_get-get_or (workload_lines number workers) n (line_at number workers n) (omega (arith, few, so_many_lines number workers))
+    ∙ ap (λ (l : List ℕ). Some l) (get_or-map-range_with_len (line_at number workers) 0 (length subjects) n n (line_at number workers n) (omega (arith, few, subjects_count)) (omega arith))
+
 abbrev with_given : ℕ → ℕ → ℕ → WorkloadSeen
 with_given number workers n = record { number = number; workers = workers; given = n }
 
@@ -97,9 +126,7 @@ pub line_here : (number workers n : ℕ) (subject : Subject) (x : ℕ) (line : L
 line_here number workers n subject x line few is now text =
     let next : n + 1 ≡ min (n + 1) (length subjects) = grind (arith, subjects_count) in
     let here : line ≡ line_at number workers n =
-    text ∙ ap (λ (y : ℕ). text_of (document workers y subject)) now ∙ ap (λ (s : Subject). text_of (document workers (number_before number n) s)) is in
-    let there : get_or (workload_lines number workers) n line ≡ line_at number workers n =
-    get_or-map-range_with_len (line_at number workers) 0 (length subjects) n n line (omega (arith, subjects_count)) (omega arith) in (
-      ap (λ (l : List ℕ). Some l) (here ∙ sym there) ∙ sym (slice_get-get_or (workload_lines number workers) n line (omega (arith, so_many_lines number workers))),
+    text ∙ ap (λ (y : ℕ). text_of (document workers y subject)) now ∙ ap (λ (s : Subject). text_of (document workers (number_before number n) s)) is in (
+      ap (λ (l : List ℕ). Some l) here ∙ sym (line_there number workers n few),
       ap (with_given number workers) next,
     )

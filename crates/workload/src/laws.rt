@@ -1,8 +1,13 @@
 // Laws of the workload, each the contract of a function that does nothing.
 
-ghost use Rattle.workload.specs.Lines.{HasSoManyLines};
+ghost use Rattle.workload.specs.Lines.{HasSoManyLines, AreReadBack};
 
 /// The law: a workload has 211 lines.
 pub fn so_many_lines()
     ensures { HasSoManyLines }
+{}
+
+/// A law: each line is read as the document that it is the text of.
+pub fn lines_are_read_back()
+    ensures { AreReadBack }
 {}

@@ -13,5 +13,5 @@ mod subject;
 mod tests;
 mod workload;
 
-pub use laws::so_many_lines;
+pub use laws::{lines_are_read_back, so_many_lines};
 pub use workload::Workload;
