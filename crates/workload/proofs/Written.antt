@@ -20,11 +20,10 @@ use Rattle.plan_json.specs.Values.{whole}
 use Rattle.plan_json.proofs.TextsBack.{texts_are_read_back}
 use Rattle.workload.specs.declared.class.Class.{Class}
 use Rattle.workload.specs.declared.class.Class.TheVariants.{OneMetre, FortyCentimetres}
-use Rattle.workload.specs.declared.request.Request.{Request}
 use Rattle.workload.specs.declared.subject.Subject.{Subject}
 use Rattle.workload.specs.declared.subject.Subject.TheVariants.{Open, Instrument, Telescope, Night, Visibility, Grant, Submit, Plan}
 use Rattle.workload.specs.Generator.{number_after, drawn_at, draw}
-use Rattle.workload.specs.Names.{class_name, instrument_name, enclosure_name, telescope_name, site_name, target_name, proposal_name}
+use Rattle.workload.specs.Names.{class_name, instrument_name, enclosure_name, telescope_name, site_name}
 use Rattle.workload.specs.Requests.{request_from, requests_from}
 use Rattle.workload.specs.Subjects.{subjects, shape_of}
 use Rattle.workload.specs.Documents.{exposure_data, configuration_data, window_data, location_data, request_data, group_data, span_data, open_data, instrument_data, telescope_data}

@@ -1,4 +1,4 @@
-use Rattle.std.proofs.Common.{◌≡◌, sym, ◌∙◌, arith}
+use Rattle.std.proofs.Common.{sym, ◌∙◌, arith}
 use Rattle.workload.proofs.Places.{subject_by_place, at_first, in_instruments, in_telescopes, in_nights, in_skies, in_grants, in_groups, at_last}
 use Rattle.workload.proofs.subject.subject_at.Goals as goal
 

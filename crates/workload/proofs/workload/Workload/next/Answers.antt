@@ -1,4 +1,4 @@
-use Rattle.std.proofs.Common.{◌≡◌, ◌∙◌, ap, arith}
+use Rattle.std.proofs.Common.{◌∙◌, ap, arith}
 use Rattle.workload.specs.Generator.{number_after}
 use Rattle.workload.specs.Subjects.{draws_of}
 use Rattle.workload.proofs.Places.{number_more, line_past, line_here}
