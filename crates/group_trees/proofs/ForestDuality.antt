@@ -10,6 +10,7 @@ use Rattle.plan_base.specs.Snapshot.{IsOrderly}
 use Rattle.plan_base.specs.Starts.{worth_at, value_of_plan}
 use Rattle.plan_base.specs.Feasible.{requests_of}
 use Rattle.plan_base.specs.Bound.{price, weight, surplus}
+use Rattle.plan_base.proofs.Duality.{telescope_part}
 use Rattle.plan_base.proofs.Totals.{total_map, total_add, total_append, total_of_naturals}
 use Rattle.group_trees.specs.Trees.{Node}
 use Rattle.group_trees.specs.Choices.{leaves}
