@@ -92,7 +92,7 @@ module _ (s : Parts) (group : GroupPart) where
       ∙ ap (λ (n : ℕ). slice_index_or (map f (listed s) ++ map f more) n d) (place_kept r k)
       ∙ get_or_append_left (map f (listed s)) (map f more) d (place_of s r) (omega arith)
 
-  seconds_kept : (r : ℕ) → IsKnown s r → seconds_of after r ≡ seconds_of s r
+  pub seconds_kept : (r : ℕ) → IsKnown s r → seconds_of after r ≡ seconds_of s r
   seconds_kept r k = kept (λ x. x.request.seconds) 0 r k
 
   observed_kept : (p : Placement) (x : ℕ) → IsKnown s p.request.0 → IsObserved after p x → IsObserved s p x
@@ -118,10 +118,10 @@ module _ (s : Parts) (group : GroupPart) where
   occupies_kept : (p : Placement) (k : ℕ) → IsKnown s p.request.0 → Occupies after p k → Occupies s p k
   occupies_kept p k h o = (o.0, subst (λ (n : ℕ). k < p.slice.0 + slices_for s.len n) (seconds_kept p.request.0 h) o.1)
 
-  share_kept : (a b : Placement) → IsKnown s a.request.0 → IsKnown s b.request.0 → ShareSlice after a b → ShareSlice s a b
+  pub share_kept : (a b : Placement) → IsKnown s a.request.0 → IsKnown s b.request.0 → ShareSlice after a b → ShareSlice s a b
   share_kept a b j k share = (share.0, share.1, occupies_kept a share.1 j share.2, occupies_kept b share.1 k share.3)
 
-  worth_kept : (p : Placement) → IsKnown s p.request.0 → worth_at after p ≡ worth_at s p
+  pub worth_kept : (p : Placement) → IsKnown s p.request.0 → worth_at after p ≡ worth_at s p
   worth_kept p k =
       let r : ℕ = p.request.0 in
       let from : List Span → ℕ = λ ws. p.slice.0 - slices_for s.len (least_of (map (λ w. w.from.0) ws)) in
@@ -139,18 +139,18 @@ module _ (s : Parts) (group : GroupPart) where
       ∙ same_sums (seconds_of after) (seconds_of s) (filter (λ r. is_quota q (quota_of s r)) rs)
       (All-weaker (IsKnown s) (λ r. seconds_of after r ≡ seconds_of s r) (λ r k. seconds_kept r k) (filter (λ r. is_quota q (quota_of s r)) rs) (All-filter (λ r. is_quota q (quota_of s r)) (IsKnown s) rs known))
 
-  kind_kept : (k : Op) (g : ℕ) → g < length s.groups → IsKind after k g → IsKind s k g
+  pub kind_kept : (k : Op) (g : ℕ) → g < length s.groups → IsKind after k g → IsKind s k g
   kind_kept k g l h d = subst (λ (x : GroupPart). x.op ≡ k) (get_or_append_left s.groups (group ∷ []) d g l) (h d)
 
   -- beyond the old groups there is the new one alone
   kind_new : (k : Op) (g : ℕ) → length s.groups ≤ g → IsKind after k g → group.op ≡ k
   kind_new k g l h = subst (λ (x : GroupPart). x.op ≡ k) (get_or-append_right s.groups (group ∷ []) (length s.groups) g group refl l ∙ one_only group (g - length s.groups)) (h group)
 
-  of_kept : (g r : ℕ) → IsKnown s r → IsOf after g r → IsOf s g r
+  pub of_kept : (g r : ℕ) → IsKnown s r → IsOf after g r → IsOf s g r
   of_kept g r k of = (k, sym (kept (λ x. x.group) 0 r k) ∙ of.1)
 
   -- the requests of an old group are those that it had
-  of_old : (g r : ℕ) → IsOrderly s → g < length s.groups → IsOf after g r → IsOf s g r
+  pub of_old : (g r : ℕ) → IsOrderly s → g < length s.groups → IsOf after g r → IsOf s g r
   of_old g r o l of =
       let len : length (map members_of s.groups) ≡ length s.groups = length-map s.groups members_of in
       let same : members after g ≡ members s g =
@@ -165,7 +165,7 @@ module _ (s : Parts) (group : GroupPart) where
       let below : g < length s.groups = subst (λ (n : ℕ). n < length s.groups) left.1 (group_known s a j) in
       (g, kind_kept OneOf g below kind, left, of_kept g b k of_b)
 
-  whole_old : (g : ℕ) (rs : List ℕ) → IsOrderly s → g < length s.groups → AllOrNone s g rs → AllOrNone after g rs
+  pub whole_old : (g : ℕ) (rs : List ℕ) → IsOrderly s → g < length s.groups → AllOrNone s g rs → AllOrNone after g rs
   whole_old g rs o l (inl all) = inl (λ r of. all r (of_old g r o l of))
   whole_old g rs o l (inr none) = inr (λ r of. none r (of_old g r o l of))
 

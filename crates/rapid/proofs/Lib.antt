@@ -1,6 +1,13 @@
 -- The proofs.
 pub mod Appended
 pub mod Newest
+pub mod Prices
+pub mod Staying
+pub mod Rebates
+pub mod Bounds
+pub mod PartSums
+pub mod Startless
+pub mod Mended
 pub mod Sums
 pub mod Telling
 pub mod Parting

@@ -1,7 +1,6 @@
 -- What an insertion makes of a certified claim.
-use Rattle.std.proofs.Common.{◌≡◌, ℕ, ◌+◌, ◌-◌, ◌<◌, ◌≤◌, ◌^◌, ℤ, pos, ◌<ℤ◌, List, [], ◌∷◌, ◌++◌, length, All, None, sym, ◌∙◌, ap, subst, length-append, arith}
+use Rattle.std.proofs.Common.{◌≡◌, ℕ, ◌+◌, ◌-◌, ◌<◌, ◌≤◌, ◌^◌, ℤ, pos, List, [], ◌∷◌, ◌++◌, length, All, sym, ◌∙◌, ap, subst, length-append, arith}
 use Rattle.std.specs.Prelude.{HoldsAt}
-use Rattle.std.proofs.lemmas.Int.{ints}
 use Rattle.std.proofs.lemmas.List.Elements.{All-push}
 use Rattle.plan_base.specs.declared.parts.Parts.{Parts}
 use Rattle.plan_base.specs.declared.parts.GroupPart.{GroupPart}
@@ -9,7 +8,7 @@ use Rattle.plan_base.specs.declared.parts.RequestPart.{RequestPart}
 use Rattle.plan_base.specs.declared.parts.Op.TheVariants.{Single}
 use Rattle.plan_base.specs.declared.claim.Placement.{Placement}
 use Rattle.plan_base.specs.declared.claim.Claim.{Claim}
-use Rattle.plan_base.specs.Requests.{Listed, listed}
+use Rattle.plan_base.specs.Requests.{listed}
 use Rattle.plan_base.specs.Snapshot.{IsOrderly}
 use Rattle.plan_base.specs.Starts.{value_of_plan}
 use Rattle.plan_base.specs.Feasible.{IsFeasible}
@@ -19,19 +18,9 @@ use Rattle.rapid.specs.declared.placing.Placing.{Placing}
 use Rattle.rapid.specs.declared.pricing.Pricing.{Pricing}
 use Rattle.rapid.specs.Insertion.{with_group, IsPlacing, IsNewPrice, IsInsertion}
 use Rattle.rapid.specs.Inside.{standing}
-use Rattle.rapid.specs.Placing.{IsReady, IsPlacedSo, IsPriceable, IsPricedSo}
+use Rattle.rapid.specs.Placing.{IsReady, IsPlacedSo, IsPricedSo}
 use Rattle.rapid.proofs.Appended.{feasible_kept, value_kept}
 use Rattle.rapid.proofs.Newest.{only_request, count_newest, newest_known, newest_at, newest_single, newest_unplaced}
-
-bound_fits : (b : ℕ) → pos b <ℤ pos (10 ^ 17) → b ≤ 10 ^ 17
-bound_fits b l = omega (arith, ints)
-
--- a request has a value in its range
-pub value_most : (s : Parts) (p : RequestPart) → IsOrderly s → 0 < length (listed s) → HoldsAt (λ x. x.request ≡ p) (listed s) (length (listed s) - 1) → p.value ≤ 288000000
-value_most s p o some h =
-    let d : Listed = record { group = 0; quota = None; request = p } in
-    let most = o.ranges.values (length (listed s) - 1) d (omega arith) in
-    subst (λ (x : RequestPart). x.value ≤ 288000000) (h d) most.1
 
 pub value_fits : (s : Parts) (plan : List Placement) (r n : ℕ) (placing : Placing) → ((xs : List Placement) → IsFeasible s xs → value_of_plan s xs < 10 ^ 12) → IsPlacedSo s plan r placing → value_of_plan s plan ≡ n → n + placing.gain < 10 ^ 12
 value_fits s plan r n placing limit placed e = let below = limit placing.placements placed.feasible in let gain = placed.gain in omega arith
@@ -52,17 +41,13 @@ module _ (before s : Parts) (claim : Claim) (group : GroupPart) (single : group.
   pub some_listed : 0 < length (listed s)
   some_listed = let c = count in omega arith
 
-  pub priceable : ((b : ℤ) → IsBound before claim.prices.0 claim.quota_prices.0 b → b <ℤ pos (10 ^ 17)) → IsPriceable s claim
-  priceable most = record {
-    count = (let c = count in let p = certified.price_count in omega arith);
-    range = certified.price_range;
-    quota_range = certified.quota_price_range;
-    bound = bound_fits claim.bound (most (pos claim.bound) certified.bound);
-  }
-
   -- the request at the last place is the group's
   pub the_last : (p : RequestPart) → HoldsAt (λ x. x.request ≡ p) (listed s) (length (listed s) - 1) → p ≡ q
   the_last p h = newest_at before group q the.1 orderly p (subst (λ (x : Parts). HoldsAt (λ y. y.request ≡ p) (listed x) (length (listed x) - 1)) whole h)
+
+  -- so the group has this request alone
+  pub only_last : (p : RequestPart) → HoldsAt (λ x. x.request ≡ p) (listed s) (length (listed s) - 1) → group.requests ≡ p ∷ []
+  only_last p h = the.1 ∙ ap (λ (x : RequestPart). x ∷ []) (sym (the_last p h))
 
   feasible : IsFeasible s claim.placements
   feasible = subst (λ (x : Parts). IsFeasible x claim.placements) (sym whole) (feasible_kept before group claim.placements ob single certified.feasible)

@@ -33,14 +33,14 @@ module _ (s : Parts) (group : GroupPart) (q : RequestPart) (only : group.request
   abbrev after : Parts
   after = with_group s group
 
-  abbrev newest : Listed
+  abbrev pub newest : Listed
   newest = record { group = length s.groups; quota = group.quota; request = q }
 
   none_after : (xs : List Listed) → xs ++ [] ≡ xs
   none_after [] = refl
   none_after (x ∷ xs) = ap (λ (l : List Listed). x ∷ l) (none_after xs)
 
-  listed_newest : listed after ≡ listed s ++ newest ∷ []
+  pub listed_newest : listed after ≡ listed s ++ newest ∷ []
   listed_newest = listed_after s group ∙ ap (λ (l : List Listed). listed s ++ l) (none_after (map (λ p. record { group = length s.groups; quota = group.quota; request = p }) group.requests) ∙ ap (map (λ (p : RequestPart). record { group = length s.groups; quota = group.quota; request = p })) only)
 
   pub count_newest : length (listed after) ≡ length (listed s) + 1
@@ -52,7 +52,7 @@ module _ (s : Parts) (group : GroupPart) (q : RequestPart) (only : group.request
   pub newest_known : IsKnown after q.request.0
   newest_known = listed_known after newest in_list
 
-  newest_as : IsListedAs after q.request.0 newest
+  pub newest_as : IsListedAs after q.request.0 newest
   newest_as = listed_as after newest o in_list
 
   pub newest_group : group_of after q.request.0 ≡ length s.groups

@@ -1,11 +1,10 @@
 -- What is known before a new request is placed and priced, and what comes of it.
-use Rattle.std.specs.Prelude.{◌≡◌, ℕ, ◌+◌, ◌≤◌, ◌^◌, ℤ, pos, List, [], ◌∷◌, ◌++◌, length, All, Contains}
+use Rattle.std.specs.Prelude.{◌≡◌, ℕ, ◌+◌, ℤ, pos, List, [], ◌∷◌, ◌++◌, Contains}
 use Rattle.plan_base.specs.declared.parts.Parts.{Parts}
 use Rattle.plan_base.specs.declared.parts.Op.TheVariants.{Single}
 use Rattle.plan_base.specs.declared.claim.Placement.{Placement}
 use Rattle.plan_base.specs.declared.claim.Claim.{Claim}
-use Rattle.plan_base.specs.Limits.{most_quota_price}
-use Rattle.plan_base.specs.Requests.{listed, IsKnown, group_of, IsKind}
+use Rattle.plan_base.specs.Requests.{IsKnown, group_of, IsKind}
 use Rattle.plan_base.specs.Starts.{value_of_plan}
 use Rattle.plan_base.specs.Feasible.{requests_of, IsFeasible}
 use Rattle.plan_base.specs.Bound.{IsBound}
@@ -13,6 +12,7 @@ use Rattle.plan_base.specs.Verdict.{IsPriceInRange}
 use Rattle.rapid.specs.declared.placing.Placing.{Placing}
 use Rattle.rapid.specs.declared.pricing.Pricing.{Pricing}
 use Rattle.rapid.specs.Insertion.{IsPlacing, IsNewPrice}
+use Rattle.rapid.specs.Bests.{AreBests}
 
 -- request r is the one of a SINGLE, and the plan is feasible and doesn't place it
 pub record IsReady (s : Parts) (plan : List Placement) (r : ℕ) : Type 0 where
@@ -27,17 +27,11 @@ pub record IsPlacedSo (s : Parts) (plan : List Placement) (r : ℕ) (p : Placing
   pub feasible : IsFeasible s p.placements
   pub gain : value_of_plan s p.placements ≡ value_of_plan s plan + p.gain
 
--- the old prices are those of all requests but the last, and the numbers are in their ranges
-pub record IsPriceable (s : Parts) (claim : Claim) : Type 0 where
-  pub count : length claim.prices.0 + 1 ≡ length (listed s)
-  pub range : All IsPriceInRange claim.prices.0
-  pub quota_range : All (λ u. u ≤ most_quota_price) claim.quota_prices.0
-  pub bound : claim.bound ≤ 10 ^ 17
-
--- the last request has this price beside the old ones, and this is their bound
+-- the last request has this price beside the old ones, and these are their bests and their bound
 pub record IsPricedSo (s : Parts) (claim : Claim) (value : ℕ) (p : Pricing) : Type 0 where
   pub price : ℤ
   pub new_price : IsNewPrice s claim value price
   pub in_range : IsPriceInRange price
   pub prices : p.prices.0 ≡ claim.prices.0 ++ price ∷ []
+  pub bests : AreBests s p.prices.0 p.bests
   pub bound : IsBound s p.prices.0 claim.quota_prices.0 (pos p.bound)

@@ -28,7 +28,8 @@ pub(crate) fn slice_after(snapshot: &Snapshot, request: &RequestPart, slice: Sli
 /// What the request is worth where it begins at this slice.
 pub(crate) fn worth_of(snapshot: &Snapshot, request: &RequestPart, slice: SliceNo) -> u64
     requires { IsRequestInRanges (length snapshot.now.telescopes) request.now }
-    ensures value { result ≡ faded request.now.value request.now.fade (slice.0 - slices_for snapshot.now.len (least_of (map (λ w. w.from.0) request.now.windows))) }
+    ensures value { result ≡ faded request.now.value request.now.fade
+        (slice.0 - slices_for snapshot.now.len (least_of (map (λ w. w.from.0) request.now.windows))) }
     ensures most { result ≤ most_value }
 {
     let len = u64::from(snapshot.parts().len);

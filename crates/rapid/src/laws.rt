@@ -15,7 +15,8 @@ use crate::rapid::Rapid;
 /// After every list of insertions the claim is certified for the snapshot with all groups at its end, and its bound is the
 /// one that its prices give, worked out from scratch.
 pub fn insertions_are_certified(rapid: &Rapid)
-    ensures snapshot { (groups : List GroupPart) (after : Standing) → InsertsEach rapid.now groups after → after.snapshot ≡ with_groups rapid.now.snapshot groups }
+    ensures snapshot { (groups : List GroupPart) (after : Standing) → InsertsEach rapid.now groups after
+        → after.snapshot ≡ with_groups rapid.now.snapshot groups }
     ensures certified { (groups : List GroupPart) (after : Standing) → InsertsEach rapid.now groups after → IsCertified after.snapshot after.claim }
     ensures bound { (groups : List GroupPart) (after : Standing) → InsertsEach rapid.now groups after
         → (bound : ℤ) → IsBound after.snapshot after.claim.prices.0 after.claim.quota_prices.0 bound → bound ≡ pos after.claim.bound }

@@ -1,6 +1,7 @@
 // One more request put into a plan that stands, with its bound.
 #![tactic(auto)]
 
+mod bests;
 mod document;
 mod fault;
 mod held;

@@ -7,17 +7,18 @@ ghost use Rattle.plan_base.specs.Verdict.{IsCertified};
 ghost use Rattle.plan_base.specs.declared.parts.GroupPart.{GroupPart};
 ghost use Rattle.plan_base.specs.declared.parts.Op.TheVariants.{Single};
 ghost use Rattle.rapid.specs.Insertion.{with_group};
+ghost use Rattle.rapid.specs.Bests.{AreBests};
 ghost use Rattle.rapid.specs.Refused.{is_single, refusal_of, IsGroupInRanges};
 ghost use Rattle.rapid.specs.Inside.{IsExtended, IsMadeOf};
 ghost use Rattle.rapid.specs.declared.fault.RapidFault.TheVariants.{NoMemory};
 
+use crate::bests::Extension;
 use crate::fault::RapidFault;
 use crate::inserted::Inserted;
 use crate::placing::place;
 use crate::pricing::price;
 use plan_base::{
-    Claim, GroupPart, ListOf, Op, QuotaPrices, RequestNo, RequestPart, Snapshot, bound_limit,
-    value_limit,
+    Claim, GroupPart, ListOf, Op, QuotaPrices, RequestNo, RequestPart, Snapshot, value_limit,
 };
 use std::alloc::{AllocError, Global};
 
@@ -26,6 +27,8 @@ use std::alloc::{AllocError, Global};
 pub(crate) struct Made {
     pub snapshot: Snapshot,
     pub claim: Claim,
+    /// The best of each telescope at the claim's prices.
+    pub bests: ListOf<i64>,
     pub displaced: ListOf<RequestNo>,
     pub inserted: Inserted,
 }
@@ -76,19 +79,29 @@ fn place_and_price(
     alloc: Global,
     before: &Snapshot,
     claim: &Claim,
+    bests: &[i64],
     snapshot: Snapshot,
 ) -> Result<Made, AllocError>
     requires certified { IsCertified before.now claim.now }
+    requires bests { AreBests before.now claim.now.prices.0 bests.now }
     requires extended { IsExtended before.now snapshot }
-    ensures { IfOk result (λ made. (group : GroupPart) → group.op ≡ Single → snapshot ≡ with_group before.now group → IsMadeOf before.now claim.now group made) }
+    ensures bests { IfOk result (λ made. AreBests made.snapshot made.claim.prices.0 made.bests) }
+    ensures made { IfOk result (λ made. (group : GroupPart) → group.op ≡ Single → snapshot ≡ with_group before.now group
+        → IsMadeOf before.now claim.now group made) }
 {
     before.recall_valid();
     snapshot.recall_valid();
-    bound_limit(before, &claim.prices, &claim.quota_prices);
     value_limit(&snapshot);
     let request = last_request(&snapshot);
     let number = request.request;
-    let pricing = price(alloc, &snapshot, claim, request.value)?;
+    let extension = Extension {
+        before,
+        claim,
+        bests,
+        snapshot: &snapshot,
+        request,
+    };
+    let pricing = price(alloc, &extension)?;
     let placing = place(alloc, &snapshot, claim.placements.as_slice(), number)?;
     let claim = Claim {
         placements: placing.placements,
@@ -100,6 +113,7 @@ fn place_and_price(
     Ok(Made {
         snapshot,
         claim,
+        bests: pricing.bests,
         displaced: placing.displaced,
         inserted: placing.inserted,
     })
@@ -110,14 +124,17 @@ pub(crate) fn make(
     alloc: Global,
     snapshot: &Snapshot,
     claim: &Claim,
+    bests: &[i64],
     group: GroupPart,
 ) -> Result<Made, RapidFault>
     requires ranges { IsGroupInRanges group }
     requires certified { IsCertified snapshot.now claim.now }
+    requires bests { AreBests snapshot.now claim.now.prices.0 bests.now }
+    ensures bests { IfOk result (λ made. AreBests made.snapshot made.claim.prices.0 made.bests) }
     ensures ok { IfOk result (IsMadeOf snapshot.now claim.now group) }
     ensures accepted { OnOk result (refusal_of snapshot.now group ≡ None) }
     ensures err { IfErr result (λ fault. fault ≢ NoMemory → refusal_of snapshot.now group ≡ Some fault) }
 {
     let extended = with_group(alloc, snapshot, group)?;
-    Ok(place_and_price(alloc, snapshot, claim, extended)?)
+    Ok(place_and_price(alloc, snapshot, claim, bests, extended)?)
 }

@@ -1,20 +1,22 @@
 // The price of a new request, and the bound with it.
 
-ghost use Rattle.std.specs.Prelude.{◌≡◌, ◌∷◌, ◌++◌, ◌≤◌, [], pos, IfOk, All, length};
-ghost use Rattle.plan_base.specs.Limits.{most_value};
-ghost use Rattle.plan_base.specs.Requests.{listed};
+ghost use Rattle.std.specs.Prelude.{◌≡◌, ◌∷◌, ◌++◌, ◌<◌, ◌^◌, [], ℤ, pos, ◌+ℤ◌, ◌-ℤ◌, ◌≤ℤ◌, IfOk};
 ghost use Rattle.plan_base.specs.Bound.{IsBound};
 ghost use Rattle.plan_base.specs.Verdict.{IsPriceInRange};
-ghost use Rattle.rapid.specs.Placing.{IsPriceable, IsPricedSo};
+ghost use Rattle.bound_checker.specs.Summed.{IsPartSum};
+ghost use Rattle.rapid.specs.Bests.{AreBests, IsPriceable, AreMorePrices};
+ghost use Rattle.rapid.specs.Placing.{IsPricedSo};
 
-use bound_checker::bound_of;
-use plan_base::{Claim, ListOf, Prices, Snapshot};
+use crate::bests::{Extension, best_sum, mended_bests};
+use bound_checker::rebate_of;
+use plan_base::{ListOf, Prices, bound_limit};
 use std::alloc::{AllocError, Global};
 
-/// Prices, and the bound that they give with the quota prices that stand.
+/// Prices, the best of each telescope at them, and the bound that they give with the quota prices that stand.
 #[derive(Debug, Drop)]
 pub(crate) struct Pricing {
     pub prices: Prices,
+    pub bests: ListOf<i64>,
     pub bound: u64,
 }
 
@@ -27,39 +29,71 @@ fn with_price(alloc: Global, prices: &Prices, price: i64) -> Result<Prices, Allo
     Ok(Prices(ListOf::from_vec(list)))
 }
 
-/// The prices with this one for the last request, and their bound. Fails only for want of memory.
-fn priced(
-    alloc: Global,
-    snapshot: &Snapshot,
-    claim: &Claim,
-    price: i64,
-) -> Result<Pricing, AllocError>
-    requires priceable { IsPriceable snapshot.now claim.now }
-    requires range { IsPriceInRange price }
-    ensures prices { IfOk result (λ p. p.prices.0 ≡ claim.now.prices.0 ++ price ∷ []) }
-    ensures bound { IfOk result (λ p. IsBound snapshot.now p.prices.0 claim.now.quota_prices.0 (pos p.bound)) }
+/// The bound where the sum of the bests is a new one, and one more group has a rebate.
+fn mended_bound(bound: u64, old: i64, new: i64, rebate: i64) -> u64
+    requires bound { bound < 10 ^ 17 }
+    requires old { IsPartSum old }
+    requires new { IsPartSum new }
+    requires rebate { IsPartSum rebate }
+    requires least { pos 0 ≤ℤ (pos bound -ℤ old +ℤ new +ℤ rebate) }
+    ensures { pos result ≡ (pos bound -ℤ old +ℤ new +ℤ rebate) }
 {
-    let prices = with_price(alloc, &claim.prices, price)?;
-    let bound = bound_of(alloc, snapshot, &prices, &claim.quota_prices)?;
-    Ok(Pricing { prices, bound })
+    (bound as i64 - old + new + rebate) as u64
 }
 
-/// The old prices with one for the last request, which has this value: 0 where the bound is then below the old one and the
-/// value together, else the value. Fails only for want of memory.
-pub(crate) fn price(
-    alloc: Global,
-    snapshot: &Snapshot,
-    claim: &Claim,
-    value: u32,
-) -> Result<Pricing, AllocError>
-    requires priceable { IsPriceable snapshot.now claim.now }
-    requires value { value ≤ most_value }
-    ensures { IfOk result (IsPricedSo snapshot.now claim.now value) }
+/// The bound of these prices, which have these bests: that of the prices before with the bests exchanged, and what the new
+/// group gives.
+fn bound_with(extension: &Extension, prices: &Prices, bests: &[i64]) -> u64
+    requires priceable { IsPriceable extension.now }
+    requires prices { (price : ℤ) × AreMorePrices extension.now.claim.now price prices.now.0 }
+    requires bests { AreBests extension.now.snapshot.now prices.now.0 bests.now }
+    ensures { IsBound extension.now.snapshot.now prices.now.0 extension.now.claim.now.quota_prices.0 (pos result) }
 {
-    let free = priced(alloc, snapshot, claim, 0)?;
+    let claim = extension.claim;
+    extension.before.recall_valid();
+    extension.snapshot.recall_valid();
+    bound_limit(extension.before, &claim.prices, &claim.quota_prices);
+    bound_limit(extension.snapshot, prices, &claim.quota_prices);
+    let old = best_sum(extension.before, &claim.prices, extension.bests);
+    let new = best_sum(extension.snapshot, prices, bests);
+    let last = extension.snapshot.parts().groups.len() - 1;
+    let rebate = rebate_of(extension.snapshot, last, prices, &claim.quota_prices);
+    mended_bound(claim.bound, old, new, rebate)
+}
+
+/// The prices with this one for the new request, their bests and their bound. Fails only for want of memory.
+fn priced(alloc: Global, extension: &Extension, price: i64) -> Result<Pricing, AllocError>
+    requires priceable { IsPriceable extension.now }
+    requires range { IsPriceInRange price }
+    ensures prices { IfOk result (λ p. p.prices.0 ≡ extension.now.claim.now.prices.0 ++ price ∷ []) }
+    ensures bests { IfOk result (λ p. AreBests extension.now.snapshot.now p.prices.0 p.bests) }
+    ensures bound { IfOk result (λ p. IsBound extension.now.snapshot.now p.prices.0 extension.now.claim.now.quota_prices.0 (pos p.bound)) }
+{
+    let prices = with_price(alloc, &extension.claim.prices, price)?;
+    let bests = mended_bests(alloc, extension, &prices, price)?;
+    let bound = bound_with(extension, &prices, bests.as_slice());
+    Ok(Pricing {
+        prices,
+        bests,
+        bound,
+    })
+}
+
+/// The old prices with one for the new request: 0 where the bound is then below the old one and the request's value
+/// together, else the value. Fails only for want of memory.
+pub(crate) fn price(alloc: Global, extension: &Extension) -> Result<Pricing, AllocError>
+    requires { IsPriceable extension.now }
+    ensures { IfOk result (IsPricedSo extension.now.snapshot.now extension.now.claim.now extension.now.request.now.value) }
+{
+    let claim = extension.claim;
+    let value = extension.request.value;
+    extension.before.recall_valid();
+    extension.snapshot.recall_valid();
+    bound_limit(extension.before, &claim.prices, &claim.quota_prices);
+    let free = priced(alloc, extension, 0)?;
     if free.bound < claim.bound + u64::from(value) {
         return Ok(free);
     }
-    let full = priced(alloc, snapshot, claim, i64::from(value))?;
+    let full = priced(alloc, extension, i64::from(value))?;
     Ok(full)
 }

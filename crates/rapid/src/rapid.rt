@@ -8,6 +8,7 @@ ghost use Rattle.rapid.specs.Insertion.{IsInsertion};
 ghost use Rattle.rapid.specs.Answer.{IsAnswer};
 ghost use Rattle.rapid.specs.declared.fault.RapidFault.TheVariants.{NoMemory};
 
+use crate::bests::bests_of;
 use crate::fault::RapidFault;
 use crate::inserted::Inserted;
 use crate::making::make;
@@ -17,12 +18,14 @@ use std::alloc::{AllocError, Global};
 use std::marker::Model;
 
 /// A snapshot with a claim that is certified for it. Groups of one request are inserted one after another, and the claim
-/// stays certified, its bound that of its prices. Contracts see the snapshot, the claim, and the requests that the last
+/// stays certified, its bound that of its prices. The best of each telescope is kept, so that an insertion makes only those
+/// anew that its request may change. Contracts see the snapshot, the claim, and the requests that the last
 /// insertion displaced.
 #[derive(Debug, Drop)]
 pub struct Rapid {
     snapshot: Snapshot,
     claim: Claim,
+    bests: ListOf<i64>,
     displaced: ListOf<RequestNo>,
     alloc: Global,
 }
@@ -30,12 +33,13 @@ pub struct Rapid {
 impl Model for Rapid {
     ghost use Rattle.plan_base.specs.Verdict.{IsCertified};
     ghost use Rattle.rapid.specs.Standing.{Standing};
+    ghost use Rattle.rapid.specs.Bests.{AreBests};
 
     ghost Value = { Standing };
 
     ghost view = { λ a. record { snapshot = a.snapshot; claim = a.claim; displaced = a.displaced } };
 
-    ghost invariant = { λ a. IsCertified a.snapshot a.claim };
+    ghost invariant = { λ a. IsCertified a.snapshot a.claim × AreBests a.snapshot a.claim.prices.0 a.bests };
 }
 
 /// Whether groups can be inserted into a claim.
@@ -54,12 +58,16 @@ impl Rapid {
         ensures { IfOk result (IsAnswer snapshot.now claim) }
     {
         match check(alloc, snapshot, &claim)? {
-            Verdict::Yes { .. } => Ok(RapidAnswer::Ready(Rapid {
-                snapshot: snapshot.clone()?,
-                claim,
-                displaced: ListOf::new(alloc),
-                alloc,
-            })),
+            Verdict::Yes { .. } => {
+                let bests = bests_of(alloc, snapshot, &claim.prices)?;
+                Ok(RapidAnswer::Ready(Rapid {
+                    snapshot: snapshot.clone()?,
+                    claim,
+                    bests,
+                    displaced: ListOf::new(alloc),
+                    alloc,
+                }))
+            }
             Verdict::No(reason) => Ok(RapidAnswer::No(reason)),
         }
     }
@@ -79,9 +87,11 @@ impl Rapid {
         ensures err { OnErr result (self.new ≡ self.old) }
         ensures fault { IfErr result (λ fault. fault ≢ NoMemory → refusal_of self.old.snapshot group ≡ Some fault) }
     {
-        let made = make(self.alloc, &self.snapshot, &self.claim, group)?;
+        let bests = self.bests.as_slice();
+        let made = make(self.alloc, &self.snapshot, &self.claim, bests, group)?;
         self.snapshot = made.snapshot;
         self.claim = made.claim;
+        self.bests = made.bests;
         self.displaced = made.displaced;
         Ok(made.inserted)
     }

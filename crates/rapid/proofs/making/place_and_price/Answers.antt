@@ -1,21 +1,23 @@
 use Rattle.std.proofs.Common.{List, refl, sym, subst, arith}
 use Rattle.plan_base.specs.declared.claim.Placement.{Placement}
 use Rattle.rapid.specs.Placing.{IsReady, IsPlacedSo}
-use Rattle.rapid.proofs.Made.{some_listed, priceable, value_most, value_fits, the_last, ready, value_same, insertion}
+use Rattle.rapid.proofs.Made.{some_listed, only_last, value_fits, the_last, ready, value_same, insertion}
 use Rattle.rapid.proofs.making.place_and_price.Goals as goal
 
 pub last_request-request-requires : goal.last_request-request-requires
 last_request-request-requires c =
     some_listed c.args.before.now c.args.snapshot c.args.claim.now c.requires.extended.group c.requires.extended.single c.requires.extended.whole c.recall_valid.ensures.orderly c.recall_valid-2.ensures.orderly c.requires.certified
 
-pub price-requires-clause-priceable : goal.price-requires-clause-priceable
-price-requires-clause-priceable c =
-    priceable c.args.before.now c.args.snapshot c.args.claim.now c.requires.extended.group c.requires.extended.single c.requires.extended.whole c.recall_valid.ensures.orderly c.recall_valid-2.ensures.orderly c.requires.certified c.bound_limit.ensures.most
-
-pub price-requires-clause-value : goal.price-requires-clause-value
-price-requires-clause-value c = value_most c.args.snapshot c.last_request-request.result.now c.recall_valid-2.ensures.orderly
-    (some_listed c.args.before.now c.args.snapshot c.args.claim.now c.requires.extended.group c.requires.extended.single c.requires.extended.whole c.recall_valid.ensures.orderly c.recall_valid-2.ensures.orderly c.requires.certified)
-    c.last_request-request.ensures
+pub price-requires : goal.price-requires
+price-requires c = record {
+  group = c.requires.extended.group;
+  single = c.requires.extended.single;
+  only = only_last c.args.before.now c.args.snapshot c.args.claim.now c.requires.extended.group c.requires.extended.single c.requires.extended.whole c.recall_valid.ensures.orderly c.recall_valid-2.ensures.orderly c.requires.certified
+      c.last_request-request.result.now c.last_request-request.ensures;
+  whole = c.requires.extended.whole;
+  certified = c.requires.certified;
+  are_bests = c.requires.bests;
+}
 
 pub place-requires : goal.place-requires
 place-requires c =
@@ -33,8 +35,11 @@ overflow_add-claim c =
     in
     omega arith
 
-pub returns : goal.returns
-returns c = λ group single whole.
+pub returns-clause-bests : goal.returns-clause-bests
+returns-clause-bests c = c.in_ok-pricing.ensures.bests
+
+pub returns-clause-made : goal.returns-clause-made
+returns-clause-made c = λ group single whole.
     insertion c.args.before.now c.args.snapshot c.args.claim.now group single whole c.recall_valid.ensures.orderly c.recall_valid-2.ensures.orderly c.requires.certified c.last_request-request.result.now
     (the_last c.args.before.now c.args.snapshot c.args.claim.now group single whole c.recall_valid.ensures.orderly c.recall_valid-2.ensures.orderly c.requires.certified c.last_request-request.result.now c.last_request-request.ensures)
     c.in_ok-placing.placing c.in_ok-pricing.pricing _

@@ -6,7 +6,7 @@ use Rattle.rapid.proofs.Standings.{insertion_from}
 use Rattle.rapid.proofs.rapid.Rapid.insert.Goals as goal
 
 pub make-requires-clause-certified : goal.make-requires-clause-certified
-make-requires-clause-certified c = c.self.invariant
+make-requires-clause-certified c = c.self.invariant.0
 
 pub returns : goal.returns
 returns c =
