@@ -1,4 +1,4 @@
-// The book of a desk: which lines each caller sends, what was done of them, and the state that this leaves.
+// The book of a desk: what a line does to the state, which lines each caller sends, what was done of them, and the state that this leaves.
 #![tactic(auto)]
 
 mod book;
@@ -8,5 +8,6 @@ mod same;
 mod step;
 
 pub use book::Book;
+pub use doing::{apply_read, is_plan, publish_found, read_line, take_for};
 pub use laws::{one_replay, one_reply, over_is_whole, text_tells_history, versions_count};
 pub use step::{BookCall, BookStep, PublishStep};

@@ -1,5 +1,5 @@
 -- The lines that are read and done, what was written of their replies, and what is gathered.
-use Rattle.std.proofs.Common.{◌≡◌, ℕ, ◌+◌, ◌≤◌, List, [], ◌∷◌, ◌++◌, length, true, false, ◌⊎◌, refl, sym}
+use Rattle.std.proofs.Common.{◌≡◌, ℕ, ◌+◌, ◌≤◌, ◌<◌, List, [], ◌∷◌, ◌++◌, length, true, false, ◌⊎◌, refl, sym}
 use Rattle.std.proofs.Common.{◌∙◌, ap, subst, arith, inl, inr, Some, None, Result, Ok, Err, OnErr, append_assoc, append-nil}
 use Rattle.std.specs.declared.option.Option.{Option}
 use Rattle.std.specs.declared.alloc.AllocError.{AllocError}
@@ -20,10 +20,9 @@ use Rattle.desk_events.specs.Line.{command_of_line}
 use Rattle.desk_events.specs.Entry.{text_of_entry, text_of_history}
 use Rattle.desk_core.specs.Desk.{StateSeen, start}
 use Rattle.session.specs.Line.{DoesLine, BeginsLine, AddsLine}
-use Rattle.session.specs.Session.{IsSound, AreFirst, WritesFront, Gathers, IsGathered, IsCutOff, IsEnded, IsWrittenOn}
-use Rattle.session.proofs.Done.{AreDone, at_end, one_more, are_more, does_version, sound_done, whole_done}
+use Rattle.session.specs.Session.{AreFirst, WritesFront, Gathers, IsGathered, IsCutOff, IsEnded, IsWrittenOn}
+use Rattle.session.proofs.Done.{AreDone, done_none, one_more, are_more, does_version, sound_done, sound_begun, whole_done}
 use Rattle.session.proofs.Written.{adds_none, adds_twice, front_all, front_after, front_put}
-use Rattle.session.proofs.Played.{played_none, sound_begun}
 
 -- the reader of a session before the first line
 abbrev pub first_reader : LinesSeen
@@ -47,7 +46,7 @@ going_start a w replies none = record {
   lines = [];
   history = [];
   read = so_far_start first_reader a refl;
-  are = λ rest. played_none rest;
+  are = done_none;
   count = refl;
   gathers = ([], adds_none w, sym none);
   version = omega arith;
@@ -145,6 +144,10 @@ pub few_done : (a b c w w' : Option (List ℕ)) (old new : LinesSeen) (replies :
     → NextLine a b c w w' old new replies done s line → done + 1 ≤ 65536
 few_done a b c w w' old new replies done s line n = omega (arith, n.few, one_more n.going.lines line, n.going.count)
 
+-- there is room for the line
+room : (lines : List ScriptLine) (line : ScriptLine) → length (lines ++ line ∷ []) ≤ 65536 → length lines < 65536
+room lines line few = omega (arith, one_more lines line, few)
+
 -- the line was done
 pub going_line : (a b c w w' : Option (List ℕ)) (old new : LinesSeen) (replies after : List ℕ) (done : ℕ) (s t : StateSeen) (line : ScriptLine) (unit : Unit {0})
     → NextLine a b c w w' old new replies done s line → AddsLine s t (done + 1) (command_of_line line) replies after (Ok unit) → Going a c w w' new after (done + 1) t
@@ -156,7 +159,7 @@ going_line a b c w w' old new replies after done s t line unit n l =
       lines = d.lines ++ line ∷ [];
       history = d.history ++ l.0;
       read = n.read;
-      are = are_more d.lines line d.history l.0 s t d.are does;
+      are = are_more d.lines line d.history l.0 s t d.are (room d.lines line n.few) does;
       count = sym (one_more d.lines line) ∙ ap (λ (k : ℕ). k + 1) d.count;
       gathers = gathers_more w w' replies after d.history l.0 d.gathers l.2;
       version = omega (arith, does_version s t (done + 1) (command_of_line line) l.0 l.1);
@@ -190,10 +193,6 @@ pub gathered_none : (a w : Option (List ℕ)) (replies : List ℕ) → replies �
 gathered_none a w replies none = gathered_here a a w w first_reader replies 0 start (going_start a w replies none)
 
 -- memory was wanting within a line
-sound_line : (lines : List ScriptLine) (line : ScriptLine) (h es : List EventEntry) (s : StateSeen) → AreDone lines h s → BeginsLine s (length lines + 1) (command_of_line line) es
-    → IsSound (lines ++ line ∷ []) (h ++ es)
-sound_line lines line h es s d l = sound_begun (lines ++ line ∷ []) (length lines) h s line es (d (line ∷ [])) (omega (arith, one_more lines line)) (at_end lines [] line) l
-
 pub gathered_line : (a b c w w' : Option (List ℕ)) (old new : LinesSeen) (replies after : List ℕ) (done : ℕ) (s t : StateSeen) (line : ScriptLine) (error : AllocError)
     → NextLine a b c w w' old new replies done s line
     → AddsLine s t (done + 1) (command_of_line line) replies after (Err error) → IsGathered a w w' after
@@ -205,7 +204,7 @@ gathered_line a b c w w' old new replies after done s t line error n l =
       history = d.history ++ l.0;
       first = first_of a c (d.lines ++ line ∷ []) new n.read;
       few = n.few;
-      sound = sound_line d.lines line d.history l.0 s d.are begins;
+      sound = sound_begun d.lines line d.history l.0 s d.are (room d.lines line n.few) begins;
       gathers = gathers_more w w' replies after d.history l.0 d.gathers l.2;
     }
 

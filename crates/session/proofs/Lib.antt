@@ -1,11 +1,13 @@
+pub mod Alike
 pub mod Done
 pub mod Going
-pub mod Histories
 pub mod LineTexts
 pub mod Numbers
+pub mod OneHistory
+pub mod OnePlanned
+pub mod OneSummary
 pub mod Plans
-pub mod Played
-pub mod Stepping
+pub mod Reading
 pub mod Tallies
 pub mod Told
 pub mod Turns

@@ -11,7 +11,8 @@ use Rattle.desk_events.specs.declared.entry.What.TheVariants.{Line, Take, Publis
 use Rattle.desk_events.specs.Entry.{text_of_entry, text_of_history}
 use Rattle.desk_core.specs.Desk.{StateSeen}
 use Rattle.desk_core.specs.History.{IsPlanning, after_publish}
-use Rattle.session.specs.Line.{IsPlanReply, IsStepDone, step_entry, take_entry, publish_entry, AddsLine, AddsPublish}
+use Rattle.desk_book.specs.Doing.{IsStepDone}
+use Rattle.session.specs.Line.{IsPlanReply, step_entry, take_entry, publish_entry, AddsLine, AddsPublish}
 
 -- the text of one entry, and of two
 one_text : (e : EventEntry) → text_of_history (e ∷ []) ≡ text_of_entry e

@@ -1,32 +1,37 @@
--- What the Publish of a plan replies.
-use Rattle.std.proofs.Common.{◌≡◌, sym, subst, inl, Result, Ok, Err, IfOk}
-use Rattle.std.specs.declared.alloc.AllocError.{AllocError}
+-- What is taken for a plan of the desk, and what its Publish replies.
+use Rattle.std.proofs.Common.{◌≡◌, ℕ, IfSome, sym, ap, subst}
+use Rattle.std.specs.declared.option.Option.{Option}
 use Rattle.plan_base.specs.declared.claim.Claim.{Claim}
-use Rattle.plan_base.specs.declared.claim.Settings.{Settings}
-use Rattle.plan_base.specs.declared.taken.Outcome.{Outcome}
-use Rattle.plan_base.specs.declared.taken.Outcome.TheVariants.{Plan}
+use Rattle.plan_base.specs.declared.parts.Parts.{Parts}
 use Rattle.plan_base.specs.declared.taken.Taken.{Taken as TakenParts}
-use Rattle.plan_base.specs.Planned.{IsPlanned}
-use Rattle.plan_base.specs.Snapshot.{IsOrderly}
-use Rattle.plan_base.specs.Solved.{IsOutcome}
 use Rattle.desk_events.specs.declared.reply.Reply.{Reply}
 use Rattle.desk_events.specs.declared.reply.Reply.TheVariants.{Published}
-use Rattle.desk_core.specs.Desk.{StateSeen}
-use Rattle.session.specs.Line.{IsTakenOf, IsDeskClaim, IsPlanReply}
-use Rattle.session.proofs.Stepping.{bounded_claim}
+use Rattle.desk_core.specs.Desk.{DeskSeen, StateSeen}
+use Rattle.desk_core.specs.History.{IsPublication}
+use Rattle.desk_core.specs.Kept.{IsOpenedWith, IsDesk, IsState}
+use Rattle.desk_book.specs.Claims.{IsDeskClaim}
+use Rattle.desk_book.specs.Doing.{IsTakenOf}
+use Rattle.lanes.specs.Solving.{IsInRange}
+use Rattle.session.specs.Line.{IsPlanReply}
 
--- a claim that was planned for what was taken of the desk
-desk_claim : (s : StateSeen) (taken : TakenParts) (claim : Claim) → IsTakenOf s taken → IsOutcome taken.snapshot taken.settings (Plan claim) → IsOrderly taken.snapshot → IsDeskClaim s claim
-desk_claim s taken claim of planned order = record {
-  parts = taken.snapshot;
-  snapshot = (of.0, of.1, of.2);
-  few = planned.1;
-  bounded = bounded_claim taken.snapshot claim order planned.0.certified;
-  planned = (of.0, of.1, subst (λ (x : Settings). IsPlanned taken.snapshot x claim) of.3 planned.0);
+-- the settings that a plan is sought with are in their ranges
+pub settings_in_range : (s : StateSeen) (taken : TakenParts) → IsState s → IsTakenOf s taken → IsInRange taken.settings
+settings_in_range s taken state of =
+    let desk : IsDesk of.0 = subst (λ (o : Option DeskSeen). IfSome o IsDesk) of.1 state.desk in
+    let ranges : IsOpenedWith of.0.opening = desk.opening in
+    subst IsInRange (sym of.3) (record {
+      some_lanes = ranges.lanes.low;
+      few_lanes = ranges.lanes.high;
+      some_rounds = ranges.rounds.low;
+      few_rounds = ranges.rounds.high;
+      some_workers = ranges.workers.low;
+      few_workers = ranges.workers.high;
+    })
+
+-- nothing was accepted since what was taken, so it isn't stale
+pub plan_replied : (s : StateSeen) (taken : TakenParts) (reply : Reply) → IsTakenOf s taken → IsPublication s taken.snapshot.version reply
+    → ((claim : Claim) → reply ≡ Published claim → IsDeskClaim s claim) → IsPlanReply s reply
+plan_replied s taken reply of publication claims = record {
+  publication = subst (λ (v : ℕ). IsPublication s v reply) (ap (λ (p : Parts). p.version) of.2) publication;
+  claims = claims;
 }
-
-pub plan_replied : (s : StateSeen) (asked taken : TakenParts) (found : Outcome) (claim : Claim) (result : Result Reply AllocError) → IsTakenOf s asked → taken ≡ asked
-    → IsOutcome taken.snapshot taken.settings found → found ≡ Plan claim → IsOrderly taken.snapshot → IfOk result (λ told. told ≡ Published claim) → IfOk result (IsPlanReply s)
-plan_replied s asked taken found claim (Err error) of same out is order told = tt
-plan_replied s asked taken found claim (Ok reply) of same out is order told =
-    inl (claim, told, desk_claim s taken claim (subst (λ (t : TakenParts). IsTakenOf s t) (sym same) of) (subst (IsOutcome taken.snapshot taken.settings) is out) order)

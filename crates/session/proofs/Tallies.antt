@@ -19,21 +19,20 @@ use Rattle.workload.proofs.Places.{so_many_lines, subjects_count}
 use Rattle.session.specs.declared.summary.Summary.{Summary}
 use Rattle.session.specs.Line.{RepliesAtLast, DoesLine, step_entry, take_entry, publish_entry}
 use Rattle.session.specs.Summary.{is_refused, requests_in, claim_in, last_claim, summary_of, with_reply, with_line, workload_script, IsSummary}
-use Rattle.session.proofs.Done.{AreDone, one_more, are_more, does_version, sound_done, whole_done}
-use Rattle.session.proofs.Played.{played_none}
+use Rattle.session.proofs.Done.{AreDone, done_none, one_more, are_more, does_version, sound_done, whole_done}
 
 -- ---- one entry more
 
 -- the later of two claims
-abbrev later : Option Claim → Option Claim → Option Claim
+abbrev pub later : Option Claim → Option Claim → Option Claim
 later claim None = claim
 later claim (Some last) = Some last
 
-last_cons : (o a : Option Claim) (claims : List Claim) → last_or o (cons_option a claims) ≡ last_or (later o a) claims
+pub last_cons : (o a : Option Claim) (claims : List Claim) → last_or o (cons_option a claims) ≡ last_or (later o a) claims
 last_cons o None claims = refl
 last_cons o (Some claim) claims = refl
 
-abbrev claim_by : EventEntry → Option Claim
+abbrev pub claim_by : EventEntry → Option Claim
 claim_by e = claim_in e.reply
 
 last_more : (o : Option Claim) (h : List EventEntry) (e : EventEntry) → last_or o (filter_map claim_by (h ++ e ∷ [])) ≡ later (last_or o (filter_map claim_by h)) (claim_by e)
@@ -84,7 +83,7 @@ pub record Tally (lines : List ScriptLine) (s : StateSeen) (summary : Summary) :
   pub version : s.version ≤ length lines
 
 tally_start : Tally [] start (summary_of 0 [])
-tally_start = record { history = []; are = λ rest. played_none rest; summed = refl; version = omega arith }
+tally_start = record { history = []; are = done_none; summed = refl; version = omega arith }
 
 pub tally_none : (lines : List ScriptLine) (s : StateSeen) (summary : Summary) → lines ≡ [] → s ≡ start → summary ≡ summary_of 0 [] → Tally lines s summary
 tally_none lines s summary none new zero_counts =
@@ -111,14 +110,14 @@ line_entries s t n line reply (inr d) = record {
       ∙ ap (λ (x : Summary). with_reply x reply) (entry_more m h (take_entry s n));
 }
 
-pub tally_line : (lines : List ScriptLine) (line : ScriptLine) (s t : StateSeen) (summary : Summary) (reply : Reply) → Tally lines s summary → RepliesAtLast s (command_of_line line) reply t
-    → Tally (lines ++ line ∷ []) t (with_line summary reply)
-tally_line lines line s t summary reply tally replies =
+pub tally_line : (lines : List ScriptLine) (line : ScriptLine) (s t : StateSeen) (summary : Summary) (reply : Reply) → Tally lines s summary → length lines < 65536
+    → RepliesAtLast s (command_of_line line) reply t → Tally (lines ++ line ∷ []) t (with_line summary reply)
+tally_line lines line s t summary reply tally room replies =
     let more = line_entries s t (length lines + 1) line reply replies in
     let counts : with_line summary reply ≡ with_reply (summary_of (length lines + 1) tally.history) reply = ap (λ (x : Summary). with_line x reply) tally.summed in
     record {
       history = tally.history ++ more.entries;
-      are = are_more lines line tally.history more.entries s t tally.are more.does;
+      are = are_more lines line tally.history more.entries s t tally.are room more.does;
       summed = counts ∙ sym (more.counted (length lines + 1) tally.history) ∙ ap (λ (m : ℕ). summary_of m (tally.history ++ more.entries)) (one_more lines line);
       version = omega (arith, does_version s t (length lines + 1) (command_of_line line) more.entries more.does, tally.version, one_more lines line);
     }
@@ -132,8 +131,11 @@ first_lines number n = take n (workload_script number)
 abbrev pub with_given : ℕ → ℕ → WorkloadSeen
 with_given number n = record { number = number; workers = 4; given = n }
 
-script_length : (number : ℕ) → length (workload_script number) ≡ 211
+pub script_length : (number : ℕ) → length (workload_script number) ≡ 211
 script_length number = length-map (workload_lines number 4) (λ bytes. Bytes bytes) ∙ so_many_lines number 4
+
+few_lines : (number n : ℕ) → length (first_lines number n) ≤ 211
+few_lines number n = grind (arith, length-take n (workload_script number), script_length number)
 
 -- the next line, and the workload after it
 pub next_line : (number n : ℕ) (bytes : List ℕ) → Some bytes ≡ line_next (with_given number n) → (n < 211) × (first_lines number (n + 1) ≡ first_lines number n ++ Bytes bytes ∷ []) × (one_given (with_given number n) ≡ with_given number (n + 1))
@@ -189,7 +191,8 @@ next_tally number w v s t summary bytes line reply is tally next given as_bytes 
     let place : v.given ≡ w.given + 1 = ap (λ (x : WorkloadSeen). x.given) after in
     let few : w.given < 211 = here.0 in
     let now : RepliesAtLast s (command_of_line (Bytes bytes)) reply t = subst (λ (l : ScriptLine). RepliesAtLast s (command_of_line l) reply t) as_bytes replies in
-    let done : Tally (first_lines number w.given ++ Bytes bytes ∷ []) t (with_line summary reply) = tally_line (first_lines number w.given) (Bytes bytes) s t summary reply tally now in
+    let room : length (first_lines number w.given) < 65536 = omega (arith, few_lines number w.given) in
+    let done : Tally (first_lines number w.given ++ Bytes bytes ∷ []) t (with_line summary reply) = tally_line (first_lines number w.given) (Bytes bytes) s t summary reply tally room now in
     record {
       is = after ∙ ap (with_given number) (sym place);
       tally = subst (λ (ls : List ScriptLine). Tally ls t (with_line summary reply)) (sym (ap (first_lines number) place ∙ here.1)) done;
@@ -198,6 +201,4 @@ next_tally number w v s t summary bytes line reply is tally next given as_bytes 
 
 -- a workload makes fewer changes than a desk may
 pub few_changes : (number n : ℕ) (s : StateSeen) (summary : Summary) → Tally (first_lines number n) s summary → s.version < 524288
-few_changes number n s summary tally =
-    let short : length (first_lines number n) ≤ 211 = grind (arith, length-take n (workload_script number), script_length number) in
-    omega (arith, tally.version, short)
+few_changes number n s summary tally = omega (arith, tally.version, few_lines number n)

@@ -2,3 +2,4 @@ pub mod Words
 pub mod Line
 pub mod Session
 pub mod Summary
+pub mod Laws

@@ -2,8 +2,6 @@
 use Rattle.std.specs.Prelude.{◌≡◌, ℕ, ◌≤◌, List, [], ◌∷◌, ◌++◌, length, take}
 use Rattle.std.specs.Prelude.{IfSome}
 use Rattle.std.specs.declared.option.Option.{Option}
-use Rattle.plan_base.specs.declared.claim.Claim.{Claim}
-use Rattle.plan_base.specs.declared.parts.Parts.{Parts}
 use Rattle.plan_io.specs.declared.lines.ScriptLine.{ScriptLine}
 use Rattle.plan_io.specs.declared.lines.LineAnswer.{LineAnswer}
 use Rattle.plan_io.specs.declared.lines.LineAnswer.TheVariants as ending
@@ -16,24 +14,17 @@ use Rattle.plan_io.specs.Reading.{ReadsAll}
 use Rattle.plan_io.specs.Source.{Rose}
 use Rattle.plan_io.specs.Sink.{Adds, Puts}
 use Rattle.desk_events.specs.declared.entry.EventEntry.{EventEntry}
-use Rattle.desk_events.specs.declared.reply.Reply.TheVariants.{Published}
 use Rattle.desk_events.specs.Entry.{text_of_history}
-use Rattle.desk_core.specs.History.{replay, IsLegal, IsWhole, Publishes}
-use Rattle.session.specs.Line.{IsPublishedClaim}
+use Rattle.desk_core.specs.History.{EachAfter, IsLegal, IsWhole}
+use Rattle.desk_book.specs.Claims.{IsClaimEntry}
 
 -- ---- the history of a session
 
--- each claim that the history publishes, whether it was planned or sent, is bounded for the snapshot of its version
-abbrev pub IsBoundedHistory : List (List ScriptLine) → List EventEntry → Type 0
-IsBoundedHistory scripts history =
-    (before after : List EventEntry) (e : EventEntry) → history ≡ before ++ e ∷ after
-    → (claim : Claim) → e.reply ≡ Published claim
-    → (parts : Parts) × Publishes scripts before e parts claim × IsPublishedClaim e.what (replay scripts before) parts claim
-
--- a legal history of these lines, the script of the one caller, whose claims are bounded
+-- a legal history of these lines, the script of the one caller; each claim that it publishes, whether it was planned or sent, is
+-- bounded for the snapshot of its version
 pub record IsSound (lines : List ScriptLine) (history : List EventEntry) : Type 0 where
   pub legal : IsLegal (lines ∷ []) history
-  pub bounded : IsBoundedHistory (lines ∷ []) history
+  pub bounded : EachAfter (IsClaimEntry (lines ∷ [])) history
 
 -- ---- what is read and written
 

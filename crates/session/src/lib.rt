@@ -1,12 +1,14 @@
 //! A session of the desk: lines are read, done in order, and each answered by the text of its entries.
 #![tactic(auto)]
 
+mod laws;
 mod line;
 mod run;
 mod summary;
 mod tally;
 mod words;
 
+pub use laws::one_summary;
 pub use run::run_session;
 
 #[cfg(test)]

@@ -1,68 +1,23 @@
 //! What is done with one line.
-ghost use Rattle.std.specs.Prelude.{◌≡◌, ◌<◌, ◌↔◌, Ok, IfOk, IsTrue, IsSome};
+ghost use Rattle.std.specs.Prelude.{◌≡◌, ◌<◌, IfOk, IsSome};
 ghost use Rattle.desk_events.specs.Line.{command_of_line};
 ghost use Rattle.desk_events.specs.Ranges.{IsCommand};
 ghost use Rattle.desk_core.specs.History.{IsPlanning, after_publish};
+ghost use Rattle.desk_book.specs.Doing.{IsTakenOf};
 ghost use Rattle.lanes.specs.Solving.{IsInRange};
-ghost use Rattle.session.specs.Line.{IsTakenOf, IsPlanReply, IsStepDone, RepliesAtLast, AddsLine, AddsPublish};
+ghost use Rattle.session.specs.Line.{IsPlanReply, RepliesAtLast, AddsLine, AddsPublish};
 
+use desk_book::{apply_read, is_plan, publish_found, read_line, take_for};
 use desk_core::State;
-use desk_events::{
-    Command, CommandFault, EventEntry, Refusal, Reply, What, read_command, write_entry,
-};
+use desk_events::{Command, CommandFault, EventEntry, Reply, What, write_entry};
 use lanes::solve_plan;
-use plan_base::{Outcome, Solved, Taken};
+use plan_base::{Solved, Taken};
 use plan_io::{NoGate, ScriptLine};
 use std::alloc::{AllocError, Global};
 use std::thread::Threads;
 
 /// The only caller of a session.
 const CALLER: u8 = 0;
-
-/// What a line says: its command, or its first fault.
-fn read(alloc: Global, line: &ScriptLine) -> Result<Result<Command, CommandFault>, AllocError>
-    ensures read { IfOk result (λ read. command_of_line line.now ≡ read) }
-    ensures ranges { IfOk result (λ read. IfOk read IsCommand) }
-{
-    match read_command(alloc, line) {
-        Ok(command) => Ok(Ok(command)),
-        Err(CommandFault::Refused(refusal)) => Ok(Err(CommandFault::Refused(refusal))),
-        Err(CommandFault::NoMemory) => Err(AllocError),
-    }
-}
-
-/// Whether a line asks for a plan.
-fn is_plan(read: &Result<Command, CommandFault>) -> bool
-    ensures { IsTrue result ↔ (read.now ≡ Ok Command.Plan) }
-{
-    matches!(read, Ok(Command::Plan))
-}
-
-/// Does a command that is one step, and says what is replied.
-fn apply(state: &mut State, command: &Command) -> Result<Reply, AllocError>
-    requires version { state.old.version < 524288 }
-    requires ranges { IsCommand command.now }
-    requires step { ¬ (IsPlanning state.old (Ok command.now)) }
-    ensures { IfOk result (λ reply. IsStepDone state.old (Ok command.now) reply state.new) }
-{
-    let reply = state.apply(command)?;
-    state.recall_published();
-    Ok(reply)
-}
-
-/// Does a line that is one step, and says what is replied.
-fn apply_read(state: &mut State, read: Result<Command, CommandFault>) -> Result<Reply, AllocError>
-    requires version { state.old.version < 524288 }
-    requires ranges { IfOk read IsCommand }
-    requires step { ¬ (IsPlanning state.old read) }
-    ensures { IfOk result (λ reply. IsStepDone state.old read reply state.new) }
-{
-    match read {
-        Ok(command) => apply(state, &command),
-        Err(CommandFault::Refused(refusal)) => Ok(Reply::Refused(refusal)),
-        Err(CommandFault::NoMemory) => Err(AllocError),
-    }
-}
 
 /// Does a line that is one step, and adds its entry.
 fn do_step(
@@ -88,39 +43,26 @@ fn do_step(
     write_entry(&entry, replies)
 }
 
-/// Takes the snapshot of an opened desk, with the settings that its plan is sought with.
+/// Takes the snapshot of an opened desk, with the settings that its plan is sought with, which are in their ranges.
 fn take(state: &State) -> Result<Taken, AllocError>
     requires { IsSome state.now.desk }
     ensures taken { IfOk result (IsTakenOf state.now) }
     ensures range { IfOk result (λ taken. IsInRange taken.settings) }
 {
     let _ = state.version();
-    let Some(settings) = state.settings() else {
-        unreachable!();
-    };
-    let Some(snapshot) = state.snapshot()? else {
-        unreachable!();
-    };
-    Ok(Taken {
-        caller: CALLER,
-        settings,
-        snapshot,
-    })
+    take_for(CALLER, state)
 }
 
 /// Publishes what was found for the desk as it is, and says what is replied.
-fn publish_found(state: &mut State, solved: Solved) -> Result<Reply, AllocError>
+fn publish_solved(state: &mut State, solved: Solved) -> Result<Reply, AllocError>
     requires version { state.old.version < 524288 }
     requires taken { IsTakenOf state.old solved.taken }
     ensures reply { IfOk result (IsPlanReply state.old) }
     ensures left { IfOk result (λ reply. state.new ≡ after_publish state.old reply) }
 {
     let (taken, outcome) = solved.into_parts();
-    taken.snapshot.recall_valid();
-    match outcome {
-        Outcome::Plan(claim) => state.publish_planned(taken.snapshot, &claim),
-        Outcome::TooManyStarts(count) => Ok(Reply::Refused(Refusal::TooManyStarts { count })),
-    }
+    let (reply, _) = publish_found(state, taken, outcome)?;
+    Ok(reply)
 }
 
 /// Seeks the plan of an opened desk and publishes it, and says what is replied.
@@ -132,7 +74,7 @@ fn seek<R: Threads + Sync>(rt: &R, alloc: Global, state: &mut State) -> Result<R
 {
     let taken = take(state)?;
     let solved = solve_plan(rt, alloc, taken, &NoGate)?;
-    publish_found(state, solved)
+    publish_solved(state, solved)
 }
 
 /// Seeks the plan of an opened desk and publishes it, and adds its entry.
@@ -195,7 +137,7 @@ pub(crate) fn do_line<R: Threads + Sync>(
     requires version { state.old.version < 524288 }
     ensures { AddsLine state.old state.new number (command_of_line line.now) replies.old.items replies.new.items result }
 {
-    let read = read(alloc, line)?;
+    let read = read_line(alloc, line)?;
     if is_plan(&read) && state.is_opened() {
         return do_plan(rt, alloc, state, number, read, replies);
     }
@@ -212,7 +154,7 @@ pub(crate) fn reply_to<R: Threads + Sync>(
     requires version { state.old.version < 524288 }
     ensures { IfOk result (λ reply. RepliesAtLast state.old (command_of_line line.now) reply state.new) }
 {
-    let read = read(alloc, line)?;
+    let read = read_line(alloc, line)?;
     if is_plan(&read) && state.is_opened() {
         return seek(rt, alloc, state);
     }
