@@ -99,7 +99,8 @@ impl Desk {
           progress = withdrawn old self.old.runs;
         }) }
         ensures given { OnOk result (refusal_of (freed old self.old.ledger.books) new.now.holds new.now.submitted.charged ≡ None) }
-        ensures refused { IfErr result (λ fault. fault ≢ NoMemory → option_and_then refusal_of_ledger (refusal_of (freed old self.old.ledger.books) new.now.holds new.now.submitted.charged) ≡ refusal_in fault) }
+        ensures refused { IfErr result (λ fault. fault ≢ NoMemory
+            → option_and_then refusal_of_ledger (refusal_of (freed old self.old.ledger.books) new.now.holds new.now.submitted.charged) ≡ refusal_in fault) }
         ensures unchanged { OnErr result (seen self.new ≡ seen self.old) }
         ensures room { vec_len self.new.submitted ≡ vec_len self.old.submitted }
         ensures more { vec_capacity self.new.submitted ≡ vec_capacity self.old.submitted }

@@ -12,7 +12,8 @@ use Rattle.repair.specs.declared.ranked.Ranked.{Ranked}
 -- the group at place g is added where it is an AND that can be added whole
 abbrev pub AddsWhole : Parts → List Placement → List Placement → ℕ → List Placement → Type 0
 AddsWhole s starts plan g after =
-    ((firsts : List Placement) × CanAddWhole s starts plan g firsts × (after ≡ plan ++ firsts)) ⊎ (((firsts : List Placement) → ¬ (CanAddWhole s starts plan g firsts)) × (after ≡ plan))
+    ((firsts : List Placement) × CanAddWhole s starts plan g firsts × (after ≡ plan ++ firsts))
+    ⊎ (((firsts : List Placement) → ¬ (CanAddWhole s starts plan g firsts)) × (after ≡ plan))
 
 -- the start, if there is one, is added, or else there is none that can be
 abbrev pub AddsFirst : Parts → List Placement → Option Placement → Bool → List Placement → Type 0
@@ -48,7 +49,10 @@ rank_of s p = record { worth = record { 0 = worth_at s p }; request = p.request;
 -- a comes before b, or both are ranks of one start
 abbrev pub IsRankedBefore : Ranked → Ranked → Type 0
 IsRankedBefore a b =
-    (b.worth.0 < a.worth.0) ⊎ ((a.worth.0 ≡ b.worth.0) × ((a.request.0 < b.request.0) ⊎ ((a.request.0 ≡ b.request.0) × ((a.telescope.0 < b.telescope.0) ⊎ ((a.telescope.0 ≡ b.telescope.0) × (a.slice.0 ≤ b.slice.0))))))
+    (b.worth.0 < a.worth.0)
+    ⊎ ((a.worth.0 ≡ b.worth.0) × ((a.request.0 < b.request.0)
+    ⊎ ((a.request.0 ≡ b.request.0) × ((a.telescope.0 < b.telescope.0)
+    ⊎ ((a.telescope.0 ≡ b.telescope.0) × (a.slice.0 ≤ b.slice.0))))))
 
 -- what is noted before another start, if anything is, or else that one
 abbrev pub IsEarlier : Option Ranked → Ranked → Option Ranked → Type 0
