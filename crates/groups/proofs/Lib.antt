@@ -3,6 +3,7 @@ pub mod Footed
 pub mod Greatest
 pub mod Keeping
 pub mod NetRanges
+pub mod Noted
 pub mod Opens
 pub mod PlacedFlags
 pub mod Rebating

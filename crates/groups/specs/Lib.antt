@@ -1,5 +1,6 @@
 pub mod Building
 pub mod Footprints
 pub mod Kept
+pub mod Places
 pub mod Tables
 pub mod Takings

@@ -4,7 +4,9 @@ ghost use Rattle.std.specs.Prelude.{◌≡◌, ◌<◌, ◌≤◌};
 ghost use Rattle.plan_base.specs.Limits.{most_slices};
 ghost use Rattle.plan_base.specs.Starts.{IsPossibleStart};
 ghost use Rattle.groups.specs.Footprints.{IsFootprint, first_slot};
+ghost use Rattle.groups.specs.Places.{ArePlaces};
 
+use crate::places::Places;
 use plan_base::{Op, Parts, Placement, Snapshot, slices_for};
 
 /// What a placement takes up: its request, a place in its group, seconds of its group's quota, and slots. Slot
@@ -25,12 +27,13 @@ pub(crate) struct Footprint {
     pub to: usize,
 }
 
-pub(crate) fn footprint_of(snapshot: &Snapshot, placement: Placement) -> Footprint
-    requires { IsPossibleStart snapshot.now placement }
+pub(crate) fn footprint_of(snapshot: &Snapshot, places: &Places, placement: Placement) -> Footprint
+    requires places { ArePlaces snapshot.now places.now }
+    requires possible { IsPossibleStart snapshot.now placement }
     ensures { IsFootprint snapshot.now placement result }
 {
     let parts = snapshot.parts();
-    let place = snapshot.known_place(placement.request);
+    let place = places.known_place(snapshot, placement.request);
     let group = snapshot.group_at(place);
     let part = &parts.groups.as_slice()[group];
     let seconds = u64::from(snapshot.request_at(place).seconds);

@@ -3,6 +3,7 @@
 
 mod footprint;
 mod nets;
+mod places;
 mod plan;
 mod rebates;
 mod sums;
@@ -12,6 +13,7 @@ mod taking;
 mod tests;
 
 pub use nets::net;
+pub use places::Places;
 pub use plan::PlanBuild;
 pub use rebates::{choice, rebate};
 pub use taking::Taking;

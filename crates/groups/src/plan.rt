@@ -6,9 +6,11 @@ ghost use Rattle.plan_base.specs.Feasible.{requests_of, IsFeasible};
 ghost use Rattle.plan_base.specs.FeasibleSoFar.{IsFeasibleSoFar};
 ghost use Rattle.plan_base.specs.Saturated.{HasNonePlaced};
 ghost use Rattle.groups.specs.Building.{without, IsPartly, IsFirstPartly, IsOpenAnd};
+ghost use Rattle.groups.specs.Places.{ArePlaces};
 ghost use Rattle.groups.specs.Tables.{AreTables};
 
 use crate::footprint::footprint_of;
+use crate::places::Places;
 use crate::tables::Tables;
 use plan_base::{GroupNo, GroupPart, Op, Placement, RequestNo, Snapshot};
 use std::alloc::{AllocError, Global};
@@ -21,6 +23,7 @@ pub struct PlanBuild<'a> {
     snapshot: &'a Snapshot,
     placements: Vec<Placement>,
     tables: Tables,
+    places: Places,
 }
 
 impl<'a> Model for PlanBuild<'a> {
@@ -29,11 +32,11 @@ impl<'a> Model for PlanBuild<'a> {
     ghost Value = { Building };
 
     ghost use Rattle.std.specs.Prelude.{vec_capacity};
-    ghost use Rattle.groups.specs.Kept.{IsKept};
+    ghost use Rattle.groups.specs.Kept.{IsBuilt};
 
     ghost view = { λ a. record { snapshot = a.snapshot.now; placed = a.placements.items } };
 
-    ghost invariant = { λ a. IsKept a.snapshot.now a.placements.items (vec_capacity a.placements) a.tables };
+    ghost invariant = { λ a. IsBuilt a.snapshot.now a.placements.items (vec_capacity a.placements) a.tables a.places };
 }
 
 impl<'a> PlanBuild<'a> {
@@ -43,10 +46,12 @@ impl<'a> PlanBuild<'a> {
     {
         let placements = Vec::with_capacity(alloc, snapshot.request_count())?;
         let tables = Tables::new(alloc, snapshot)?;
+        let places = Places::new(alloc, snapshot)?;
         Ok(PlanBuild {
             snapshot,
             placements,
             tables,
+            places,
         })
     }
 
@@ -58,11 +63,18 @@ impl<'a> PlanBuild<'a> {
         self.placements.as_slice()
     }
 
-    /// Whether a request is placed. It looks by halves for the request, and not through the plan.
+    /// Where the requests of the snapshot stand.
+    pub fn places(&self) -> &Places
+        ensures { ArePlaces self.now.snapshot result.now }
+    {
+        &self.places
+    }
+
+    /// Whether a request is placed. It doesn't look through the plan.
     pub fn is_placed(&self, request: RequestNo) -> bool
         ensures { IsTrue result ↔ Contains (requests_of self.now.placed) request.0 }
     {
-        match self.snapshot.place_of(request) {
+        match self.places.place_of(self.snapshot, request) {
             Some(place) => self.tables.placed[place],
             None => false,
         }
@@ -84,7 +96,7 @@ impl<'a> PlanBuild<'a> {
         requires { IsPossibleStart self.now.snapshot placement }
         ensures { IsTrue result ↔ IsFeasibleSoFar self.now.snapshot (self.now.placed ++ placement ∷ []) }
     {
-        let footprint = footprint_of(self.snapshot, placement);
+        let footprint = footprint_of(self.snapshot, &self.places, placement);
         let quotas = self.snapshot.parts().quotas.as_slice();
         self.tables.has_room(quotas, &footprint)
     }
@@ -95,7 +107,7 @@ impl<'a> PlanBuild<'a> {
         requires fits { IsFeasibleSoFar self.old.snapshot (self.old.placed ++ placement ∷ []) }
         ensures { self.new ≡ record { snapshot = self.old.snapshot; placed = self.old.placed ++ placement ∷ [] } }
     {
-        let footprint = footprint_of(self.snapshot, placement);
+        let footprint = footprint_of(self.snapshot, &self.places, placement);
         self.snapshot.recall_valid();
         self.tables.take(&footprint);
         self.placements.push_reserved(placement);
@@ -111,7 +123,7 @@ impl<'a> PlanBuild<'a> {
         let Some(placement) = placement_of(self.placements.as_slice(), request) else {
             return false;
         };
-        let footprint = footprint_of(self.snapshot, placement);
+        let footprint = footprint_of(self.snapshot, &self.places, placement);
         self.snapshot.recall_valid();
         self.tables.release(&footprint);
         self.placements
@@ -123,7 +135,8 @@ impl<'a> PlanBuild<'a> {
     pub fn clear(&mut self)
         ensures { self.new ≡ record { snapshot = self.old.snapshot; placed = [] } }
     {
-        release_all(self.snapshot, self.placements.as_slice(), &mut self.tables);
+        let placed = self.placements.as_slice();
+        release_all(self.snapshot, &self.places, placed, &mut self.tables);
         self.placements.clear();
     }
 
@@ -176,14 +189,20 @@ fn placement_of(placements: &[Placement], request: RequestNo) -> Option<Placemen
 }
 
 /// Gives free what all placements take up.
-fn release_all(snapshot: &Snapshot, placements: &[Placement], tables: &mut Tables)
+fn release_all(
+    snapshot: &Snapshot,
+    places: &Places,
+    placements: &[Placement],
+    tables: &mut Tables,
+)
+    requires places { ArePlaces snapshot.now places.now }
     requires possible { All (IsPossibleStart snapshot.now) placements.now }
     requires tables { AreTables snapshot.now placements.now tables.old }
     ensures { AreTables snapshot.now [] tables.new }
 {
     snapshot.recall_valid();
     for placement in placements {
-        let footprint = footprint_of(snapshot, *placement);
+        let footprint = footprint_of(snapshot, places, *placement);
         tables.release(&footprint);
     }
 }

@@ -68,12 +68,3 @@ pub value_more : (s : Parts) (plan : List Placement) (i : ℕ) (d : Placement) (
 value_more s plan i d value more whole l is so_far =
     let step : value_of_plan s (drop i plan) ≡ worth_at s (slice_index_or plan i d) + value_of_plan s (drop (i + 1) plan) = sum_by-drop_more (worth_at s) plan i d l in
     omega arith
-
--- a guess is right where the offer there has the number
-pub guess_right : (s : Parts) (offers : Offers) (r guess : ℕ) (offer : Offer) → IsOrderly s → AreOffers s offers → guess < length offers.by_place.items → slice_index_or offers.by_place.items guess offer ≡ offer → offer.request.0 ≡ r → guess ≡ place_of s r
-guess_right s offers r guess offer o are l at is =
-    let count : length offers.by_place.items ≡ length (listed s) = are.by_place.count in
-    let x = element_at (listed s) guess (omega arith) in
-    let here : IsOffer s (slice_index_or (listed s) guess x.0).request.request.0 (slice_index_or offers.by_place.items guess offer) = are.by_place.each guess (omega arith) offer x.0 in
-    let named : offer.request.0 ≡ x.0.request.request.0 = ap (λ (z : Offer). z.request.0) (sym at) ∙ here.number ∙ ap (λ (y : Listed). y.request.request.0) x.1 in
-    sym (ap (place_of s) (sym is ∙ named) ∙ place_at s guess x.0 o (omega arith) x.1)

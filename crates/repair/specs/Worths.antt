@@ -5,6 +5,7 @@ use Rattle.plan_base.specs.Requests.{listed, group_of, request_value, fade_of}
 use Rattle.plan_base.specs.Starts.{earliest_slice}
 use Rattle.plan_base.specs.Repaired.{is_and}
 use Rattle.plan_base.specs.Round.{op_at}
+use Rattle.groups.specs.Places.{ArePlaces}
 use Rattle.repair.specs.declared.offers.Offer.{Offer}
 use Rattle.repair.specs.declared.offers.Offers.{Offers}
 
@@ -25,7 +26,7 @@ pub record AreOffersOf (s : Parts) (n : ℕ) (offers : List Offer) : Type 0 wher
   pub count : length offers ≡ n
   pub each : (i : ℕ) → i < n → HoldsAt (IsOfferOf s i) offers i
 
--- the offers of all requests, with a guess for each remainder of a number by 4,096
+-- the offers of all requests, and where these stand
 pub record AreOffers (s : Parts) (offers : Offers) : Type 0 where
   pub by_place : AreOffersOf s (length (listed s)) offers.by_place.items
-  pub guesses : length offers.guesses.items ≡ 4096
+  pub places : ArePlaces s offers.places

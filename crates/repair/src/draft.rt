@@ -7,10 +7,11 @@ ghost use Rattle.plan_base.specs.Feasible.{requests_of};
 ghost use Rattle.plan_base.specs.FeasibleSoFar.{IsFeasibleSoFar};
 ghost use Rattle.plan_base.specs.Saturated.{HasNonePlaced};
 ghost use Rattle.groups.specs.Footprints.{first_slot, end_slot};
+ghost use Rattle.groups.specs.Places.{ArePlaces};
 ghost use Rattle.repair.specs.Apart.{IsPossibleRun, HasNoApart, IsFirstApart};
 
 use crate::marks::{clear_marks, first_clear, no_marks, write_marks};
-use groups::PlanBuild;
+use groups::{Places, PlanBuild};
 use plan_base::{Placement, RequestNo, SliceNo, Snapshot, slices_for};
 use snapshot_starts::Run;
 use std::alloc::{AllocError, Global};
@@ -107,7 +108,7 @@ impl<'a> Draft<'a> {
         ensures { self.new ≡ record { snapshot = self.old.snapshot; placed = self.old.placed ++ start ∷ [] } }
     {
         self.recall();
-        let slots = slots_of(self.snapshot, start);
+        let slots = slots_of(self.snapshot, self.build.places(), start);
         self.build.add(start);
         write_marks(&mut self.marks, slots.from, slots.to, slots.to as u16);
     }
@@ -119,7 +120,7 @@ impl<'a> Draft<'a> {
     {
         self.recall();
         let start = last_of(self.build.placed());
-        let slots = slots_of(self.snapshot, start);
+        let slots = slots_of(self.snapshot, self.build.places(), start);
         let _ = self.build.remove(start.request);
         write_marks(&mut self.marks, slots.from, slots.to, 0);
     }
@@ -175,13 +176,14 @@ fn last_of(placed: &[Placement]) -> Placement
 }
 
 /// The slots that a possible start occupies.
-pub(crate) fn slots_of(snapshot: &Snapshot, start: Placement) -> Slots
-    requires { IsPossibleStart snapshot.now start }
+pub(crate) fn slots_of(snapshot: &Snapshot, places: &Places, start: Placement) -> Slots
+    requires places { ArePlaces snapshot.now places.now }
+    requires possible { IsPossibleStart snapshot.now start }
     ensures from { result.from ≡ first_slot snapshot.now start }
     ensures to { result.to ≡ end_slot snapshot.now start }
 {
     let parts = snapshot.parts();
-    let place = snapshot.known_place(start.request);
+    let place = places.known_place(snapshot, start.request);
     let seconds = u64::from(snapshot.request_at(place).seconds);
     let row = usize::from(start.telescope.0) * parts.slices as usize;
     let from = row + (start.slice.0 - parts.first.0) as usize;

@@ -5,11 +5,9 @@ ghost use Rattle.plan_base.specs.Requests.{listed, place_of, IsKnown};
 ghost use Rattle.plan_base.specs.Repaired.{is_and};
 ghost use Rattle.repair.specs.Worths.{AreOffers, AreOffersOf, IsOffer, IsOfferOf};
 
+use groups::Places;
 use plan_base::{Op, RequestNo, Snapshot, least_from, slices_for};
 use std::alloc::{AllocError, Global};
-
-/// How many guesses there are.
-const GUESSES: usize = 4_096;
 
 /// What a request is worth, and how it fades.
 #[derive(Clone, Copy, Debug)]
@@ -25,12 +23,11 @@ pub(crate) struct Offer {
     pub earliest: u64,
 }
 
-/// The offers of all requests, by their places, with guesses by which the place of a request is mostly found at once.
+/// The offers of all requests, by their places.
 #[derive(Debug, Drop)]
 pub(crate) struct Offers {
     pub by_place: Vec<Offer>,
-    /// For each remainder of a request's number the place of one that has it, if there is one.
-    pub guesses: Vec<u16>,
+    pub places: Places,
 }
 
 impl Offers {
@@ -39,23 +36,18 @@ impl Offers {
         ensures { IfOk result (AreOffers snapshot.now) }
     {
         let by_place = offers_of(alloc, snapshot)?;
-        let guesses = guesses_of(alloc, by_place.as_slice())?;
-        Ok(Offers { by_place, guesses })
+        let places = Places::new(alloc, snapshot)?;
+        Ok(Offers { by_place, places })
     }
 
-    /// The place among all of a request that is one of them. It looks by halves only where the guess is wrong.
+    /// The place among all of a request that is one of them.
     pub(crate) fn place_of(&self, snapshot: &Snapshot, request: RequestNo) -> usize
         requires known { IsKnown snapshot.now request.0 }
         requires offers { AreOffers snapshot.now self.now }
         ensures value { result ≡ place_of snapshot.now request.0 }
         ensures within { result < length (listed snapshot.now) }
     {
-        snapshot.recall_valid();
-        let guess = usize::from(self.guesses[request.0 as usize % GUESSES]);
-        if guess < self.by_place.len() && self.by_place[guess].request.0 == request.0 {
-            return guess;
-        }
-        snapshot.known_place(request)
+        self.places.known_place(snapshot, request)
     }
 
     /// What a request that is one of the snapshot's offers.
@@ -106,22 +98,4 @@ fn is_and(op: Op) -> bool
         Op::And => true,
         Op::Single | Op::Many | Op::OneOf => false,
     }
-}
-
-/// The guesses of the places of requests, of which the last with a remainder counts.
-fn guesses_of(alloc: Global, offers: &[Offer]) -> Result<Vec<u16>, AllocError>
-    requires { length offers.now ≤ 1024 }
-    ensures { IfOk result (λ guesses. length guesses.items ≡ 4096) }
-{
-    let mut guesses = no_guesses(alloc)?;
-    for place in 0..offers.len() {
-        guesses[offers[place].request.0 as usize % GUESSES] = place as u16;
-    }
-    Ok(guesses)
-}
-
-fn no_guesses(alloc: Global) -> Result<Vec<u16>, AllocError>
-    ensures { IfOk result (λ guesses. length guesses.items ≡ 4096) }
-{
-    vec![in alloc; 0; GUESSES]
 }

@@ -3,10 +3,12 @@
 ghost use Rattle.std.specs.Prelude.{◌≡◌, true, All};
 ghost use Rattle.plan_base.specs.Starts.{IsPossibleStart};
 ghost use Rattle.plan_base.specs.Feasible.{IsDisjoint};
+ghost use Rattle.groups.specs.Places.{ArePlaces};
 
 use super::{Wish, listed, make_wish, snapshot};
 use crate::Repairer;
 use crate::draft::slots_of;
+use groups::Places;
 use plan_base::{Op, Placement, RequestNo, SliceNo, Snapshot, TelescopeNo};
 use snapshot_starts::{is_possible, starts};
 use std::alloc::{AllocError, Global};
@@ -49,13 +51,14 @@ fn are_possible(snapshot: &Snapshot, starts: &[Placement]) -> bool
 }
 
 /// Whether each start ends before the next begins, telescope after telescope.
-fn are_apart(snapshot: &Snapshot, starts: &[Placement]) -> bool
-    requires { All (IsPossibleStart snapshot.now) starts.now }
+fn are_apart(snapshot: &Snapshot, places: &Places, starts: &[Placement]) -> bool
+    requires places { ArePlaces snapshot.now places.now }
+    requires possible { All (IsPossibleStart snapshot.now) starts.now }
     ensures { result ≡ true → IsDisjoint snapshot.now starts.now }
 {
     for index in 1..starts.len() {
-        let before = slots_of(snapshot, starts[index - 1]);
-        let after = slots_of(snapshot, starts[index]);
+        let before = slots_of(snapshot, places, starts[index - 1]);
+        let after = slots_of(snapshot, places, starts[index]);
         if after.from < before.to {
             return false;
         }
@@ -78,7 +81,8 @@ fn assert_run(
     if !are_possible(snapshot, chosen) {
         return Err(Fail::new("a start isn't possible"));
     }
-    if !are_apart(snapshot, chosen) {
+    let places = Places::new(alloc, snapshot)?;
+    if !are_apart(snapshot, &places, chosen) {
         return Err(Fail::new("two starts share a slice"));
     }
     let value = repairer.run(chosen);

@@ -16,7 +16,7 @@ returns-in-Some-clause-some c =
     (subst (λ (gs : List GroupPart). IsFirstPartly gs c.as_slice-members.result.now (Some c.in-Some.place)) groups found)
     in
     subst (λ (b : Building). IsOpenAnd b.snapshot b.placed (slice_index_or c.as_slice-groups.result.now c.in-Some.place c.index-groups-place.result).group.0) c.self.view_is
-    (open_when_some c.self.inside.snapshot.now c.self.inside.placements.items c.self.inside.tables c.in-Some.place _ c.parts.ensures.orderly c.self.invariant.so_far c.self.invariant.tables partly
+    (open_when_some c.self.inside.snapshot.now c.self.inside.placements.items c.self.inside.tables c.in-Some.place _ c.parts.ensures.orderly c.self.invariant.kept.so_far c.self.invariant.kept.tables partly
     (number_read c.self.inside.snapshot.now c.as_slice-groups.result.now c.in-Some.place c.index-groups-place.result groups partly.0))
 
 pub returns-in-None-clause-none : goal.returns-in-None-clause-none
@@ -27,4 +27,4 @@ returns-in-None-clause-none c =
     = subst (λ (xs : List ℕ). IsFirstPartly c.self.inside.snapshot.now.groups xs None) c.as_slice-members.ensures.value (subst (λ (gs : List GroupPart). IsFirstPartly gs c.as_slice-members.result.now None) groups found)
     in
     subst (λ (b : Building). IsFeasible b.snapshot b.placed) c.self.view_is
-    (feasible_when_none c.self.inside.snapshot.now c.self.inside.placements.items c.self.inside.tables c.parts.ensures.orderly c.self.invariant.so_far c.self.invariant.tables none)
+    (feasible_when_none c.self.inside.snapshot.now c.self.inside.placements.items c.self.inside.tables c.parts.ensures.orderly c.self.invariant.kept.so_far c.self.invariant.kept.tables none)

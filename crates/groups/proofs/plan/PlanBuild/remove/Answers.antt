@@ -21,7 +21,7 @@ one_found c = ap (find (λ (p : Placement). p.request.0 == c.args.request.0)) (s
 possible : (c : In-Some) → IsPossibleStart c.self.inside.snapshot.now c.in-Some.placement
 possible c =
     let found = found_placement c.args.request.0 c.self.inside.placements.items c.in-Some.placement (one_found c) in
-    All-contains (IsPossibleStart c.self.inside.snapshot.now) c.self.inside.placements.items c.in-Some.placement c.self.invariant.so_far.possible found.0
+    All-contains (IsPossibleStart c.self.inside.snapshot.now) c.self.inside.placements.items c.in-Some.placement c.self.invariant.kept.so_far.possible found.0
 
 pub returns-in_default-clause-found : goal.returns-in_default-clause-found
 returns-in_default-clause-found c = (λ yes. let bad : false ≡ true = yes in cc, λ has. absurd (not_found c.args.request.0 c.args.self.now.placed (none_found c) has))
@@ -31,23 +31,26 @@ returns-in_default-clause-after c =
     let same : without c.args.request.0 c.args.self.now.placed ≡ c.args.self.now.placed = not_placed c.args.request.0 c.args.self.now.placed (not_found c.args.request.0 c.args.self.now.placed (none_found c)) in
     ap (λ (ps : List Placement). let b : Building = record { snapshot = c.args.self.now.snapshot; placed = ps } in b) (sym same)
 
-pub footprint_of-footprint-requires : goal.footprint_of-footprint-requires
-footprint_of-footprint-requires c = possible c
+pub footprint_of-footprint-requires-clause-possible : goal.footprint_of-footprint-requires-clause-possible
+footprint_of-footprint-requires-clause-possible c = possible (goal.at.footprint_of-footprint-requires-clause-possible c).In-Some
 
 pub release-requires-clause-within : goal.release-requires-clause-within
 release-requires-clause-within c =
-    in_tables c.self.inside.snapshot.now c.self.inside.placements.items c.in-Some.placement c.footprint_of-footprint.result c.self.inside.tables c.recall_valid.ensures.orderly (possible (goal.at.release-requires-clause-within c).In-Some) c.self.invariant.tables c.footprint_of-footprint.ensures
+    in_tables c.self.inside.snapshot.now c.self.inside.placements.items c.in-Some.placement c.footprint_of-footprint.result c.self.inside.tables c.recall_valid.ensures.orderly (possible (goal.at.release-requires-clause-within c).In-Some) c.self.invariant.kept.tables c.footprint_of-footprint.ensures
 
 pub release-requires-clause-taken_up : goal.release-requires-clause-taken_up
 release-requires-clause-taken_up c =
     let found = found_placement c.args.request.0 c.self.inside.placements.items c.in-Some.placement (one_found (goal.at.release-requires-clause-taken_up c).In-Some) in
-    taken_in_plan c.self.inside.snapshot.now c.self.inside.placements.items c.in-Some.placement _ c.footprint_of-footprint.result c.self.inside.tables c.self.invariant found.0 c.footprint_of-footprint.ensures
+    taken_in_plan c.self.inside.snapshot.now c.self.inside.placements.items c.in-Some.placement _ c.footprint_of-footprint.result c.self.inside.tables c.self.invariant.kept found.0 c.footprint_of-footprint.ensures
 
 pub invariant_of-self : goal.invariant_of-self
 invariant_of-self c =
     let found = found_placement c.args.request.0 c.self.inside.placements.items c.in-Some.placement (one_found (goal.at.invariant_of-self c).In-Some) in
     let less : c.retain.new.self.items ≡ without c.args.request.0 c.self.inside.placements.items = filter_same _ _ _ (λ x b f' k. search rules) _ _ c.retain.ensures.filtered in
-    kept_removed c.self.inside.snapshot.now c.self.inside.placements.items _ c.in-Some.placement c.args.request.0 _ _ c.footprint_of-footprint.result c.release.new.self c.self.inside.tables c.self.invariant found.0 found.1 c.footprint_of-footprint.ensures c.release.ensures less c.retain.ensures.capacity
+    record {
+      kept = kept_removed c.self.inside.snapshot.now c.self.inside.placements.items _ c.in-Some.placement c.args.request.0 _ _ c.footprint_of-footprint.result c.release.new.self c.self.inside.tables c.self.invariant.kept found.0 found.1 c.footprint_of-footprint.ensures c.release.ensures less c.retain.ensures.capacity;
+      known_places = c.self.invariant.known_places;
+    }
 
 pub returns-clause-found : goal.returns-clause-found
 returns-clause-found c =

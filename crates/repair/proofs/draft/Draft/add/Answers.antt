@@ -3,8 +3,12 @@ use Rattle.plan_base.specs.declared.parts.Parts.{Parts}
 use Rattle.plan_base.specs.Snapshot.{IsOrderly}
 use Rattle.plan_base.specs.Starts.{IsPossibleStart}
 use Rattle.groups.specs.Building.{Building}
+use Rattle.groups.specs.Places.{ArePlaces}
 use Rattle.repair.proofs.Drafting.{slots_within, slots_few, draft_added}
 use Rattle.repair.proofs.draft.Draft.add.Goals as goal
+
+pub slots_of-slots-requires-clause-places : goal.slots_of-slots-requires-clause-places
+slots_of-slots-requires-clause-places c = subst (λ (s : Parts). ArePlaces s c.places.result.now) c.self.invariant.snapshot c.places.ensures
 
 pub overflow_cast-slots : goal.overflow_cast-slots
 overflow_cast-slots c =

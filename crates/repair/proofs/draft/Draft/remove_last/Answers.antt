@@ -6,11 +6,15 @@ use Rattle.plan_base.specs.Snapshot.{IsOrderly}
 use Rattle.plan_base.specs.Starts.{IsPossibleStart}
 use Rattle.plan_base.specs.FeasibleSoFar.{IsFeasibleSoFar}
 use Rattle.groups.specs.Building.{Building}
+use Rattle.groups.specs.Places.{ArePlaces}
 use Rattle.repair.proofs.Drafting.{slots_within, draft_removed, removed_is}
 use Rattle.repair.proofs.draft.Draft.remove_last.Goals as goal
 
-pub slots_of-slots-requires : goal.slots_of-slots-requires
-slots_of-slots-requires c =
+pub slots_of-slots-requires-clause-places : goal.slots_of-slots-requires-clause-places
+slots_of-slots-requires-clause-places c = subst (λ (s : Parts). ArePlaces s c.places.result.now) c.self.invariant.snapshot c.places.ensures
+
+pub slots_of-slots-requires-clause-possible : goal.slots_of-slots-requires-clause-possible
+slots_of-slots-requires-clause-possible c =
     let same : c.args.self.now.snapshot ≡ c.self.inside.snapshot.now = ap (λ (b : Building). b.snapshot) (sym c.self.view_is) ∙ c.self.invariant.snapshot in
     let last : HoldsAt (λ p. p ≡ c.last_of-start.result) c.args.self.now.placed (length c.args.self.now.placed - 1)
     = subst (λ (plan : List Placement). HoldsAt (λ p. p ≡ c.last_of-start.result) plan (length plan - 1)) (c.placed.ensures.value ∙ ap (λ (b : Building). b.placed) c.self.view_is) c.last_of-start.ensures

@@ -7,4 +7,4 @@ loop-index-preserved c =
     in_order_more c.args.snapshot.now c.args.starts.now c.loop-index.index _ c.slots_of-before.result.to c.slots_of-after.result.from (omega arith) (omega arith) c.slots_of-before.ensures.to c.slots_of-after.ensures.from (omega arith) c.loop-index.invariant
 
 pub returns : goal.returns
-returns c = λ yes. disjoint_in_order c.args.snapshot.now c.args.starts.now c.loop-index.index c.requires (omega arith) c.loop-index.invariant
+returns c = λ yes. disjoint_in_order c.args.snapshot.now c.args.starts.now c.loop-index.index c.requires.possible (omega arith) c.loop-index.invariant
