@@ -189,12 +189,7 @@ fn placement_of(placements: &[Placement], request: RequestNo) -> Option<Placemen
 }
 
 /// Gives free what all placements take up.
-fn release_all(
-    snapshot: &Snapshot,
-    places: &Places,
-    placements: &[Placement],
-    tables: &mut Tables,
-)
+fn release_all(snapshot: &Snapshot, places: &Places, placements: &[Placement], tables: &mut Tables)
     requires places { ArePlaces snapshot.now places.now }
     requires possible { All (IsPossibleStart snapshot.now) placements.now }
     requires tables { AreTables snapshot.now placements.now tables.old }
