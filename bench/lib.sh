@@ -61,6 +61,25 @@ measure_session() {
         END { printf "%s %.2f %d\n", name, least, peak }'
 }
 
+# measure_runs NAME COUNT INPUT PROGRAM WORD..: the least milliseconds of processor time of a run on the input, by five times so many runs,
+# and the peak memory, in a line.
+measure_runs() {
+    name=$1
+    count=$2
+    input=$3
+    shift 3
+    for _ in 1 2 3 4 5; do
+        # shellcheck disable=SC2016
+        /usr/bin/time -f '%U %S %M' sh -c 'turns=$1
+        shift
+        for _ in $turns; do
+            "$@" < "$0" > /dev/null
+        done' "$input" "$(seq "$count")" "$@" 2>&1 | tail -n 1
+    done | awk -v name="$name" -v count="$count" '
+        { spent = 1000 * ($1 + $2) / count; if (NR == 1 || spent < least) least = spent; if ($3 > peak) peak = $3 }
+        END { printf "%s %.2f %d\n", name, least, peak }'
+}
+
 # proved_program NAME: proves and builds a program of this repository, where it isn't for the sources as they are, and prints where it is.
 proved_program() (
     top=$PWD
