@@ -8,6 +8,7 @@ ghost use Rattle.plan_base.specs.Verdict.{IsFirst};
 ghost use Rattle.group_trees.specs.Forests.{IsAt, AreSingles, IsForest, IsFirstFault};
 
 use crate::fault::ForestFault;
+use crate::guesses::{Guesses, places_of};
 use crate::leaves::wrong_leaf;
 use crate::levels::{first_deep, first_empty};
 use crate::tree::Tree;
@@ -19,6 +20,8 @@ use std::alloc::Global;
 pub struct Forest<'a> {
     snapshot: &'a Snapshot,
     trees: Vec<Tree>,
+    /// For each tree the places of its leaves' requests among all, in the order of its leaves.
+    places: Vec<Vec<usize>>,
     ghost sound: { IsForest snapshot.now (trees_seen trees.items) },
 }
 
@@ -49,7 +52,12 @@ impl<'a> Forest<'a> {
         if let Some(request) = wrong_leaf(alloc, snapshot, &trees)? {
             return Err(ForestFault::TreeLeaf { request });
         }
-        Ok(Forest { snapshot, trees })
+        let places = places_of(alloc, snapshot, trees.as_slice())?;
+        Ok(Forest {
+            snapshot,
+            trees,
+            places,
+        })
     }
 
     /// The snapshot that it was built for.
@@ -64,6 +72,14 @@ impl<'a> Forest<'a> {
         ensures { trees_seen result.now ≡ trees_of self.now }
     {
         self.trees.as_slice()
+    }
+
+    /// Where the requests of the leaves of the tree at a place are likely to stand among all.
+    pub(crate) fn guesses(&self, tree: usize) -> Guesses<'_> {
+        match self.places.get(tree) {
+            Some(places) => Guesses::new(places.as_slice()),
+            None => Guesses::new(&[]),
+        }
     }
 
     /// Recalls, where a proof needs it, what the type keeps of the trees. It does nothing.

@@ -7,6 +7,7 @@ mod branch;
 mod check;
 mod fault;
 mod forest;
+mod guesses;
 mod laws;
 mod leaves;
 mod levels;

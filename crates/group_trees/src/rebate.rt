@@ -11,6 +11,7 @@ ghost use Rattle.group_trees.specs.Pairs.{IsSome, IsPair, IsSum, AreSums, IsJoin
 ghost use Rattle.group_trees.specs.Built.{snapshot_of, trees_of};
 
 use crate::forest::Forest;
+use crate::guesses::Guesses;
 use crate::tree::Tree;
 use plan_base::{Prices, RequestNo, Snapshot, larger};
 
@@ -41,24 +42,23 @@ pub fn tree_rebate(forest: &Forest<'_>, tree: usize, prices: &Prices) -> i64
     forest.recall_sound();
     let snapshot = forest.snapshot();
     snapshot.recall_valid();
-    let mut guess = 0;
-    any_of(sums_of(snapshot, prices, &forest.trees()[tree], &mut guess))
+    let mut guesses = forest.guesses(tree);
+    any_of(sums_of(snapshot, prices, &forest.trees()[tree], &mut guesses))
 }
 
-/// The greatest sums over the choices of a tree. Children are read from the last to the first, and the guess is the place
-/// among all requests where the next leaf's request is likely to stand. It may be any number, and only saves time.
+/// The greatest sums over the choices of a tree. Children are read from the last to the first, as the guesses are.
 #[cycle(rebate)]
-fn sums_of(snapshot: &Snapshot, prices: &Prices, tree: &Tree, guess: &mut usize) -> Greatest
+fn sums_of(snapshot: &Snapshot, prices: &Prices, tree: &Tree, guesses: &mut Guesses<'_>) -> Greatest
     requires count { length prices.now.0 ≡ length (listed snapshot.now) }
     requires range { All IsPriceInRange prices.now.0 }
     requires sound { IsSound snapshot.now (seen tree.now) }
     ensures { IsPair (IsTreeChoice (seen tree.now)) (price snapshot.now prices.now.0) result }
 {
     match tree {
-        Tree::Leaf(request) => beside_nothing(price_of(snapshot, prices, *request, guess)),
-        Tree::Many(children) => union_of(snapshot, prices, children, guess),
-        Tree::OneOf(children) => beside_nothing(best_child(snapshot, prices, children, guess)),
-        Tree::And(children) => beside_nothing(whole_of(snapshot, prices, children, guess)),
+        Tree::Leaf(request) => beside_nothing(price_of(snapshot, prices, *request, guesses)),
+        Tree::Many(children) => union_of(snapshot, prices, children, guesses),
+        Tree::OneOf(children) => beside_nothing(best_child(snapshot, prices, children, guesses)),
+        Tree::And(children) => beside_nothing(whole_of(snapshot, prices, children, guesses)),
     }
 }
 
@@ -68,7 +68,7 @@ fn union_of(
     snapshot: &Snapshot,
     prices: &Prices,
     children: &Vec<Tree>,
-    guess: &mut usize,
+    guesses: &mut Guesses<'_>,
 ) -> Greatest
     requires count { length prices.now.0 ≡ length (listed snapshot.now) }
     requires range { All IsPriceInRange prices.now.0 }
@@ -77,16 +77,21 @@ fn union_of(
     ensures { IsPair (IsUnion (all_seen children.now.items)) (price snapshot.now prices.now.0) result }
 {
     let last = children.len() - 1;
-    let mut sum = sums_of(snapshot, prices, &children[last], guess);
+    let mut sum = sums_of(snapshot, prices, &children[last], guesses);
     for index in (0..last).rev() {
-        sum = joined(sums_of(snapshot, prices, &children[index], guess), sum);
+        sum = joined(sums_of(snapshot, prices, &children[index], guesses), sum);
     }
     sum
 }
 
 /// The greatest sum over the choices of one child that aren't empty.
 #[cycle(rebate)]
-fn best_child(snapshot: &Snapshot, prices: &Prices, children: &Vec<Tree>, guess: &mut usize) -> Sum
+fn best_child(
+    snapshot: &Snapshot,
+    prices: &Prices,
+    children: &Vec<Tree>,
+    guesses: &mut Guesses<'_>,
+) -> Sum
     requires count { length prices.now.0 ≡ length (listed snapshot.now) }
     requires range { All IsPriceInRange prices.now.0 }
     requires sound { AreSound snapshot.now (all_seen children.now.items) }
@@ -94,16 +99,21 @@ fn best_child(snapshot: &Snapshot, prices: &Prices, children: &Vec<Tree>, guess:
     ensures { IsGreatest (IsSome (IsOfOne (all_seen children.now.items))) (price snapshot.now prices.now.0) result.value }
 {
     let last = children.len() - 1;
-    let mut best = some_of(sums_of(snapshot, prices, &children[last], guess));
+    let mut best = some_of(sums_of(snapshot, prices, &children[last], guesses));
     for index in (0..last).rev() {
-        best = better(sums_of(snapshot, prices, &children[index], guess), best);
+        best = better(sums_of(snapshot, prices, &children[index], guesses), best);
     }
     best
 }
 
 /// The greatest sum over the unions of one choice of each child that isn't empty.
 #[cycle(rebate)]
-fn whole_of(snapshot: &Snapshot, prices: &Prices, children: &Vec<Tree>, guess: &mut usize) -> Sum
+fn whole_of(
+    snapshot: &Snapshot,
+    prices: &Prices,
+    children: &Vec<Tree>,
+    guesses: &mut Guesses<'_>,
+) -> Sum
     requires count { length prices.now.0 ≡ length (listed snapshot.now) }
     requires range { All IsPriceInRange prices.now.0 }
     requires sound { AreSound snapshot.now (all_seen children.now.items) }
@@ -111,19 +121,23 @@ fn whole_of(snapshot: &Snapshot, prices: &Prices, children: &Vec<Tree>, guess: &
 {
     let mut sum = Sum { value: 0 };
     for index in (0..children.len()).rev() {
-        sum = added(sums_of(snapshot, prices, &children[index], guess), sum);
+        sum = added(sums_of(snapshot, prices, &children[index], guesses), sum);
     }
     sum
 }
 
-/// The price of a request. The guess becomes the place before it, since leaves mostly have the order of the requests.
-fn price_of(snapshot: &Snapshot, prices: &Prices, request: RequestNo, guess: &mut usize) -> Sum
+/// The price of a request, which is that of the next leaf.
+fn price_of(
+    snapshot: &Snapshot,
+    prices: &Prices,
+    request: RequestNo,
+    guesses: &mut Guesses<'_>,
+) -> Sum
     requires count { length prices.now.0 ≡ length (listed snapshot.now) }
     requires known { IsKnown snapshot.now request.0 }
     ensures { result.value ≡ price snapshot.now prices.now.0 request.0 }
 {
-    let place = place_near(snapshot, request, *guess);
-    *guess = place.saturating_sub(1);
+    let place = place_near(snapshot, request, guesses.take());
     Sum {
         value: prices.0.as_slice()[place],
     }
