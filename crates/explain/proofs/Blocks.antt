@@ -8,8 +8,8 @@ use Rattle.plan_base.specs.Snapshot.{IsOrderly}
 use Rattle.plan_base.specs.Starts.{IsPossibleStart, size_of}
 use Rattle.plan_base.proofs.Sizes.{start_size_above}
 use Rattle.explain.specs.Left.{Blocks, AreKept}
-use Rattle.explain.specs.Openings.{IsSet, HasFlagWithin, CanStartAt, IsOpenRow}
-use Rattle.explain.proofs.Numbers.{below_or_at}
+use Rattle.openings.specs.Openings.{IsSet, HasFlagWithin, CanStartAt, IsOpenRow}
+use Rattle.openings.proofs.Numbers.{below_or_at}
 
 module _ (s : Parts) (r size : ℕ) (flags : List Bool) (p : Placement) (orderly : IsOrderly s) (size_is : size ≡ size_of s r) (open_row : IsOpenRow s p.telescope.0 r flags) (possible : IsPossibleStart s p) where
   later_or_not : (a b : ℕ) → (a ≤ b) ⊎ (b < a)

@@ -14,7 +14,7 @@ use Rattle.bound_checker.specs.declared.worth.Offer.{Offer}
 use Rattle.bound_checker.specs.Offers.{offer_weight}
 use Rattle.explain.specs.declared.chart.Chart.{Chart}
 use Rattle.explain.specs.Through.{IsBestUntil}
-use Rattle.explain.specs.Openings.{IsOfferOf, CanStartAt}
+use Rattle.openings.specs.Openings.{IsOfferOf, CanStartAt}
 use Rattle.explain.specs.Steps.{IsChart}
 use Rattle.explain.specs.Crossings.{IsGainAt}
 use Rattle.explain.proofs.Fits.{fits_64}

@@ -14,10 +14,11 @@ use Rattle.plan_base.proofs.Limits.{best_between, weight_between}
 use Rattle.plan_base.proofs.Orders.{contains_first}
 use Rattle.plan_base.proofs.Sizes.{start_size_above}
 use Rattle.explain.specs.Through.{IsBestUntil, IsThrough, IsGain}
-use Rattle.explain.specs.Forced.{IsStartFor, IsStartAt, CanTake, IsDetour, IsGreatestDetour}
+use Rattle.openings.specs.Openings.{IsStartFor, IsStartAt}
+use Rattle.explain.specs.Forced.{CanTake, IsDetour, IsGreatestDetour}
 use Rattle.explain.specs.Left.{HasStarts}
 use Rattle.explain.specs.Crossings.{HasStartsWhere, IsOnBefore, IsOn, IsBeforeTelescope, IsLargerOf, count_of, IsGainAt, IsGainIfAny, IsGreatestGain, AreGainsTo, IsDetourInRange, IsDetourIfAny, IsCrossing, IsGreatestDetourTo, IsPassedTo}
-use Rattle.explain.proofs.Numbers.{below_or_at, same_start}
+use Rattle.openings.proofs.Numbers.{below_or_at, same_start}
 use Rattle.explain.proofs.Passing.{through_is}
 use Rattle.explain.proofs.Pieces.{pairs_append}
 

@@ -17,14 +17,15 @@ use Rattle.plan_base.specs.Verdict.{IsCertified, IsFirstReason, IsVerdict, verdi
 use Rattle.plan_base.proofs.Known.{telescope_known, known_as}
 use Rattle.explain.specs.declared.answer.Left.{Left}
 use Rattle.explain.specs.declared.chart.Chart.{Chart}
-use Rattle.explain.specs.Forced.{IsStartFor, IsGreatestDetour, Excludes, IsInNoGoodPlan}
+use Rattle.openings.specs.Openings.{IsStartFor}
+use Rattle.explain.specs.Forced.{IsGreatestDetour, Excludes, IsInNoGoodPlan}
 use Rattle.explain.specs.Left.{IsLeft, is_placed, left_out, IsExplanation}
 use Rattle.explain.specs.Steps.{IsChart}
 use Rattle.explain.specs.Crossings.{AreChartsTo, IsDetourInRange, IsPassedTo}
 use Rattle.explain.specs.Explained.{AreLeftTo}
 use Rattle.explain.proofs.Excluding.{excluded}
 use Rattle.explain.proofs.Gathering.{greatest_detour}
-use Rattle.explain.proofs.Numbers.{below_or_at}
+use Rattle.openings.proofs.Numbers.{below_or_at}
 
 pub charts_more : (s : Parts) (prices : List ℤ) (n : ℕ) (charts : List Chart) (chart : Chart) → AreChartsTo s prices n charts → IsChart s prices n chart → AreChartsTo s prices (n + 1) (charts ++ chart ∷ [])
 charts_more s prices n charts chart are next =

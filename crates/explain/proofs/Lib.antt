@@ -4,11 +4,9 @@ pub mod Charted
 pub mod Choosing
 pub mod Excluding
 pub mod Fits
-pub mod Flags
 pub mod Gaining
 pub mod Gathering
 pub mod Leaving
-pub mod Numbers
 pub mod Passing
 pub mod Pieces
 pub mod Raising

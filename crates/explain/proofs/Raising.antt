@@ -7,7 +7,7 @@ use Rattle.plan_base.specs.Tables.{entry, row}
 use Rattle.bound_checker.specs.declared.table.Start.{Start}
 use Rattle.bound_checker.specs.Tables.{IsEntry, IsFitting}
 use Rattle.explain.specs.Steps.{IsStepBefore, IsForward, IsFilledTo, IsRaised}
-use Rattle.explain.proofs.Numbers.{below_or_at}
+use Rattle.openings.proofs.Numbers.{below_or_at}
 
 same_or_not : (a b : ℕ) → (a ≡ b) ⊎ (a ≢ b)
 same_or_not a b = grind arith

@@ -4,7 +4,8 @@ use Rattle.plan_base.specs.declared.parts.Parts.{Parts}
 use Rattle.plan_base.specs.declared.claim.Placement.{Placement}
 use Rattle.explain.specs.declared.chart.Chart.{Chart}
 use Rattle.explain.specs.Through.{IsGain}
-use Rattle.explain.specs.Forced.{IsStartFor, IsStartAt, CanTake, IsDetour}
+use Rattle.openings.specs.Openings.{IsStartFor, IsStartAt}
+use Rattle.explain.specs.Forced.{CanTake, IsDetour}
 use Rattle.explain.specs.Steps.{IsChart}
 
 -- the possible starts of request r of which P holds, each once

@@ -7,20 +7,11 @@ use Rattle.plan_base.specs.Requests.{group_of}
 use Rattle.plan_base.specs.Starts.{IsPossibleStart, value_of_plan}
 use Rattle.plan_base.specs.Feasible.{requests_of, IsFeasible}
 use Rattle.plan_base.specs.Bound.{IsBest, net_price, IsRebate}
+use Rattle.openings.specs.Openings.{IsStartFor, IsStartAt}
 use Rattle.explain.specs.declared.answer.Forced.{Forced}
 use Rattle.explain.specs.declared.answer.Forced.TheVariants.{NoStart, Bound}
 use Rattle.explain.specs.Through.{IsThrough}
 use Rattle.explain.specs.Choice.{IsRebateWith}
-
--- a possible start of request r
-pub record IsStartFor (s : Parts) (r : ℕ) (p : Placement) : Type 0 where
-  pub possible : IsPossibleStart s p
-  pub same_request : p.request.0 ≡ r
-
--- a possible start of request r on telescope t
-pub record IsStartAt (s : Parts) (t r : ℕ) (p : Placement) : Type 0 where
-  pub start : IsStartFor s r p
-  pub same_telescope : p.telescope.0 ≡ t
 
 -- telescope t has a start of request r
 abbrev pub CanTake : Parts → ℕ → ℕ → Type 0

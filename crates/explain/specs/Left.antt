@@ -11,7 +11,8 @@ use Rattle.plan_base.specs.Verdict.{IsVerdict}
 use Rattle.explain.specs.declared.answer.Left.{Left}
 use Rattle.explain.specs.declared.answer.ExplainAnswer.{ExplainAnswer}
 use Rattle.explain.specs.declared.answer.ExplainAnswer.TheVariants.{Explained, No}
-use Rattle.explain.specs.Forced.{IsStartFor, ForcedValue, Excludes, IsInNoGoodPlan}
+use Rattle.openings.specs.Openings.{IsStartFor}
+use Rattle.explain.specs.Forced.{ForcedValue, Excludes, IsInNoGoodPlan}
 
 -- all possible starts of request r, each once
 pub record AreStartsFor (s : Parts) (r : ℕ) (starts : List Placement) : Type 0 where

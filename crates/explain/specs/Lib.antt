@@ -2,7 +2,6 @@ pub mod Through
 pub mod Choice
 pub mod Forced
 pub mod Left
-pub mod Openings
 pub mod Steps
 pub mod Crossings
 pub mod Explained

@@ -5,11 +5,11 @@ ghost use Rattle.plan_base.specs.Requests.{IsKnown};
 ghost use Rattle.plan_base.specs.Starts.{IsPossibleStart, size_of};
 ghost use Rattle.plan_base.specs.Feasible.{IsEachPossible};
 ghost use Rattle.explain.specs.Left.{AreKept, Blocks};
-ghost use Rattle.explain.specs.Openings.{AreOpenings, HasFlagWithin};
+ghost use Rattle.openings.specs.Openings.{AreOpenings, HasFlagWithin};
 
 use crate::answer::Blocking;
-use crate::opening::Openings;
 use bound_checker::request_of;
+use openings::Openings;
 use plan_base::{ListOf, Placement, RequestNo, Snapshot, slices_for};
 use std::alloc::{AllocError, Global};
 

@@ -5,13 +5,13 @@ ghost use Rattle.plan_base.specs.Verdict.{IsPriceInRange};
 ghost use Rattle.explain.specs.Through.{IsThrough};
 ghost use Rattle.explain.specs.Forced.{CanTake};
 ghost use Rattle.plan_base.specs.Tables.{row};
-ghost use Rattle.explain.specs.Openings.{AreOpenings};
+ghost use Rattle.openings.specs.Openings.{AreOpenings};
 ghost use Rattle.explain.specs.Steps.{IsChart};
 ghost use Rattle.explain.specs.Crossings.{IsLargerOf, count_of, IsGainIfAny, AreGainsTo, IsDetourIfAny, IsCrossing};
 
 use crate::chart::Chart;
-use crate::opening::Openings;
 use bound_checker::weight_at;
+use openings::Openings;
 use plan_base::{Prices, Snapshot, TelescopeNo, larger};
 
 /// What is known of a request on a telescope.

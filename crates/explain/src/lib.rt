@@ -8,7 +8,6 @@ mod choice;
 mod crossing;
 mod laws;
 mod left;
-mod opening;
 mod passage;
 mod run;
 #[cfg(test)]

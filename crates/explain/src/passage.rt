@@ -3,12 +3,12 @@
 ghost use Rattle.std.specs.Prelude.{◌≡◌, length, All, IfOk};
 ghost use Rattle.plan_base.specs.Requests.{listed};
 ghost use Rattle.plan_base.specs.Verdict.{IsPriceInRange};
-ghost use Rattle.explain.specs.Openings.{AreOpenings};
+ghost use Rattle.openings.specs.Openings.{AreOpenings};
 ghost use Rattle.explain.specs.Crossings.{AreCharts, IsPassedTo};
 
 use crate::chart::{Chart, chart_of};
 use crate::crossing::{cross, larger_of};
-use crate::opening::Openings;
+use openings::Openings;
 use plan_base::{Prices, Snapshot, TelescopeNo};
 use std::alloc::{AllocError, Global};
 

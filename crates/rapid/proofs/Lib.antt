@@ -6,7 +6,7 @@ pub mod Staying
 pub mod Rebates
 pub mod Bounds
 pub mod PartSums
-pub mod Startless
+pub mod Tabled
 pub mod Mended
 pub mod Sums
 pub mod Telling

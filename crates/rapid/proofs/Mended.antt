@@ -1,24 +1,27 @@
--- What becomes of bests and bound where a snapshot has one more request.
-use Rattle.std.proofs.Common.{◌≡◌, ℕ, ◌+◌, ◌-◌, ◌<◌, ◌≤◌, inl, inr, ℤ, pos, ◌+ℤ◌, ◌-ℤ◌, ◌≤ℤ◌, List, [], ◌∷◌, ◌++◌, length, length-append, slice_index_or, All, sym, ◌∙◌, ap, subst, arith}
+-- What becomes of tables and bound where a snapshot has one more request.
+use Rattle.std.proofs.Common.{◌≡◌, ℕ, ◌+◌, ◌-◌, ◌<◌, ◌≤◌, Bool, ℤ, pos, ◌+ℤ◌, ◌-ℤ◌, ◌≤ℤ◌, List, [], ◌∷◌, ◌++◌, length, length-append, All, sym, ◌∙◌, ap, subst, arith}
 use Rattle.std.proofs.lemmas.Int.{ints}
 use Rattle.std.proofs.lemmas.List.Elements.{All-push}
 use Rattle.plan_base.specs.declared.parts.Parts.{Parts}
 use Rattle.plan_base.specs.declared.parts.RequestPart.{RequestPart}
-use Rattle.plan_base.specs.declared.number.TelescopeNo.{TelescopeNo}
 use Rattle.plan_base.specs.Sums.{IsSumOf}
 use Rattle.plan_base.specs.Requests.{Listed, listed, IsKnown, request_value}
 use Rattle.plan_base.specs.Snapshot.{IsOrderly}
-use Rattle.plan_base.specs.Starts.{IsPossibleStart}
+use Rattle.plan_base.specs.Tables.{entry, row}
 use Rattle.plan_base.specs.Bound.{IsBest, net_price, IsRebate, IsBound}
 use Rattle.plan_base.specs.Verdict.{IsPriceInRange}
 use Rattle.plan_base.proofs.Known.{known_or_is, value_at_most}
+use Rattle.bound_checker.specs.declared.worth.Offer.{Offer}
 use Rattle.bound_checker.specs.Summed.{IsPartSum}
+use Rattle.bound_checker.specs.Tables.{IsEntry}
+use Rattle.openings.specs.Openings.{IsOpenRow, IsOfferOf}
 use Rattle.bound_checker.proofs.Summing.{rebate_between}
-use Rattle.rapid.specs.declared.bests.Extension.{Extension}
+use Rattle.rapid.specs.declared.tables.Extension.{Extension}
 use Rattle.rapid.specs.Insertion.{with_group}
-use Rattle.rapid.specs.Bests.{IsPriceable, AreMorePrices, IsPassedOver}
+use Rattle.rapid.specs.Tables.{IsTableOf, IsPriceable, AreMorePrices, IsEnough}
 use Rattle.rapid.proofs.Newest.{count_newest, newest_known, newest_as}
-use Rattle.rapid.proofs.Staying.{IsWorthless, best_kept, worthless_dear, worthless_unable}
+use Rattle.rapid.proofs.Staying.{enough_for, table_kept}
+use Rattle.rapid.proofs.Tabled.{entries_between}
 use Rattle.rapid.proofs.Bounds.{bound_more}
 
 module _ (x : Extension) (h : IsPriceable x) (ob : IsOrderly x.before.now) (oa : IsOrderly x.snapshot.now) where
@@ -55,8 +58,17 @@ module _ (x : Extension) (h : IsPriceable x) (ob : IsOrderly x.before.now) (oa :
       let most : request_value after q.request.0 ≤ 288000000 = value_at_most after q.request.0 orderly known in
       omega arith
 
+  pub request_known : IsKnown x.snapshot.now q.request.0
+  request_known = subst (λ (s : Parts). IsKnown s q.request.0) (sym h.whole) (newest_known before h.group q h.only orderly)
+
   telescopes_same : length before.telescopes ≡ length x.snapshot.now.telescopes
   telescopes_same = sym (ap (λ (s : Parts). length s.telescopes) h.whole)
+
+  pub tables_count : length x.tables.now ≡ length x.snapshot.now.telescopes
+  tables_count = h.are_tables.count ∙ telescopes_same
+
+  pub table_entries : (t : ℕ) → t < length x.snapshot.now.telescopes → All IsEntry (row x.tables.now t)
+  table_entries t l = entries_between before cs t ob (row x.tables.now t) (h.are_tables.each t (let same = telescopes_same in omega arith)) h.certified.price_range
 
   module _ (price : ℤ) (prices : List ℤ) (more : AreMorePrices x.claim.now price prices) where
     pub count_more : length prices ≡ length (listed x.snapshot.now)
@@ -71,21 +83,23 @@ module _ (x : Extension) (h : IsPriceable x) (ob : IsOrderly x.before.now) (oa :
     pub range_more : All IsPriceInRange prices
     range_more = subst (All IsPriceInRange) (sym more.whole) (All-push IsPriceInRange cs price h.certified.price_range more.range)
 
-    worthless : (t : TelescopeNo) → IsPassedOver x price t → IsWorthless before h.group q h.only orderly cs price h.certified.price_count t.0
-    worthless t (inl dear) = worthless_dear before h.group q h.only orderly cs price h.certified.price_count dear t.0
-    worthless t (inr (inl unable)) = worthless_unable before h.group q h.only orderly cs price h.certified.price_count t unable
-    worthless t (inr (inr none)) = λ p possible same on. absurd (none p same on (subst (λ (s : Parts). IsPossibleStart s p) (sym h.whole) possible))
-
-    -- a best stays where no start of the request is worth more than its price
-    pub best_stays : (t : TelescopeNo) → t.0 < length x.snapshot.now.telescopes → IsPassedOver x price t
-        → IsBest x.snapshot.now prices t.0 x.snapshot.now.first.0 (slice_index_or x.bests.now t.0 (pos 0))
-    best_stays t l none =
-        let b : ℤ = slice_index_or x.bests.now t.0 (pos 0) in
-        let below : t.0 < length before.telescopes = (let same = telescopes_same in omega arith) in
-        let kept : IsBest after (cs ++ price ∷ []) t.0 before.first.0 b =
-        best_kept before h.group q h.only orderly cs price h.certified.price_count t.0 before.first.0 b (worthless t none) (h.are_bests.each t.0 below)
+    -- a table stays where the starts of the request give no more than it has
+    pub table_stays : (t : ℕ) → t < length x.snapshot.now.telescopes → (o : Offer) (flags : List Bool) → IsOfferOf x.snapshot.now prices q.request.0 o → IsOpenRow x.snapshot.now t q.request.0 flags → IsEnough o x.snapshot.now.first.0 flags (row x.tables.now t)
+        → IsTableOf x.snapshot.now prices t (row x.tables.now t)
+    table_stays t l o flags offer open_row enough =
+        let table : List ℤ = row x.tables.now t in
+        let below : t < length before.telescopes = (let same = telescopes_same in omega arith) in
+        let old : IsTableOf before cs t table = h.are_tables.each t below in
+        let offers : IsOfferOf after (cs ++ price ∷ []) q.request.0 o =
+        subst (λ (ps : List ℤ). IsOfferOf after ps q.request.0 o) more.whole (subst (λ (s : Parts). IsOfferOf s prices q.request.0 o) h.whole offer)
         in
-        subst (λ (s : Parts). IsBest s prices t.0 s.first.0 b) (sym h.whole) (subst (λ (ps : List ℤ). IsBest after ps t.0 before.first.0 b) (sym more.whole) kept)
+        let flagged : IsOpenRow after t q.request.0 flags = subst (λ (s : Parts). IsOpenRow s t q.request.0 flags) h.whole open_row in
+        let most : IsEnough o before.first.0 flags table = subst (λ (s : Parts). IsEnough o s.first.0 flags table) h.whole enough in
+        let kept : IsTableOf after (cs ++ price ∷ []) t table = record {
+          count = old.count;
+          from_slices = table_kept before h.group q h.only orderly cs price h.certified.price_count t (λ k. entry table (k - before.first.0)) (enough_for after (cs ++ price ∷ []) t q.request.0 o flags table offers flagged most) old.from_slices;
+        } in
+        subst (λ (s : Parts). IsTableOf s prices t table) (sym h.whole) (subst (λ (ps : List ℤ). IsTableOf after ps t table) (sym more.whole) kept)
 
     abbrev net : ℕ → ℤ
     net = net_price x.snapshot.now prices x.claim.now.quota_prices.0

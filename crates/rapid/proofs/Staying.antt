@@ -1,9 +1,6 @@
--- The best of a telescope stays where no start of a new request there is worth more than its price.
-use Rattle.std.proofs.Common.{◌≡◌, ◌≢◌, ℕ, ◌+◌, ◌*◌, ◌<◌, ◌≤◌, inl, inr, Bool, true, not, ◌==◌, ℤ, pos, ◌+ℤ◌, ◌-ℤ◌, ◌≤ℤ◌, List, [], ◌∷◌, ◌++◌, length, slice_index_or, filter, All, Any, Contains, sym, ◌∙◌, ap, subst, arith}
-use Rattle.std.proofs.lemmas.Int.{ints}
-use Rattle.std.proofs.lemmas.Bool.Decides.{nat_tests}
-use Rattle.std.proofs.lemmas.List.Elements.{All-weaker, All-filter, filter_passes}
-use Rattle.std.proofs.lemmas.List.Kept.{AllPairs-filter}
+-- What a telescope gives from each slice on stays where no start of a new request gives more.
+use Rattle.std.proofs.Common.{◌≡◌, ℕ, ◌+◌, ◌*◌, ◌-◌, ◌<◌, ◌≤◌, inl, inr, Bool, ℤ, ◌+ℤ◌, ◌≤ℤ◌, List, [], ◌∷◌, ◌++◌, length, All, Any, Contains, sym, ◌∙◌, ap, subst, arith}
+use Rattle.std.proofs.lemmas.List.Elements.{All-weaker}
 use Rattle.plan_base.specs.declared.parts.Parts.{Parts}
 use Rattle.plan_base.specs.declared.parts.GroupPart.{GroupPart}
 use Rattle.plan_base.specs.declared.parts.RequestPart.{RequestPart}
@@ -11,17 +8,18 @@ use Rattle.plan_base.specs.declared.span.Span.{Span}
 use Rattle.plan_base.specs.declared.claim.Placement.{Placement}
 use Rattle.plan_base.specs.declared.number.TelescopeNo.{TelescopeNo}
 use Rattle.plan_base.specs.declared.number.TargetNo.{TargetNo}
-use Rattle.plan_base.specs.Requests.{Listed, listed, known_or, IsKnown, seconds_of, request_value, windows_of, targets_of}
+use Rattle.plan_base.specs.Requests.{listed, IsKnown, seconds_of, windows_of, targets_of}
 use Rattle.plan_base.specs.Snapshot.{IsOrderly}
-use Rattle.plan_base.specs.Starts.{IsPossibleStart, IsObserved, IsVisible, ShareSlice, Occupies, site_of, slices_for, worth_at}
-use Rattle.plan_base.specs.Bound.{IsStartList, price, weight, surplus, IsBest}
-use Rattle.plan_base.proofs.Known.{known_or_is, worth_between}
-use Rattle.plan_base.proofs.Split.{total_split}
-use Rattle.plan_base.proofs.Totals.{total_at_most}
+use Rattle.plan_base.specs.Starts.{IsPossibleStart, IsObserved, IsVisible, site_of, slices_for, size_of}
+use Rattle.plan_base.specs.Bound.{weight}
+use Rattle.plan_base.specs.Tables.{IsStartOn, slice_after, IsTable, entry}
+use Rattle.bound_checker.specs.declared.worth.Offer.{Offer}
+use Rattle.bound_checker.specs.Offers.{offer_weight}
+use Rattle.openings.specs.Openings.{IsStartAt, IsSet, IsOpenRow, IsOfferOf}
 use Rattle.rapid.specs.Insertion.{with_group}
-use Rattle.rapid.proofs.Appended.{kept, seconds_kept, possible_kept, share_kept}
-use Rattle.rapid.proofs.Newest.{newest_known, newest_as}
-use Rattle.rapid.proofs.Prices.{same_totals, old_or_new, price_newest, weight_kept}
+use Rattle.rapid.specs.Tables.{IsEnough}
+use Rattle.rapid.proofs.Appended.{kept, seconds_kept, possible_kept}
+use Rattle.rapid.proofs.Prices.{old_or_new, weight_kept}
 
 module _ (s : Parts) (group : GroupPart) where
   abbrev after : Parts
@@ -48,47 +46,18 @@ module _ (s : Parts) (group : GroupPart) where
             (λ target v x o. v x (observed_more p x k o)) (targets_of after r) h.visible);
       }
 
-  occupies_more : (p : Placement) (k : ℕ) → IsKnown s p.request.0 → Occupies s p k → Occupies after p k
-  occupies_more p k h o = (o.0, subst (λ (n : ℕ). k < p.slice.0 + slices_for s.len n) (sym (seconds_kept s group p.request.0 h)) o.1)
-
-  share_more : (a b : Placement) → IsKnown s a.request.0 → IsKnown s b.request.0 → ShareSlice s a b → ShareSlice after a b
-  share_more a b j k share = (share.0, share.1, occupies_more a share.1 j share.2, occupies_more b share.1 k share.3)
-
-  list_kept : (t k : ℕ) (xs : List Placement) → IsStartList s t k xs → IsStartList after t k xs
-  list_kept t k xs h = record {
-    possible = All-weaker (IsPossibleStart s) (IsPossibleStart after) (λ p x. possible_kept s group p x) xs h.possible;
-    same_telescope = h.same_telescope;
-    later = h.later;
-    disjoint = λ i j d l m share. h.disjoint i j d l m (share_kept s group (slice_index_or xs i d) (slice_index_or xs j d) (h.possible i d (omega arith)).known (h.possible j d m).known share);
-  }
-
-  list_old : (t k : ℕ) (xs : List Placement) → All (λ p. IsKnown s p.request.0) xs → IsStartList after t k xs → IsStartList s t k xs
-  list_old t k xs known h = record {
-    possible = λ i d l. possible_old (slice_index_or xs i d) (known i d l) (h.possible i d l);
-    same_telescope = h.same_telescope;
-    later = h.later;
-    disjoint = λ i j d l m share. h.disjoint i j d l m (share_more (slice_index_or xs i d) (slice_index_or xs j d) (known i d (omega arith)) (known j d m) share);
-  }
-
-list_part : (s : Parts) (t k : ℕ) (test : Placement → Bool) (xs : List Placement) → IsStartList s t k xs → IsStartList s t k (filter test xs)
-list_part s t k test xs h = record {
-  possible = All-filter test (IsPossibleStart s) xs h.possible;
-  same_telescope = All-filter test (λ p. p.telescope.0 ≡ t) xs h.same_telescope;
-  later = All-filter test (λ p. k ≤ p.slice.0) xs h.later;
-  disjoint = AllPairs-filter (λ a b. ¬ (ShareSlice s a b)) test xs h.disjoint;
-}
-
-same_from_test : (a b : ℕ) → (a == b) ≡ true → a ≡ b
-same_from_test a b h = grind (arith, nat_tests)
-
-differ_from_test : (a b : ℕ) → not (a == b) ≡ true → a ≢ b
-differ_from_test a b h = grind (arith, nat_tests)
-
-none_left : (w v value : ℕ) (c d : ℤ) → w ≤ v → v ≡ value → pos value ≤ℤ c → d ≡ c → (pos w -ℤ d) ≤ℤ pos 0
-none_left w v value c d l e dear f = omega (arith, ints)
-
-no_more : (n : ℕ) (a b z : ℤ) → z ≡ a +ℤ b → a ≤ℤ pos (n * 0) → z ≤ℤ b
-no_more n a b z e l = omega (arith, ints)
+-- what the flags of a request's starts say of its starts
+pub enough_for : (s : Parts) (prices : List ℤ) (t r : ℕ) (o : Offer) (flags : List Bool) (table : List ℤ) → IsOfferOf s prices r o → IsOpenRow s t r flags → IsEnough o s.first.0 flags table
+    → (p : Placement) → IsStartAt s t r p → (weight s prices p +ℤ entry table (slice_after s p - s.first.0)) ≤ℤ entry table (p.slice.0 - s.first.0)
+enough_for s prices t r o flags table offer open_row enough p start =
+    let begins : s.first.0 ≤ p.slice.0 = start.start.possible.begins in
+    let at : p.slice.0 ≡ s.first.0 + (p.slice.0 - s.first.0) = omega arith in
+    let most : (offer_weight o (s.first.0 + (p.slice.0 - s.first.0)) +ℤ entry table (p.slice.0 - s.first.0 + o.size)) ≤ℤ entry table (p.slice.0 - s.first.0) = enough (p.slice.0 - s.first.0) ((open_row.each (p.slice.0 - s.first.0)).1 (p, start, at)) in
+    let weighs : offer_weight o (s.first.0 + (p.slice.0 - s.first.0)) ≡ weight s prices p = ap (offer_weight o) (sym at) ∙ offer.weighs p start.start.same_request begins in
+    let size : o.size ≡ size_of s p.request.0 = offer.size ∙ ap (size_of s) (sym start.start.same_request) in
+    let ends : p.slice.0 - s.first.0 + o.size ≡ slice_after s p - s.first.0 = omega arith in
+    subst (λ (w : ℤ). (w +ℤ entry table (slice_after s p - s.first.0)) ≤ℤ entry table (p.slice.0 - s.first.0)) weighs
+    (subst (λ (k : ℕ). (offer_weight o (s.first.0 + (p.slice.0 - s.first.0)) +ℤ entry table k) ≤ℤ entry table (p.slice.0 - s.first.0)) ends most)
 
 module _ (s : Parts) (group : GroupPart) (q : RequestPart) (only : group.requests ≡ q ∷ []) (o : IsOrderly (with_group s group)) (cs : List ℤ) (c : ℤ) (count : length cs ≡ length (listed s)) where
   abbrev extended : Parts
@@ -97,63 +66,34 @@ module _ (s : Parts) (group : GroupPart) (q : RequestPart) (only : group.request
   abbrev prices : List ℤ
   prices = cs ++ c ∷ []
 
-  -- no start of the new request on telescope t is worth more than its price
-  abbrev pub IsWorthless : ℕ → Type 0
-  IsWorthless t = (p : Placement) → IsPossibleStart extended p → p.request.0 ≡ q.request.0 → p.telescope.0 ≡ t → weight extended prices p ≤ℤ pos 0
+  -- no start of the new request on telescope t gives more than the table has at its slice
+  abbrev pub IsEnoughFor : ℕ → (ℕ → ℤ) → Type 0
+  IsEnoughFor t table = (p : Placement) → IsStartAt extended t q.request.0 p → (weight extended prices p +ℤ table (slice_after extended p)) ≤ℤ table p.slice.0
 
-  surplus_kept : (xs : List Placement) → All (λ p. IsKnown s p.request.0) xs → surplus extended prices xs ≡ surplus s cs xs
-  surplus_kept xs known = same_totals (weight extended prices) (weight s cs) xs (λ i d l. weight_kept s group q only o cs c count (slice_index_or xs i d) (known i d l))
+  after_kept : (p : Placement) → IsKnown s p.request.0 → slice_after extended p ≡ slice_after s p
+  after_kept p known = ap (λ (n : ℕ). p.slice.0 + slices_for s.len n) (seconds_kept s group p.request.0 known)
 
-  abbrev old : List Placement → List Placement
-  old xs = filter (λ p. not (p.request.0 == q.request.0)) xs
+  weighs_same : (p : Placement) → IsKnown s p.request.0 → weight extended prices p ≡ weight s cs p
+  weighs_same p known = weight_kept s group q only o cs c count p known
 
-  abbrev new : List Placement → List Placement
-  new xs = filter (λ p. p.request.0 == q.request.0) xs
-
-  old_known : (t k : ℕ) (xs : List Placement) → IsStartList extended t k xs → All (λ p. IsKnown s p.request.0) (old xs)
-  old_known t k xs h = λ i d l.
-      let passed : not ((slice_index_or (old xs) i d).request.0 == q.request.0) ≡ true = filter_passes (λ p. not (p.request.0 == q.request.0)) xs i d l in
-      elim (old_or_new s group q only o cs c count (slice_index_or (old xs) i d).request.0 (All-filter (λ p. not (p.request.0 == q.request.0)) (IsPossibleStart extended) xs h.possible i d l).known) [
-        | inl known ↦ known
-        | inr same ↦ absurd (differ_from_test (slice_index_or (old xs) i d).request.0 q.request.0 passed same)
-      ]
-
-  new_worthless : (t k : ℕ) (xs : List Placement) → IsWorthless t → IsStartList extended t k xs → All (λ p. weight extended prices p ≤ℤ pos 0) (new xs)
-  new_worthless t k xs worthless h = λ i d l.
-      worthless (slice_index_or (new xs) i d) (All-filter (λ p. p.request.0 == q.request.0) (IsPossibleStart extended) xs h.possible i d l)
-      (same_from_test (slice_index_or (new xs) i d).request.0 q.request.0 (filter_passes (λ p. p.request.0 == q.request.0) xs i d l))
-      (All-filter (λ p. p.request.0 == q.request.0) (λ p. p.telescope.0 ≡ t) xs h.same_telescope i d l)
-
-  pub best_kept : (t k : ℕ) (b : ℤ) → IsWorthless t → IsBest s cs t k b → IsBest extended prices t k b
-  best_kept t k b worthless best = record {
-    reached = (let known : All (λ p. IsKnown s p.request.0) best.reached.0 = λ i d l. (best.reached.1.possible i d l).known in (best.reached.0, list_kept s group t k best.reached.0 best.reached.1, surplus_kept best.reached.0 known ∙ best.reached.2));
-    bound = λ xs h.
-        let known : All (λ p. IsKnown s p.request.0) (old xs) = old_known t k xs h in
-        let split : surplus extended prices xs ≡ surplus extended prices (new xs) +ℤ surplus extended prices (old xs) = total_split (weight extended prices) (λ p. p.request.0 == q.request.0) xs in
-        let none : surplus extended prices (new xs) ≤ℤ pos (length (new xs) * 0) = total_at_most (weight extended prices) 0 (new xs) (new_worthless t k xs worthless h) in
-        let less : surplus extended prices xs ≤ℤ surplus extended prices (old xs) = no_more (length (new xs)) (surplus extended prices (new xs)) (surplus extended prices (old xs)) (surplus extended prices xs) split none in
-        let same : surplus extended prices (old xs) ≡ surplus s cs (old xs) = surplus_kept (old xs) known in
-        let most : surplus s cs (old xs) ≤ℤ b = best.bound (old xs) (list_old s group t k (old xs) known (list_part extended t k (λ p. not (p.request.0 == q.request.0)) xs h)) in
-        omega (arith, ints);
+  pub table_kept : (t : ℕ) (table : ℕ → ℤ) → IsEnoughFor t table → IsTable s cs t table → IsTable extended prices t table
+  table_kept t table enough is = record {
+    at_end = is.at_end;
+    falling = is.falling;
+    above = λ p start. elim (old_or_new s group q only o cs c count p.request.0 start.possible.known) [
+      | inl known ↦
+          let before : IsStartOn s t p = record { possible = possible_old s group p known start.possible; same_telescope = start.same_telescope } in
+          subst (λ (w : ℤ). (w +ℤ table (slice_after extended p)) ≤ℤ table p.slice.0) (sym (weighs_same p known))
+          (subst (λ (k : ℕ). (weight s cs p +ℤ table k) ≤ℤ table p.slice.0) (sym (after_kept p known)) (is.above p before))
+      | inr same ↦ enough p (record { start = record { possible = start.possible; same_request = same }; same_telescope = start.same_telescope })
+    ];
+    reached = λ k from below. elim (is.reached k from below) [
+      | inl e ↦ inl e
+      | inr (p, start, at, e) ↦ inr (
+        p,
+        record { possible = possible_kept s group p start.possible; same_telescope = start.same_telescope },
+        at,
+        e ∙ ap (λ (w : ℤ). w +ℤ table (slice_after s p)) (sym (weighs_same p start.possible.known)) ∙ ap (λ (n : ℕ). weight extended prices p +ℤ table n) (sym (after_kept p start.possible.known)),
+      )
+    ];
   }
-
-  abbrev newest : Listed
-  newest = record { group = length s.groups; quota = group.quota; request = q }
-
-  known_as_newest : {X : Type 0} (f : Listed → X) (d : X) (p : Placement) → p.request.0 ≡ q.request.0 → known_or f d extended p.request.0 ≡ f newest
-  known_as_newest f d p same = ap (known_or f d extended) same ∙ known_or_is f d extended q.request.0 newest (newest_known s group q only o) (newest_as s group q only o)
-
-  -- where the price is the value or more
-  pub worthless_dear : pos q.value ≤ℤ c → (t : ℕ) → IsWorthless t
-  worthless_dear dear t p h same on =
-      let most : worth_at extended p ≤ request_value extended p.request.0 = (worth_between extended p o h).1 in
-      let value : request_value extended p.request.0 ≡ q.value = known_as_newest (λ x. x.request.value) 0 p same in
-      let cost : price extended prices p.request.0 ≡ c = ap (price extended prices) same ∙ price_newest s group q only o cs c count in
-      none_left (worth_at extended p) (request_value extended p.request.0) q.value c (price extended prices p.request.0) most value dear cost
-
-  -- where the telescope can't take the request
-  pub worthless_unable : (t : TelescopeNo) → ¬ (Contains q.telescopes t) → IsWorthless t.0
-  worthless_unable t not_able p h same on =
-      let able : Contains q.telescopes p.telescope = subst (λ (ts : List TelescopeNo). Contains ts p.telescope) (known_as_newest (λ x. x.request.telescopes) [] p same) h.able in
-      let one : p.telescope ≡ t = ap (λ (n : ℕ). let x : TelescopeNo = record { 0 = n } in x) on in
-      absurd (not_able (subst (Contains q.telescopes) one able))

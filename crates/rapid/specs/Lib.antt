@@ -2,7 +2,7 @@ pub mod Faults
 pub mod Displaced
 pub mod Standing
 pub mod Insertion
-pub mod Bests
+pub mod Tables
 pub mod Refused
 pub mod Held
 pub mod Stage

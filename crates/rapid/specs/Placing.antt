@@ -12,7 +12,7 @@ use Rattle.plan_base.specs.Verdict.{IsPriceInRange}
 use Rattle.rapid.specs.declared.placing.Placing.{Placing}
 use Rattle.rapid.specs.declared.pricing.Pricing.{Pricing}
 use Rattle.rapid.specs.Insertion.{IsPlacing, IsNewPrice}
-use Rattle.rapid.specs.Bests.{AreBests}
+use Rattle.rapid.specs.Tables.{AreTables}
 
 -- request r is the one of a SINGLE, and the plan is feasible and doesn't place it
 pub record IsReady (s : Parts) (plan : List Placement) (r : ℕ) : Type 0 where
@@ -27,11 +27,11 @@ pub record IsPlacedSo (s : Parts) (plan : List Placement) (r : ℕ) (p : Placing
   pub feasible : IsFeasible s p.placements
   pub gain : value_of_plan s p.placements ≡ value_of_plan s plan + p.gain
 
--- the last request has this price beside the old ones, and these are their bests and their bound
+-- the last request has this price beside the old ones, and these are their tables and their bound
 pub record IsPricedSo (s : Parts) (claim : Claim) (value : ℕ) (p : Pricing) : Type 0 where
   pub price : ℤ
   pub new_price : IsNewPrice s claim value price
   pub in_range : IsPriceInRange price
   pub prices : p.prices.0 ≡ claim.prices.0 ++ price ∷ []
-  pub bests : AreBests s p.prices.0 p.bests
+  pub tables : AreTables s p.prices.0 p.tables
   pub bound : IsBound s p.prices.0 claim.quota_prices.0 (pos p.bound)

@@ -1,7 +1,6 @@
 // One more request put into a plan that stands, with its bound.
 #![tactic(auto)]
 
-mod bests;
 mod document;
 mod fault;
 mod held;
@@ -11,10 +10,12 @@ mod laws;
 mod making;
 mod placing;
 mod pricing;
+mod raising;
 mod rapid;
 mod run;
 mod seeking;
 mod striking;
+mod tables;
 #[cfg(test)]
 mod tests;
 mod written;

@@ -7,16 +7,16 @@ ghost use Rattle.plan_base.specs.Verdict.{IsCertified};
 ghost use Rattle.plan_base.specs.declared.parts.GroupPart.{GroupPart};
 ghost use Rattle.plan_base.specs.declared.parts.Op.TheVariants.{Single};
 ghost use Rattle.rapid.specs.Insertion.{with_group};
-ghost use Rattle.rapid.specs.Bests.{AreBests};
+ghost use Rattle.rapid.specs.Tables.{AreTables};
 ghost use Rattle.rapid.specs.Refused.{is_single, refusal_of, IsGroupInRanges};
 ghost use Rattle.rapid.specs.Inside.{IsExtended, IsMadeOf};
 ghost use Rattle.rapid.specs.declared.fault.RapidFault.TheVariants.{NoMemory};
 
-use crate::bests::Extension;
 use crate::fault::RapidFault;
 use crate::inserted::Inserted;
 use crate::placing::place;
 use crate::pricing::price;
+use crate::tables::Extension;
 use plan_base::{
     Claim, GroupPart, ListOf, Op, QuotaPrices, RequestNo, RequestPart, Snapshot, value_limit,
 };
@@ -27,8 +27,8 @@ use std::alloc::{AllocError, Global};
 pub(crate) struct Made {
     pub snapshot: Snapshot,
     pub claim: Claim,
-    /// The best of each telescope at the claim's prices.
-    pub bests: ListOf<i64>,
+    /// What each telescope gives from each slice of the horizon on, at the claim's prices.
+    pub tables: ListOf<ListOf<i64>>,
     pub displaced: ListOf<RequestNo>,
     pub inserted: Inserted,
 }
@@ -79,13 +79,13 @@ fn place_and_price(
     alloc: Global,
     before: &Snapshot,
     claim: &Claim,
-    bests: &[i64],
+    tables: &[ListOf<i64>],
     snapshot: Snapshot,
 ) -> Result<Made, AllocError>
     requires certified { IsCertified before.now claim.now }
-    requires bests { AreBests before.now claim.now.prices.0 bests.now }
+    requires tables { AreTables before.now claim.now.prices.0 tables.now }
     requires extended { IsExtended before.now snapshot }
-    ensures bests { IfOk result (λ made. AreBests made.snapshot made.claim.prices.0 made.bests) }
+    ensures tables { IfOk result (λ made. AreTables made.snapshot made.claim.prices.0 made.tables) }
     ensures made { IfOk result (λ made. (group : GroupPart) → group.op ≡ Single → snapshot ≡ with_group before.now group
         → IsMadeOf before.now claim.now group made) }
 {
@@ -97,7 +97,7 @@ fn place_and_price(
     let extension = Extension {
         before,
         claim,
-        bests,
+        tables,
         snapshot: &snapshot,
         request,
     };
@@ -113,7 +113,7 @@ fn place_and_price(
     Ok(Made {
         snapshot,
         claim,
-        bests: pricing.bests,
+        tables: pricing.tables,
         displaced: placing.displaced,
         inserted: placing.inserted,
     })
@@ -124,17 +124,17 @@ pub(crate) fn make(
     alloc: Global,
     snapshot: &Snapshot,
     claim: &Claim,
-    bests: &[i64],
+    tables: &[ListOf<i64>],
     group: GroupPart,
 ) -> Result<Made, RapidFault>
     requires ranges { IsGroupInRanges group }
     requires certified { IsCertified snapshot.now claim.now }
-    requires bests { AreBests snapshot.now claim.now.prices.0 bests.now }
-    ensures bests { IfOk result (λ made. AreBests made.snapshot made.claim.prices.0 made.bests) }
+    requires tables { AreTables snapshot.now claim.now.prices.0 tables.now }
+    ensures tables { IfOk result (λ made. AreTables made.snapshot made.claim.prices.0 made.tables) }
     ensures ok { IfOk result (IsMadeOf snapshot.now claim.now group) }
     ensures accepted { OnOk result (refusal_of snapshot.now group ≡ None) }
     ensures err { IfErr result (λ fault. fault ≢ NoMemory → refusal_of snapshot.now group ≡ Some fault) }
 {
     let extended = with_group(alloc, snapshot, group)?;
-    Ok(place_and_price(alloc, snapshot, claim, bests, extended)?)
+    Ok(place_and_price(alloc, snapshot, claim, tables, extended)?)
 }

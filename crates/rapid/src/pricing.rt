@@ -4,19 +4,20 @@ ghost use Rattle.std.specs.Prelude.{◌≡◌, ◌∷◌, ◌++◌, ◌<◌, ◌
 ghost use Rattle.plan_base.specs.Bound.{IsBound};
 ghost use Rattle.plan_base.specs.Verdict.{IsPriceInRange};
 ghost use Rattle.bound_checker.specs.Summed.{IsPartSum};
-ghost use Rattle.rapid.specs.Bests.{AreBests, IsPriceable, AreMorePrices};
+ghost use Rattle.rapid.specs.Tables.{AreTables, IsPriceable, AreMorePrices};
 ghost use Rattle.rapid.specs.Placing.{IsPricedSo};
 
-use crate::bests::{Extension, best_sum, mended_bests};
+use crate::tables::{Extension, best_sum, mended_tables};
 use bound_checker::rebate_of;
 use plan_base::{ListOf, Prices, bound_limit};
 use std::alloc::{AllocError, Global};
 
-/// Prices, the best of each telescope at them, and the bound that they give with the quota prices that stand.
+/// Prices, what each telescope gives at them from each slice of the horizon on, and the bound that they give with the quota
+/// prices that stand.
 #[derive(Debug, Drop)]
 pub(crate) struct Pricing {
     pub prices: Prices,
-    pub bests: ListOf<i64>,
+    pub tables: ListOf<ListOf<i64>>,
     pub bound: u64,
 }
 
@@ -41,12 +42,12 @@ fn mended_bound(bound: u64, old: i64, new: i64, rebate: i64) -> u64
     (bound as i64 - old + new + rebate) as u64
 }
 
-/// The bound of these prices, which have these bests: that of the prices before with the bests exchanged, and what the new
+/// The bound of these prices, which have these tables: that of the prices before with the bests exchanged, and what the new
 /// group gives.
-fn bound_with(extension: &Extension, prices: &Prices, bests: &[i64]) -> u64
+fn bound_with(extension: &Extension, prices: &Prices, tables: &[ListOf<i64>]) -> u64
     requires priceable { IsPriceable extension.now }
     requires prices { (price : ℤ) × AreMorePrices extension.now.claim.now price prices.now.0 }
-    requires bests { AreBests extension.now.snapshot.now prices.now.0 bests.now }
+    requires tables { AreTables extension.now.snapshot.now prices.now.0 tables.now }
     ensures { IsBound extension.now.snapshot.now prices.now.0 extension.now.claim.now.quota_prices.0 (pos result) }
 {
     let claim = extension.claim;
@@ -54,27 +55,27 @@ fn bound_with(extension: &Extension, prices: &Prices, bests: &[i64]) -> u64
     extension.snapshot.recall_valid();
     bound_limit(extension.before, &claim.prices, &claim.quota_prices);
     bound_limit(extension.snapshot, prices, &claim.quota_prices);
-    let old = best_sum(extension.before, &claim.prices, extension.bests);
-    let new = best_sum(extension.snapshot, prices, bests);
+    let old = best_sum(extension.before, &claim.prices, extension.tables);
+    let new = best_sum(extension.snapshot, prices, tables);
     let last = extension.snapshot.parts().groups.len() - 1;
     let rebate = rebate_of(extension.snapshot, last, prices, &claim.quota_prices);
     mended_bound(claim.bound, old, new, rebate)
 }
 
-/// The prices with this one for the new request, their bests and their bound. Fails only for want of memory.
+/// The prices with this one for the new request, their tables and their bound. Fails only for want of memory.
 fn priced(alloc: Global, extension: &Extension, price: i64) -> Result<Pricing, AllocError>
     requires priceable { IsPriceable extension.now }
     requires range { IsPriceInRange price }
     ensures prices { IfOk result (λ p. p.prices.0 ≡ extension.now.claim.now.prices.0 ++ price ∷ []) }
-    ensures bests { IfOk result (λ p. AreBests extension.now.snapshot.now p.prices.0 p.bests) }
+    ensures tables { IfOk result (λ p. AreTables extension.now.snapshot.now p.prices.0 p.tables) }
     ensures bound { IfOk result (λ p. IsBound extension.now.snapshot.now p.prices.0 extension.now.claim.now.quota_prices.0 (pos p.bound)) }
 {
     let prices = with_price(alloc, &extension.claim.prices, price)?;
-    let bests = mended_bests(alloc, extension, &prices, price)?;
-    let bound = bound_with(extension, &prices, bests.as_slice());
+    let tables = mended_tables(alloc, extension, &prices, price)?;
+    let bound = bound_with(extension, &prices, tables.as_slice());
     Ok(Pricing {
         prices,
-        bests,
+        tables,
         bound,
     })
 }

@@ -8,24 +8,25 @@ ghost use Rattle.rapid.specs.Insertion.{IsInsertion};
 ghost use Rattle.rapid.specs.Answer.{IsAnswer};
 ghost use Rattle.rapid.specs.declared.fault.RapidFault.TheVariants.{NoMemory};
 
-use crate::bests::bests_of;
 use crate::fault::RapidFault;
 use crate::inserted::Inserted;
 use crate::making::make;
+use crate::tables::tables_of;
 use bound_checker::check;
 use plan_base::{Claim, GroupPart, ListOf, Reason, RequestNo, Snapshot, Verdict};
 use std::alloc::{AllocError, Global};
 use std::marker::Model;
 
 /// A snapshot with a claim that is certified for it. Groups of one request are inserted one after another, and the claim
-/// stays certified, its bound that of its prices. The best of each telescope is kept, so that an insertion makes only those
-/// anew that its request may change. Contracts see the snapshot, the claim, and the requests that the last
-/// insertion displaced.
+/// stays certified, its bound that of its prices. What each telescope gives from each slice on is kept, and an insertion makes
+/// it anew only where a start of its request gives more. Contracts see the snapshot, the claim, and the requests that the
+/// last insertion displaced.
 #[derive(Debug, Drop)]
 pub struct Rapid {
     snapshot: Snapshot,
     claim: Claim,
-    bests: ListOf<i64>,
+    /// What each telescope gives from each slice of the horizon on, at the claim's prices.
+    tables: ListOf<ListOf<i64>>,
     displaced: ListOf<RequestNo>,
     alloc: Global,
 }
@@ -33,13 +34,13 @@ pub struct Rapid {
 impl Model for Rapid {
     ghost use Rattle.plan_base.specs.Verdict.{IsCertified};
     ghost use Rattle.rapid.specs.Standing.{Standing};
-    ghost use Rattle.rapid.specs.Bests.{AreBests};
+    ghost use Rattle.rapid.specs.Tables.{AreTables};
 
     ghost Value = { Standing };
 
     ghost view = { λ a. record { snapshot = a.snapshot; claim = a.claim; displaced = a.displaced } };
 
-    ghost invariant = { λ a. IsCertified a.snapshot a.claim × AreBests a.snapshot a.claim.prices.0 a.bests };
+    ghost invariant = { λ a. IsCertified a.snapshot a.claim × AreTables a.snapshot a.claim.prices.0 a.tables };
 }
 
 /// Whether groups can be inserted into a claim.
@@ -59,11 +60,11 @@ impl Rapid {
     {
         match check(alloc, snapshot, &claim)? {
             Verdict::Yes { .. } => {
-                let bests = bests_of(alloc, snapshot, &claim.prices)?;
+                let tables = tables_of(alloc, snapshot, &claim.prices)?;
                 Ok(RapidAnswer::Ready(Rapid {
                     snapshot: snapshot.clone()?,
                     claim,
-                    bests,
+                    tables,
                     displaced: ListOf::new(alloc),
                     alloc,
                 }))
@@ -87,11 +88,11 @@ impl Rapid {
         ensures err { OnErr result (self.new ≡ self.old) }
         ensures fault { IfErr result (λ fault. fault ≢ NoMemory → refusal_of self.old.snapshot group ≡ Some fault) }
     {
-        let bests = self.bests.as_slice();
-        let made = make(self.alloc, &self.snapshot, &self.claim, bests, group)?;
+        let tables = self.tables.as_slice();
+        let made = make(self.alloc, &self.snapshot, &self.claim, tables, group)?;
         self.snapshot = made.snapshot;
         self.claim = made.claim;
-        self.bests = made.bests;
+        self.tables = made.tables;
         self.displaced = made.displaced;
         Ok(made.inserted)
     }

@@ -3,9 +3,9 @@ use Rattle.std.proofs.lemmas.Bool.{false≢true}
 use Rattle.plan_base.specs.declared.parts.Parts.{Parts}
 use Rattle.plan_base.specs.Tables.{row}
 use Rattle.plan_base.proofs.Known.{telescope_known}
-use Rattle.explain.specs.Openings.{HasFlagWithin, IsOpenRow}
+use Rattle.openings.specs.Openings.{HasFlagWithin, IsOpenRow}
 use Rattle.explain.proofs.Blocks.{blocks_iff, blocks_none}
-use Rattle.explain.proofs.Flags.{row_read}
+use Rattle.openings.proofs.Flags.{row_read}
 use Rattle.explain.proofs.Pieces.{same_from_test}
 use Rattle.explain.proofs.blocking.blocks.Goals as goal
 

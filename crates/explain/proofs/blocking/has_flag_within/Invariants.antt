@@ -1,4 +1,4 @@
-use Rattle.explain.specs.Openings.{HasFlagWithin}
+use Rattle.openings.specs.Openings.{HasFlagWithin}
 use Rattle.explain.proofs.blocking.has_flag_within.Given as goal
 
 abbrev pub invariant-loop-place : goal.invariant-loop-place

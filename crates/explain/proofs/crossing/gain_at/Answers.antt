@@ -2,8 +2,8 @@ use Rattle.std.proofs.Common.{◌≡◌, ℕ, ◌+◌, w64, ◌+ℤ◌, length, 
 use Rattle.std.proofs.lemmas.Int.{to_z-of_z}
 use Rattle.plan_base.specs.declared.parts.Parts.{Parts}
 use Rattle.bound_checker.specs.Offers.{offer_weight}
-use Rattle.explain.specs.Openings.{CanStartAt}
-use Rattle.explain.proofs.Flags.{can_there}
+use Rattle.openings.specs.Openings.{CanStartAt}
+use Rattle.openings.proofs.Flags.{can_there}
 use Rattle.explain.proofs.Gaining.{gain_here, u_fits, w_fits, a_fits, two_fit, all_fit}
 use Rattle.explain.proofs.crossing.gain_at.Goals as goal
 use mir.Val.{SFits}

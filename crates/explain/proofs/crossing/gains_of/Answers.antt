@@ -1,7 +1,7 @@
 use Rattle.std.proofs.Common.{◌≡◌, ℕ, ◌+◌, ◌≤◌, Bool, Option, Some, None, ℤ, List, length, ap, subst, arith}
 use Rattle.plan_base.specs.Tables.{row}
 use Rattle.explain.specs.Crossings.{count_of, AreGainsTo}
-use Rattle.explain.proofs.Flags.{row_read, start_before}
+use Rattle.openings.proofs.Flags.{row_read, start_before}
 use Rattle.explain.proofs.Gathering.{gains_more, gains_all}
 use Rattle.explain.proofs.crossing.gains_of.Goals as goal
 

@@ -10,7 +10,7 @@ place_and_price-requires-clause-extended c = record {
 
 pub returns : goal.returns
 returns c = record {
-  bests = c.in_ok-place_and_price.ensures.bests;
+  tables = c.in_ok-place_and_price.ensures.tables;
   ok = c.in_ok-place_and_price.ensures.made c.args.group (accepted_single c.args.snapshot.now c.args.group c.in_ok-extended.ensures.accepted) c.in_ok-extended.ensures.ok;
   accepted = c.in_ok-extended.ensures.accepted;
   err = tt;

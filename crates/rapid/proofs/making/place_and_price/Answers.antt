@@ -16,7 +16,7 @@ price-requires c = record {
       c.last_request-request.result.now c.last_request-request.ensures;
   whole = c.requires.extended.whole;
   certified = c.requires.certified;
-  are_bests = c.requires.bests;
+  are_tables = c.requires.tables;
 }
 
 pub place-requires : goal.place-requires
@@ -35,8 +35,8 @@ overflow_add-claim c =
     in
     omega arith
 
-pub returns-clause-bests : goal.returns-clause-bests
-returns-clause-bests c = c.in_ok-pricing.ensures.bests
+pub returns-clause-tables : goal.returns-clause-tables
+returns-clause-tables c = c.in_ok-pricing.ensures.tables
 
 pub returns-clause-made : goal.returns-clause-made
 returns-clause-made c = λ group single whole.

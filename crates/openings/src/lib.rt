@@ -1,0 +1,6 @@
+// Where a request may start.
+#![tactic(auto)]
+
+mod opening;
+
+pub use opening::{Openings, openings_of};
