@@ -79,22 +79,28 @@ impl Random {
     }
 }
 
-fn eight(first: u32) -> Tree {
-    Tree::And((first..first + 8).map(Tree::Leaf).collect())
+/// The leaf at a place among all leaves, where requests of neighbors stand so many apart.
+fn leaf(place: u32, apart: u32) -> Tree {
+    Tree::Leaf(1 + place * apart % 1_024)
 }
 
-fn sixteen(first: u32) -> Tree {
-    Tree::OneOf(vec![eight(first), eight(first + 8)])
+fn eight(first: u32, apart: u32) -> Tree {
+    Tree::And((first..first + 8).map(|place| leaf(place, apart)).collect())
 }
 
-fn thirty_two(first: u32) -> Tree {
-    Tree::Many(vec![sixteen(first), sixteen(first + 16)])
+fn sixteen(first: u32, apart: u32) -> Tree {
+    Tree::OneOf(vec![eight(first, apart), eight(first + 8, apart)])
 }
 
-fn main() {
+fn thirty_two(first: u32, apart: u32) -> Tree {
+    Tree::Many(vec![sixteen(first, apart), sixteen(first + 16, apart)])
+}
+
+/// Times the rebates of trees in which requests of neighbors stand so many apart.
+fn time_rebates(name: &str, apart: u32) {
     let forest = Forest {
         requests: (1..=1_024).collect(),
-        trees: (0..32).map(|tree| thirty_two(32 * tree + 1)).collect(),
+        trees: (0..32).map(|tree| thirty_two(32 * tree, apart)).collect(),
     };
     let mut random = Random { state: 1 };
     let prices: Vec<i64> = (0..1_024)
@@ -106,6 +112,11 @@ fn main() {
         sum += black_box(&forest).rebates(black_box(&prices));
     }
     let time = start.elapsed().as_nanos() / u128::from(ROUNDS);
-    println!("rebates_of_1024_leaves {time}");
+    println!("{name} {time}");
     eprintln!("{sum}");
+}
+
+fn main() {
+    time_rebates("leaves_in_order", 1);
+    time_rebates("leaves_in_no_order", 389);
 }
