@@ -13,8 +13,6 @@ mod posting;
 mod register;
 mod store;
 mod sums;
-#[cfg(test)]
-mod tests;
 
 pub use asking::MOST_SECONDS;
 pub use entry::{Entry, EntryKind, Hold};

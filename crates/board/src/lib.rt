@@ -4,8 +4,6 @@
 mod board;
 mod rule;
 mod seat;
-#[cfg(test)]
-mod tests;
 
 pub use board::{Board, Totals};
 pub use seat::{BoardSeat, SeatView};

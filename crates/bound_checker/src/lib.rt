@@ -15,8 +15,6 @@ mod sight;
 mod starts;
 mod stretches;
 mod table;
-#[cfg(test)]
-mod tests;
 mod value;
 mod verdict;
 mod worth;

@@ -10,8 +10,6 @@ mod laws;
 mod read;
 mod refusal;
 mod reply;
-#[cfg(test)]
-mod tests;
 mod write;
 
 pub use command::Command;

@@ -11,8 +11,6 @@ mod new_group;
 mod observation;
 mod one_group;
 mod runs;
-#[cfg(test)]
-mod tests;
 mod turn;
 
 pub use change::{Change, Moved, Reported};

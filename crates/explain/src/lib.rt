@@ -10,8 +10,6 @@ mod laws;
 mod left;
 mod passage;
 mod run;
-#[cfg(test)]
-mod tests;
 mod told;
 mod until;
 mod why;

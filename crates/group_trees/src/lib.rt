@@ -16,8 +16,6 @@ mod rebate;
 mod refusal;
 mod run;
 mod standing;
-#[cfg(test)]
-mod tests;
 mod text;
 mod tree;
 mod turned;

@@ -9,8 +9,6 @@ mod rebates;
 mod sums;
 mod tables;
 mod taking;
-#[cfg(test)]
-mod tests;
 
 pub use nets::net;
 pub use places::Places;

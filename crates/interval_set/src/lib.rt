@@ -4,8 +4,6 @@
 mod laws;
 mod span;
 mod spans;
-#[cfg(test)]
-mod tests;
 
 pub use laws::{answers_are_short, meet_commutes, one_list, part_is_restored, union_commutes};
 pub use spans::Spans;

@@ -12,8 +12,6 @@ mod solver;
 mod start;
 mod start_rows;
 mod table;
-#[cfg(test)]
-mod tests;
 mod uses;
 mod vectors;
 mod walk;

@@ -9,8 +9,6 @@ mod solving;
 mod steps;
 mod sums;
 mod task;
-#[cfg(test)]
-mod tests;
 mod worker;
 mod worth;
 

@@ -22,8 +22,6 @@ mod solved;
 mod span;
 mod state;
 mod taken;
-#[cfg(test)]
-mod tests;
 mod unique;
 mod verdict;
 

@@ -8,8 +8,6 @@ mod publication;
 mod read;
 mod reason;
 mod refusal;
-#[cfg(test)]
-mod tests;
 mod write;
 
 pub use check::run_check;

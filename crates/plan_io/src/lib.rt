@@ -31,6 +31,3 @@ pub use source::{ReadAnswer, Source};
 pub use status::Status;
 pub use steady::{SteadySink, SteadySource};
 pub use whole::{WholeAnswer, read_whole};
-
-#[cfg(test)]
-mod tests;

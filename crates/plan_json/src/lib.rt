@@ -8,8 +8,6 @@ mod list;
 mod member;
 mod moment;
 mod operator;
-#[cfg(test)]
-mod tests;
 mod value;
 mod write;
 mod writer;

@@ -7,8 +7,6 @@ mod moves;
 mod round;
 mod steps;
 mod taken;
-#[cfg(test)]
-mod tests;
 mod zeros;
 
 pub use bound::lagrangian;

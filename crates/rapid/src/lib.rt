@@ -16,8 +16,6 @@ mod run;
 mod seeking;
 mod striking;
 mod tables;
-#[cfg(test)]
-mod tests;
 mod written;
 
 pub use fault::RapidFault;

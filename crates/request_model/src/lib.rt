@@ -7,8 +7,6 @@ mod group;
 mod laws;
 mod read;
 mod request;
-#[cfg(test)]
-mod tests;
 mod time_fault;
 mod write;
 

@@ -5,8 +5,6 @@ mod cadence;
 mod duration;
 mod instrument;
 mod laws;
-#[cfg(test)]
-mod tests;
 
 pub use cadence::expand_cadence;
 pub use duration::seconds_of;

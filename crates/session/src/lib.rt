@@ -10,6 +10,3 @@ mod words;
 
 pub use laws::one_summary;
 pub use run::run_session;
-
-#[cfg(test)]
-mod tests;

@@ -9,8 +9,6 @@ mod laws;
 mod names;
 mod network;
 mod telescope;
-#[cfg(test)]
-mod tests;
 
 pub use code::{Code, InstrumentTimes, Scope};
 pub use fault::{FullOf, SiteFault};

@@ -11,8 +11,6 @@ mod possible;
 mod run;
 mod slices;
 mod telescope;
-#[cfg(test)]
-mod tests;
 
 pub use fault::StartFault;
 pub use find::starts;

@@ -9,8 +9,6 @@ mod name;
 mod one;
 mod request;
 mod subject;
-#[cfg(test)]
-mod tests;
 mod workload;
 
 pub use laws::{lines_are_read_back, so_many_lines};

@@ -1,0 +1,13 @@
+// Tests of what seeks plans: groups, possible starts, telescopes at prices, rounds and lanes.
+#![tactic(auto)]
+
+#[cfg(test)]
+mod groups_tests;
+#[cfg(test)]
+mod interval_solver_tests;
+#[cfg(test)]
+mod lanes_tests;
+#[cfg(test)]
+mod prices_tests;
+#[cfg(test)]
+mod snapshot_starts_tests;
