@@ -4,7 +4,7 @@ use Rattle.plan_base.specs.declared.parts.Parts.{Parts}
 use Rattle.plan_base.specs.declared.claim.Placement.{Placement}
 use Rattle.plan_base.specs.declared.claim.Claim.{Claim}
 use Rattle.plan_base.specs.Requests.{group_of}
-use Rattle.plan_base.specs.Starts.{IsPossibleStart, value_of_plan}
+use Rattle.plan_base.specs.Starts.{value_of_plan}
 use Rattle.plan_base.specs.Feasible.{requests_of, IsFeasible}
 use Rattle.plan_base.specs.Bound.{IsBest, net_price, IsRebate}
 use Rattle.openings.specs.Openings.{IsStartFor, IsStartAt}

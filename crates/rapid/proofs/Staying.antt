@@ -15,7 +15,7 @@ use Rattle.plan_base.specs.Bound.{weight}
 use Rattle.plan_base.specs.Tables.{IsStartOn, slice_after, IsTable, entry}
 use Rattle.bound_checker.specs.declared.worth.Offer.{Offer}
 use Rattle.bound_checker.specs.Offers.{offer_weight}
-use Rattle.openings.specs.Openings.{IsStartAt, IsSet, IsOpenRow, IsOfferOf}
+use Rattle.openings.specs.Openings.{IsStartAt, IsOpenRow, IsOfferOf}
 use Rattle.rapid.specs.Insertion.{with_group}
 use Rattle.rapid.specs.Tables.{IsEnough}
 use Rattle.rapid.proofs.Appended.{kept, seconds_kept, possible_kept}

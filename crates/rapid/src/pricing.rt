@@ -71,7 +71,7 @@ fn priced(alloc: Global, extension: &Extension, price: i64) -> Result<Pricing, A
     ensures bound { IfOk result (λ p. IsBound extension.now.snapshot.now p.prices.0 extension.now.claim.now.quota_prices.0 (pos p.bound)) }
 {
     let prices = with_price(alloc, &extension.claim.prices, price)?;
-    let tables = mended_tables(alloc, extension, &prices, price)?;
+    let tables = mended_tables(alloc, extension, &prices)?;
     let bound = bound_with(extension, &prices, tables.as_slice());
     Ok(Pricing {
         prices,

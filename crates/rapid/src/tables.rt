@@ -1,6 +1,6 @@
 // What each telescope gives from each slice on, kept from one insertion to the next.
 
-ghost use Rattle.std.specs.Prelude.{◌≡◌, ◌<◌, length, IfOk, All};
+ghost use Rattle.std.specs.Prelude.{◌≡◌, ◌<◌, ℤ, length, IfOk, All};
 ghost use Rattle.plan_base.specs.Requests.{listed};
 ghost use Rattle.plan_base.specs.Bound.{IsBest};
 ghost use Rattle.plan_base.specs.Verdict.{IsPriceInRange};
@@ -104,18 +104,17 @@ fn first_entry(
     tables[telescope].as_slice()[0]
 }
 
-/// The table of a telescope where the new request has this price: the one before, where no start of the request gives more
+/// The table of a telescope at prices with one more for the new request: the one before, where no start of the request gives more
 /// than it has. Fails only for want of memory.
 fn mended_table(
     alloc: Global,
     extension: &Extension,
     prices: &Prices,
-    price: i64,
     openings: &Openings,
     telescope: TelescopeNo,
 ) -> Result<ListOf<i64>, AllocError>
     requires priceable { IsPriceable extension.now }
-    requires prices { AreMorePrices extension.now.claim.now price prices.now.0 }
+    requires prices { (price : ℤ) × AreMorePrices extension.now.claim.now price prices.now.0 }
     requires openings { AreOpenings extension.now.snapshot.now prices.now.0 openings.now }
     requires request { openings.now.request ≡ extension.now.request.now.request }
     requires telescope { telescope.0 < length extension.now.snapshot.now.telescopes }
@@ -131,15 +130,14 @@ fn mended_table(
     Ok(ListOf::from_vec(table))
 }
 
-/// The tables of all telescopes where the new request has this price. Fails only for want of memory.
+/// The tables of all telescopes at prices with one more for the new request. Fails only for want of memory.
 pub(crate) fn mended_tables(
     alloc: Global,
     extension: &Extension,
     prices: &Prices,
-    price: i64,
 ) -> Result<ListOf<ListOf<i64>>, AllocError>
     requires priceable { IsPriceable extension.now }
-    requires prices { AreMorePrices extension.now.claim.now price prices.now.0 }
+    requires prices { (price : ℤ) × AreMorePrices extension.now.claim.now price prices.now.0 }
     ensures { IfOk result (AreTables extension.now.snapshot.now prices.now.0) }
 {
     extension.before.recall_valid();
@@ -149,7 +147,7 @@ pub(crate) fn mended_tables(
     for telescope in 0..extension.snapshot.parts().telescopes.len() {
         extension.snapshot.recall_valid();
         let number = TelescopeNo(telescope as u16);
-        tables.push(mended_table(alloc, extension, prices, price, &openings, number)?)?;
+        tables.push(mended_table(alloc, extension, prices, &openings, number)?)?;
     }
     Ok(ListOf::from_vec(tables))
 }

@@ -1,4 +1,4 @@
-use Rattle.std.proofs.Common.{◌+◌, inl, inr, sym, subst}
+use Rattle.std.proofs.Common.{inl, inr, sym, subst}
 use Rattle.plan_base.specs.Tables.{row}
 use Rattle.openings.proofs.Numbers.{below_or_at}
 use Rattle.rapid.specs.Tables.{IsEnoughAt}

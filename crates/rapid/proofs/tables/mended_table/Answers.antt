@@ -18,10 +18,10 @@ raises-requires-clause-entries c =
     subst (λ (xs : List ℤ). All IsEntry xs) (sym same) (table_entries x c.requires.priceable c.recall_valid.ensures.orderly c.recall_valid-2.ensures.orderly t c.requires.telescope)
 
 pub table_of-requires-clause-count : goal.table_of-requires-clause-count
-table_of-requires-clause-count c = count_more c.args.extension.now c.requires.priceable c.recall_valid.ensures.orderly c.recall_valid-2.ensures.orderly c.args.price c.args.prices.now.0 c.requires.prices
+table_of-requires-clause-count c = count_more c.args.extension.now c.requires.priceable c.recall_valid.ensures.orderly c.recall_valid-2.ensures.orderly c.requires.prices.0 c.args.prices.now.0 c.requires.prices.1
 
 pub table_of-requires-clause-range : goal.table_of-requires-clause-range
-table_of-requires-clause-range c = range_more c.args.extension.now c.requires.priceable c.recall_valid.ensures.orderly c.recall_valid-2.ensures.orderly c.args.price c.args.prices.now.0 c.requires.prices
+table_of-requires-clause-range c = range_more c.args.extension.now c.requires.priceable c.recall_valid.ensures.orderly c.recall_valid-2.ensures.orderly c.requires.prices.0 c.args.prices.now.0 c.requires.prices.1
 
 pub returns : goal.returns
 returns c =
@@ -37,6 +37,6 @@ returns c =
     let offer : IsOfferOf x.snapshot.now c.args.prices.now.0 x.request.now.request.0 o = subst (λ (r : ℕ). IsOfferOf x.snapshot.now c.args.prices.now.0 r o) number c.requires.openings.offer in
     let open_row : IsOpenRow x.snapshot.now t x.request.now.request.0 flags = subst (λ (r : ℕ). IsOpenRow x.snapshot.now t r flags) number (c.requires.openings.rows.each t c.requires.telescope) in
     let stays : IsTableOf x.snapshot.now c.args.prices.now.0 t (row x.tables.now t) =
-    table_stays x c.requires.priceable c.recall_valid.ensures.orderly c.recall_valid-2.ensures.orderly c.args.price c.args.prices.now.0 c.requires.prices t c.requires.telescope o flags offer open_row enough
+    table_stays x c.requires.priceable c.recall_valid.ensures.orderly c.recall_valid-2.ensures.orderly c.requires.prices.0 c.args.prices.now.0 c.requires.prices.1 t c.requires.telescope o flags offer open_row enough
     in
     subst (IsTableOf x.snapshot.now c.args.prices.now.0 t) (sym (c.from_vec.ensures ∙ c.in_ok-table.ensures.items ∙ same)) stays

@@ -1,4 +1,4 @@
-use Rattle.std.proofs.Common.{◌≡◌, ℕ, ℤ, ◌+◌, List, length, sym, ◌∙◌, ap, subst, arith}
+use Rattle.std.proofs.Common.{◌≡◌, ℕ, ◌+◌, length, sym, ◌∙◌, ap, subst, arith}
 use Rattle.plan_base.specs.declared.parts.Parts.{Parts}
 use Rattle.rapid.specs.Tables.{AreTablesTo, AreTables}
 use Rattle.rapid.proofs.Mended.{count_more, range_more, request_known}
@@ -9,10 +9,10 @@ pub openings_of-requires-clause-request : goal.openings_of-requires-clause-reque
 openings_of-requires-clause-request c = request_known c.args.extension.now c.requires.priceable c.recall_valid.ensures.orderly c.recall_valid-2.ensures.orderly
 
 pub openings_of-requires-clause-count : goal.openings_of-requires-clause-count
-openings_of-requires-clause-count c = count_more c.args.extension.now c.requires.priceable c.recall_valid.ensures.orderly c.recall_valid-2.ensures.orderly c.args.price c.args.prices.now.0 c.requires.prices
+openings_of-requires-clause-count c = count_more c.args.extension.now c.requires.priceable c.recall_valid.ensures.orderly c.recall_valid-2.ensures.orderly c.requires.prices.0 c.args.prices.now.0 c.requires.prices.1
 
 pub openings_of-requires-clause-range : goal.openings_of-requires-clause-range
-openings_of-requires-clause-range c = range_more c.args.extension.now c.requires.priceable c.recall_valid.ensures.orderly c.recall_valid-2.ensures.orderly c.args.price c.args.prices.now.0 c.requires.prices
+openings_of-requires-clause-range c = range_more c.args.extension.now c.requires.priceable c.recall_valid.ensures.orderly c.recall_valid-2.ensures.orderly c.requires.prices.0 c.args.prices.now.0 c.requires.prices.1
 
 pub loop-telescope-init : goal.loop-telescope-init
 loop-telescope-init c = subst (AreTablesTo c.args.extension.now.snapshot.now c.args.prices.now.0 0) (sym c.new-tables.ensures.items) (tables_none c.args.extension.now.snapshot.now c.args.prices.now.0)

@@ -1,4 +1,4 @@
-use Rattle.std.proofs.Common.{◌≡◌, ℕ, ℤ, ◌+◌, List, length, sym, ◌∙◌, ap, subst, arith}
+use Rattle.std.proofs.Common.{◌≡◌, ℕ, ◌+◌, length, sym, ◌∙◌, ap, subst, arith}
 use Rattle.plan_base.specs.declared.parts.Parts.{Parts}
 use Rattle.rapid.specs.Tables.{AreTablesTo, AreTables}
 use Rattle.rapid.proofs.Tabled.{tables_none, tables_more}
