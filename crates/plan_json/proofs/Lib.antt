@@ -11,3 +11,4 @@ pub mod TextsBack
 pub mod OneLine
 pub mod Ranges
 pub mod Back
+pub mod Digits
