@@ -14,6 +14,7 @@ pub mod Skies
 pub mod SlotFlags
 pub mod Spans
 pub mod Stages
+pub mod StartRows
 pub mod Summing
 pub mod Swept
 pub mod Tabled

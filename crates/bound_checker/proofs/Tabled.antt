@@ -11,11 +11,11 @@ use Rattle.plan_base.specs.Verdict.{IsPriceInRange}
 use Rattle.plan_base.proofs.RowTables.{first_entry_best}
 use Rattle.plan_base.proofs.Sizes.{start_size_above}
 use Rattle.plan_base.proofs.Limits.{weight_between}
-use Rattle.plan_base.specs.Tables.{AreStartRows}
 use Rattle.bound_checker.specs.declared.table.Start.{Start}
 use Rattle.plan_base.specs.Tables.{entry, row}
 use Rattle.bound_checker.specs.Tables.{IsWeight, gain, IsFitting, DoRowsFit, IsGreatestAt, IsRecursion}
 use Rattle.bound_checker.specs.Listings.{IsStartOf, IsToldBy, IsListing, IsBefore}
+use Rattle.bound_checker.proofs.StartRows.{rows_are}
 
 module _ (s : Parts) (prices : List ℤ) (t : ℕ) (rows : List (List Start)) (orderly : IsOrderly s) (range : All IsPriceInRange prices) (listing : IsListing s prices t (IsBefore s (length (listed s))) rows) where
   -- each start ends after it begins, and within the rows
@@ -33,17 +33,6 @@ module _ (s : Parts) (prices : List ℤ) (t : ℕ) (rows : List (List Start)) (o
         within = omega arith;
       }
 
-  rows_are : AreStartRows s prices t (λ y. y.weight) (λ y. y.after) rows
-  rows_are = record {
-    count = listing.count;
-    possible = λ i x has.
-        let p = listing.possible i x has in
-        (p.0, record { possible = p.1.possible; same_telescope = p.1.same_telescope }, p.2, record { weighs_so = p.3.gives; ends_so = p.3.after });
-    complete = λ p start.
-        let x = listing.complete p (record { possible = start.possible; same_telescope = start.same_telescope }) start.possible.known in
-        (x.0, x.1, record { weighs_so = x.2.gives; ends_so = x.2.after });
-  }
-
   -- the first entry is the best from the first slice on
   pub first_best : (table : List ℤ) → IsRecursion rows table → IsBest s prices t s.first.0 (entry table 0)
-  first_best table recursion = first_entry_best s prices t (λ y. y.weight) (λ y. y.after) rows table orderly rows_are recursion
+  first_best table recursion = first_entry_best s prices t (λ y. y.weight) (λ y. y.after) rows table orderly (rows_are s prices t rows listing) recursion

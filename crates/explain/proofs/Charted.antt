@@ -7,30 +7,20 @@ use Rattle.plan_base.specs.Requests.{listed}
 use Rattle.plan_base.specs.Snapshot.{IsOrderly}
 use Rattle.plan_base.specs.Starts.{size_of}
 use Rattle.plan_base.specs.Bound.{weight}
-use Rattle.plan_base.specs.Tables.{IsStartOn, slice_after, horizon_end, entry, AreStartRows}
+use Rattle.plan_base.specs.Tables.{IsStartOn, slice_after, horizon_end, entry}
 use Rattle.plan_base.proofs.Sizes.{start_size_above}
 use Rattle.plan_base.proofs.RowTables.{rows_table}
 use Rattle.plan_base.proofs.Tables.{table_best}
 use Rattle.bound_checker.specs.declared.table.Start.{Start}
 use Rattle.bound_checker.specs.Tables.{IsRecursion}
 use Rattle.bound_checker.specs.Listings.{IsListing, IsBefore}
+use Rattle.bound_checker.proofs.StartRows.{rows_are}
 use Rattle.explain.specs.declared.chart.Chart.{Chart}
 use Rattle.explain.specs.Through.{IsTableUntil}
 use Rattle.explain.specs.Steps.{IsFilled, IsChart}
 use Rattle.explain.proofs.BestsUntil.{table_until}
 
 module _ (s : Parts) (prices : List ℤ) (t : ℕ) (rows : List (List Start)) (orderly : IsOrderly s) (listing : IsListing s prices t (IsBefore s (length (listed s))) rows) where
-  rows_are : AreStartRows s prices t (λ y. y.weight) (λ y. y.after) rows
-  rows_are = record {
-    count = listing.count;
-    possible = λ i x has.
-        let p = listing.possible i x has in
-        (p.0, record { possible = p.1.possible; same_telescope = p.1.same_telescope }, p.2, record { weighs_so = p.3.gives; ends_so = p.3.after });
-    complete = λ p start.
-        let x = listing.complete p (record { possible = start.possible; same_telescope = start.same_telescope }) start.possible.known in
-        (x.0, x.1, record { weighs_so = x.2.gives; ends_so = x.2.after });
-  }
-
   module _ (table : List ℤ) (filled : IsFilled rows table) where
     -- the number until slice k
     abbrev until_slice : ℕ → ℤ
@@ -46,7 +36,7 @@ module _ (s : Parts) (prices : List ℤ) (t : ℕ) (rows : List (List Start)) (o
     above_start : (p : Placement) → IsStartOn s t p → (until_slice p.slice.0 +ℤ weight s prices p) ≤ℤ until_slice (slice_after s p)
     above_start p start =
         let count : length rows ≡ s.slices = listing.count in
-        let x = rows_are.complete p start in
+        let x = (rows_are s prices t rows listing).complete p start in
         let some : 0 < size_of s p.request.0 = start_size_above s orderly p start.possible in
         let begins : s.first.0 ≤ p.slice.0 = start.possible.begins in
         let ends : p.slice.0 + size_of s p.request.0 ≤ s.first.0 + s.slices = start.possible.ends in
@@ -69,7 +59,7 @@ module _ (s : Parts) (prices : List ℤ) (t : ℕ) (rows : List (List Start)) (o
               let at : entry table i ≡ until_slice k = ap (entry table) (omega arith) in
               inl (omega (arith, ints))
           | inr (i, w, (l, inr (x, has, e, f)), gives) ↦
-              let p = rows_are.possible i x has in
+              let p = (rows_are s prices t rows listing).possible i x has in
               let slice : p.0.slice.0 ≡ s.first.0 + i = p.2 in
               let after : s.first.0 + x.after ≡ slice_after s p.0 = p.3.ends_so in
               let weighs : x.weight ≡ weight s prices p.0 = p.3.weighs_so in
@@ -91,5 +81,5 @@ module _ (s : Parts) (prices : List ℤ) (t : ℕ) (rows : List (List Start)) (o
     until_count = until.count ∙ ap (λ (n : ℕ). n + 1) listing.count;
     after_count = count ∙ ap (λ (n : ℕ). n + 1) listing.count;
     until = table_until s prices t orderly (λ k. entry chart.until.items (k - s.first.0)) (until_is chart.until.items until);
-    after = table_best s prices t orderly (λ k. entry chart.after.items (k - s.first.0)) (rows_table s prices t (λ y. y.weight) (λ y. y.after) rows chart.after.items orderly rows_are after);
+    after = table_best s prices t orderly (λ k. entry chart.after.items (k - s.first.0)) (rows_table s prices t (λ y. y.weight) (λ y. y.after) rows chart.after.items orderly (rows_are s prices t rows listing) after);
   }

@@ -6,33 +6,23 @@ use Rattle.plan_base.specs.Requests.{listed}
 use Rattle.plan_base.specs.Snapshot.{IsOrderly}
 use Rattle.plan_base.specs.Bound.{IsBest}
 use Rattle.plan_base.specs.Verdict.{IsPriceInRange}
-use Rattle.plan_base.specs.Tables.{entry, row, AreStartRows}
+use Rattle.plan_base.specs.Tables.{entry, row}
 use Rattle.plan_base.proofs.RowTables.{rows_table}
 use Rattle.plan_base.proofs.Tables.{table_best}
 use Rattle.plan_base.proofs.Limits.{best_between}
 use Rattle.bound_checker.specs.declared.table.Start.{Start}
 use Rattle.bound_checker.specs.Tables.{IsEntry, IsRecursion}
 use Rattle.bound_checker.specs.Listings.{IsListing, IsBefore}
+use Rattle.bound_checker.proofs.StartRows.{rows_are}
 use Rattle.openings.proofs.Numbers.{below_or_at}
 use Rattle.rapid.specs.Tables.{IsTableOf, AreTablesTo}
 
 module _ (s : Parts) (prices : List ℤ) (t : ℕ) (orderly : IsOrderly s) where
-  rows_are : (rows : List (List Start)) → IsListing s prices t (IsBefore s (length (listed s))) rows → AreStartRows s prices t (λ y. y.weight) (λ y. y.after) rows
-  rows_are rows listing = record {
-    count = listing.count;
-    possible = λ i x has.
-        let p = listing.possible i x has in
-        (p.0, record { possible = p.1.possible; same_telescope = p.1.same_telescope }, p.2, record { weighs_so = p.3.gives; ends_so = p.3.after });
-    complete = λ p start.
-        let x = listing.complete p (record { possible = start.possible; same_telescope = start.same_telescope }) start.possible.known in
-        (x.0, x.1, record { weighs_so = x.2.gives; ends_so = x.2.after });
-  }
-
   -- what the recursion over the telescope's starts gives
   pub table_made : (rows : List (List Start)) (table : List ℤ) → IsListing s prices t (IsBefore s (length (listed s))) rows → length table ≡ length rows + 1 → IsRecursion rows table → IsTableOf s prices t table
   table_made rows table listing count recursion = record {
     count = count ∙ ap (λ (n : ℕ). n + 1) listing.count;
-    from_slices = rows_table s prices t (λ y. y.weight) (λ y. y.after) rows table orderly (rows_are rows listing) recursion;
+    from_slices = rows_table s prices t (λ y. y.weight) (λ y. y.after) rows table orderly (rows_are s prices t rows listing) recursion;
   }
 
   module _ (table : List ℤ) (is : IsTableOf s prices t table) where
