@@ -1,7 +1,9 @@
 -- What is gathered of a request's starts, slice by slice and telescope by telescope.
-use Rattle.std.specs.Prelude.{◌≡◌, ◌≢◌, ℕ, ◌*◌, ◌≤◌, ◌<◌, ◌⊎◌, ℤ, pos, neg_ℤ, ◌≤ℤ◌, List, length, slice_index_or, Option, Some, None, All, AllPairs, Contains, MatchOption}
+use Rattle.std.specs.Prelude.{◌≡◌, ◌≢◌, ℕ, ◌*◌, ◌≤◌, ◌<◌, ◌⊎◌, ℤ, pos, neg_ℤ, ◌≤ℤ◌, List, length}
+use Rattle.std.specs.Prelude.{slice_index_or, Option, Some, None, All, AllPairs, Contains, MatchOption}
 use Rattle.plan_base.specs.declared.parts.Parts.{Parts}
 use Rattle.plan_base.specs.declared.claim.Placement.{Placement}
+use Rattle.plan_base.specs.Limits.{most_slices}
 use Rattle.explain.specs.declared.chart.Chart.{Chart}
 use Rattle.explain.specs.Through.{IsGain}
 use Rattle.openings.specs.Openings.{IsStartFor, IsStartAt}
@@ -74,7 +76,7 @@ IsDetourIfAny s prices t r detour = MatchOption detour (¬ (CanTake s t r)) (λ 
 -- how many starts request r has on telescope t, and its detour there
 pub record IsCrossing (s : Parts) (prices : List ℤ) (t r count : ℕ) (detour : Option ℤ) : Type 0 where
   pub starts : HasStartsWhere s r (IsOn t) count
-  pub few : count ≤ 1440
+  pub few : count ≤ most_slices
   pub is_detour : IsDetourIfAny s prices t r detour
 
 -- the charts of the first n telescopes
@@ -95,5 +97,5 @@ pub record IsGreatestDetourTo (s : Parts) (prices : List ℤ) (r n : ℕ) (b : �
 -- how many starts request r has on the telescopes before number n, and its greatest detour there
 pub record IsPassedTo (s : Parts) (prices : List ℤ) (r n count : ℕ) (detour : Option ℤ) : Type 0 where
   pub starts : HasStartsWhere s r (IsBeforeTelescope n) count
-  pub few : count ≤ n * 1440
+  pub few : count ≤ n * most_slices
   pub greatest : MatchOption detour ((t : ℕ) → t < n → ¬ (CanTake s t r)) (IsGreatestDetourTo s prices r n)

@@ -9,4 +9,5 @@ use Rattle.explain.specs.Left.{IsLeft, is_placed}
 
 -- of the first n requests each that the claim leaves out is explained, in order, and no other
 abbrev pub AreLeftTo : Parts → Claim → ℕ → List Left → Type 0
-AreLeftTo s claim n lefts = AllZip (IsLeft s claim) (filter (λ r. not (is_placed claim.placements r)) (take n (map (λ x. x.request.request.0) (listed s)))) lefts
+AreLeftTo s claim n lefts = AllZip (IsLeft s claim)
+    (filter (λ r. not (is_placed claim.placements r)) (take n (map (λ x. x.request.request.0) (listed s)))) lefts

@@ -1,6 +1,7 @@
 // A request on a telescope: how many starts it has there, and what the telescope gives through one of them.
 
 ghost use Rattle.std.specs.Prelude.{◌≡◌, ◌⊎◌, ◌+◌, ◌<◌, ◌≤◌, length, All, MatchOption};
+ghost use Rattle.plan_base.specs.Limits.{most_slices};
 ghost use Rattle.plan_base.specs.Verdict.{IsPriceInRange};
 ghost use Rattle.explain.specs.Through.{IsThrough};
 ghost use Rattle.explain.specs.Forced.{CanTake};
@@ -66,7 +67,7 @@ fn gains_of(
     requires openings { AreOpenings snapshot.now prices.now.0 openings.now }
     ensures gains { AreGainsTo snapshot.now prices.now.0 telescope.0 openings.now.request.0
         (snapshot.now.first.0 + snapshot.now.slices) result.starts result.greatest }
-    ensures few { result.starts ≤ 1440 }
+    ensures few { result.starts ≤ most_slices }
 {
     snapshot.recall_valid();
     let mut gains = Gains {
@@ -109,7 +110,7 @@ fn gain_at(
 
 /// The starts with one more, if there is one.
 fn with_gain(gains: Gains, gain: Option<i64>) -> Gains
-    requires { gains.starts < 1440 }
+    requires { gains.starts < most_slices }
     ensures starts { result.starts ≡ gains.starts + count_of gain }
     ensures greatest { IsLargerOf gains.greatest gain result.greatest }
 {
