@@ -54,7 +54,8 @@ fn sum_of(bests: i64, rebates: i64, quotas: i64) -> u64
 fn best_sum(alloc: Global, snapshot: &Snapshot, prices: &Prices) -> Result<i64, AllocError>
     requires count { length prices.now.0 ≡ length (listed snapshot.now) }
     requires range { All IsPriceInRange prices.now.0 }
-    ensures { IfOk result (λ sum. IsSummed (length snapshot.now.telescopes) (λ t. IsBest snapshot.now prices.now.0 t snapshot.now.first.0) 1440414720000000 sum) }
+    ensures { IfOk result (λ sum. IsSummed (length snapshot.now.telescopes)
+        (λ t. IsBest snapshot.now prices.now.0 t snapshot.now.first.0) 1440414720000000 sum) }
 {
     let mut sum = Sum { value: 0 };
     for telescope in 0..snapshot.parts().telescopes.len() {

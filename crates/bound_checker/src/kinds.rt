@@ -35,7 +35,8 @@ fn no_counts(alloc: Global, count: usize) -> Result<Vec<usize>, AllocError>
 /// The place of the first `ONEOF` with two placements or more.
 pub(crate) fn first_oneof_twice(groups: &[GroupPart], counts: &[usize]) -> Option<usize>
     requires { length counts.now ≡ length groups.now }
-    ensures { MatchOption result ((g : ℕ) → ¬ (HoldsOfGroup IsTwice groups.now counts.now g)) (λ g. (g < length groups.now) × IsFirst (HoldsOfGroup IsTwice groups.now counts.now) g) }
+    ensures { MatchOption result ((g : ℕ) → ¬ (HoldsOfGroup IsTwice groups.now counts.now g))
+        (λ g. (g < length groups.now) × IsFirst (HoldsOfGroup IsTwice groups.now counts.now) g) }
 {
     for (place, group) in groups.iter().enumerate() {
         if is_twice(group, counts[place]) {
@@ -48,7 +49,8 @@ pub(crate) fn first_oneof_twice(groups: &[GroupPart], counts: &[usize]) -> Optio
 /// The place of the first `AND` that is placed in part.
 pub(crate) fn first_and_partial(groups: &[GroupPart], counts: &[usize]) -> Option<usize>
     requires { length counts.now ≡ length groups.now }
-    ensures { MatchOption result ((g : ℕ) → ¬ (HoldsOfGroup IsPartial groups.now counts.now g)) (λ g. (g < length groups.now) × IsFirst (HoldsOfGroup IsPartial groups.now counts.now) g) }
+    ensures { MatchOption result ((g : ℕ) → ¬ (HoldsOfGroup IsPartial groups.now counts.now g))
+        (λ g. (g < length groups.now) × IsFirst (HoldsOfGroup IsPartial groups.now counts.now) g) }
 {
     for (place, group) in groups.iter().enumerate() {
         if is_partial(group, counts[place]) {

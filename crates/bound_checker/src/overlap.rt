@@ -73,7 +73,8 @@ fn occupy(flags: &mut Vec<bool>, slots: Slots)
     requires order { slots.from ≤ slots.to }
     requires within { slots.to ≤ length flags.old.items }
     ensures count { length flags.new.items ≡ length flags.old.items }
-    ensures set { (i : ℕ) → slice_index_or flags.new.items i false ≡ cond (nat_le slots.from i && nat_lt i slots.to) true (slice_index_or flags.old.items i false) }
+    ensures set { (i : ℕ) → slice_index_or flags.new.items i false
+        ≡ cond (nat_le slots.from i && nat_lt i slots.to) true (slice_index_or flags.old.items i false) }
 {
     for slot in slots.from..slots.to {
         flags[slot] = true;

@@ -58,7 +58,8 @@ fn is_able(request: &RequestPart, telescope: TelescopeNo) -> bool
 fn is_within_horizon(parts: &Parts, request: &RequestPart, slice: SliceNo) -> bool
     requires orderly { IsOrderly parts.now }
     requires seconds { request.now.seconds ≤ most_seconds }
-    ensures { IsTrue result ↔ ((parts.now.first.0 ≤ slice.0) × (slice.0 + slices_for parts.now.len request.now.seconds ≤ parts.now.first.0 + parts.now.slices)) }
+    ensures { IsTrue result ↔ ((parts.now.first.0 ≤ slice.0)
+        × (slice.0 + slices_for parts.now.len request.now.seconds ≤ parts.now.first.0 + parts.now.slices)) }
 {
     let size = slices_for(u64::from(parts.len), u64::from(request.seconds));
     let end = u64::from(parts.first.0) + u64::from(parts.slices);

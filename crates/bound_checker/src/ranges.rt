@@ -8,7 +8,8 @@ use plan_base::{MOST_PRICE, MOST_QUOTA_PRICE};
 
 /// The first price that is out of its range.
 pub(crate) fn first_price_out_of_range(prices: &[i64]) -> Option<usize>
-    ensures { MatchOption result (All IsPriceInRange prices.now) (IsFirst (λ i. (i < length prices.now) × ¬ (IsPriceInRange (slice_index_or prices.now i (pos 0))))) }
+    ensures { MatchOption result (All IsPriceInRange prices.now)
+        (IsFirst (λ i. (i < length prices.now) × ¬ (IsPriceInRange (slice_index_or prices.now i (pos 0))))) }
 {
     for (index, price) in prices.iter().enumerate() {
         if *price < -MOST_PRICE || *price > MOST_PRICE {

@@ -71,7 +71,8 @@ fn stretch_in(span: Span, observation: Observation, slice: u64) -> Stretch
     requires from { IsMoment span.from.0 }
     requires to { IsMoment span.to.0 }
     ensures stretch { IsStretch (DoesFitIn span observation) slice result }
-    ensures early { result.fits ≡ false → slice * observation.len + observation.seconds ≤ span.to.0 → (j : ℕ) → j < result.end → j * observation.len < span.from.0 }
+    ensures early { result.fits ≡ false → slice * observation.len + observation.seconds ≤ span.to.0
+        → (j : ℕ) → j < result.end → j * observation.len < span.from.0 }
 {
     let Observation { len, seconds } = observation;
     if span.to.0 < slice * len + seconds {

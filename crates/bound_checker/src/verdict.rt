@@ -24,7 +24,8 @@ use std::alloc::{AllocError, Global};
 /// placements, which take 48 GiB, counts as that.
 pub fn check(alloc: Global, snapshot: &Snapshot, claim: &Claim) -> Result<Verdict, AllocError>
     ensures verdict { IfOk result (λ verdict. IsVerdict snapshot.now claim.now verdict) }
-    ensures bound { IfOk result (λ verdict. (value bound : ℕ) → verdict ≡ Verdict.Yes value bound → (plan : List Placement) → IsFeasible snapshot.now plan → value_of_plan snapshot.now plan ≤ bound) }
+    ensures bound { IfOk result (λ verdict. (value bound : ℕ) → verdict ≡ Verdict.Yes value bound → (plan : List Placement)
+        → IsFeasible snapshot.now plan → value_of_plan snapshot.now plan ≤ bound) }
 {
     weak_duality(snapshot, &claim.prices, &claim.quota_prices);
     Ok(match first_reason(alloc, snapshot, claim)? {

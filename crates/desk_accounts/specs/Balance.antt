@@ -1,5 +1,6 @@
 -- Balances as the lines and the printed replies of a history tell them.
-use Rattle.std.specs.Prelude.{ℕ, ◌+◌, ◌-◌, ◌==◌, Bool, true, false, if◌then◌else◌, List, [], ◌∷◌, map, find, zip, filter_map, flat_map, sum_by, Option, Some, None, Result, Ok, option_and_then}
+use Rattle.std.specs.Prelude.{ℕ, ◌+◌, ◌-◌, ◌==◌, Bool, true, false, if◌then◌else◌, List, [], ◌∷◌, map}
+use Rattle.std.specs.Prelude.{find, zip, filter_map, flat_map, sum_by, Option, Some, None, Result, Ok, option_and_then}
 use Rattle.std.specs.List.{list_any}
 use Rattle.std.specs.Option.{option_map, option_map_or}
 use Rattle.plan_base.specs.declared.number.GroupNo.{GroupNo}
@@ -73,7 +74,8 @@ document_in _ = None
 -- the group that a reply gives its numbers to
 abbrev pub group_of : Option GroupDoc → Reply → Option GroupTold
 group_of document (reply.Submitted group charged requests) = option_map (λ d. record { document = d; number = group; requests = requests }) document
-group_of document (reply.Amended group charged refunded replaces requests) = option_map (λ d. record { document = d; number = group; requests = requests }) document
+group_of document (reply.Amended group charged refunded replaces requests) =
+    option_map (λ d. record { document = d; number = group; requests = requests }) document
 group_of document _ = None
 
 -- the group that an entry tells, where its line was accepted

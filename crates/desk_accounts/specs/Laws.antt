@@ -36,7 +36,8 @@ pub record IsShown (balance : Key → Option ℕ) (shown : List AccountBalance) 
 
 -- what a `balances` line is replied is what the entries before it tell of all accounts
 abbrev pub BalancesAreShown : Type 0
-BalancesAreShown = (scripts : List (List ScriptLine)) (history before after : List EventEntry) (e : EventEntry) (shown : List AccountBalance) → IsLegal scripts history
+BalancesAreShown = (scripts : List (List ScriptLine)) (history before after : List EventEntry) (e : EventEntry) (shown : List AccountBalance)
+    → IsLegal scripts history
     → history ≡ before ++ e ∷ after → e.reply ≡ reply.Balances shown → IsShown (balance_after scripts before) shown
 
 -- what a `grant` line is replied is what the entries up to it tell of its account

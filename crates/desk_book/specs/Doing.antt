@@ -73,8 +73,10 @@ IsDone b caller read (call.Taken taken) c = DoesTake b caller read taken c
 -- what is answered where a caller goes on, and the book that is left: nothing is done where its Take is open, nor where none is
 -- and no line is left
 abbrev pub IsPerformed : BookSeen → ℕ → BookStep → BookSeen → Type 0
-IsPerformed b caller step.Replied c = (take_of b.takes caller ≡ None) × ((read : Result Command CommandFault) × SaysNext b caller read × DoesStep b caller read c)
-IsPerformed b caller (step.Taken taken) c = (take_of b.takes caller ≡ None) × ((read : Result Command CommandFault) × SaysNext b caller read × DoesTake b caller read taken c)
+IsPerformed b caller step.Replied c = (take_of b.takes caller ≡ None)
+    × ((read : Result Command CommandFault) × SaysNext b caller read × DoesStep b caller read c)
+IsPerformed b caller (step.Taken taken) c = (take_of b.takes caller ≡ None)
+    × ((read : Result Command CommandFault) × SaysNext b caller read × DoesTake b caller read taken c)
 IsPerformed b caller step.TakeOpen c = IsSome (take_of b.takes caller) × (c ≡ b)
 IsPerformed b caller step.Over c = IsOver b caller × (c ≡ b)
 

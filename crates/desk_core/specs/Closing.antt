@@ -52,7 +52,8 @@ on_withdraw d number = record {
 abbrev pub amended_reply : DeskSeen → GroupNo → GroupDoc → List MadeSeen → Reply
 amended_reply d old document made =
     let freed = without_group old d in
-    reply.Amended (group_of freed document made).number (charge_for freed document made) (refunds_of d (withdrawn old d.progress)) old (numbers_for freed document made)
+    reply.Amended (group_of freed document made).number (charge_for freed document made)
+    (refunds_of d (withdrawn old d.progress)) old (numbers_for freed document made)
 
 -- the requests that a document makes, none where it is refused
 abbrev pub made_or_none : Result (List MadeSeen) Refusal → List MadeSeen

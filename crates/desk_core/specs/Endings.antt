@@ -1,5 +1,6 @@
 -- What becomes of what open groups hold, once they have gone on.
-use Rattle.std.specs.Prelude.{◌≡◌, ◌+◌, ◌-◌, ◌^◌, ◌≤◌, List, [], ◌∷◌, length, map, filter, filter_map, slice_get, All, Option, Some, None, IfSome, if◌then◌else◌}
+use Rattle.std.specs.Prelude.{◌≡◌, ◌+◌, ◌-◌, ◌^◌, ◌≤◌, List, [], ◌∷◌, length, map, filter, filter_map}
+use Rattle.std.specs.Prelude.{slice_get, All, Option, Some, None, IfSome, if◌then◌else◌}
 use Rattle.std.specs.Option.{option_map, is_some}
 use Rattle.allocations.specs.Books.{Books, total_seconds}
 use Rattle.allocations.specs.Changes.{ipp_of, released, refunded}

@@ -132,7 +132,8 @@ instrument_lacks d key = is_on_instrument key.account && not (is_named (instrume
 
 -- full where the account is new and there are 1,024
 abbrev pub accounts_refusal : DeskSeen → Key → Option Refusal
-accounts_refusal d key = if not (has_grant d.books.entries key) && not (nat_lt (length (accounts_of d.books.entries)) 1024) then Some (Full 1024 Accounts) else None
+accounts_refusal d key = if not (has_grant d.books.entries key) && not (nat_lt (length (accounts_of d.books.entries)) 1024)
+    then Some (Full 1024 Accounts) else None
 
 -- `grant`: the instrument type isn't there, or full; else it is an entry
 abbrev pub on_grant : DeskSeen → Key → ℕ → Decision

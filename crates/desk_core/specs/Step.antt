@@ -66,7 +66,13 @@ step_opened v s d (command.Show group) = Some (told s (on_show d group))
 abbrev pub step_unopened : StateSeen → Command → Stepped
 step_unopened s (command.Open now slice horizon semester lanes rounds workers quota) =
     accepted s reply.Opened
-    (new_desk record { slice = slice; horizon = horizon; semester = semester; settings = record { lanes = lanes; rounds = rounds; workers = workers }; quota = quota } now)
+    (new_desk record {
+      slice = slice;
+      horizon = horizon;
+      semester = semester;
+      settings = record { lanes = lanes; rounds = rounds; workers = workers };
+      quota = quota;
+    } now)
 step_unopened s _ = refused s NotOpened
 
 -- a command, by whether the desk is opened
@@ -109,7 +115,8 @@ opened version d = record { version = version; desk = Some d }
 -- the refusal, or finds no memory, and changes nothing
 pub record Does (version : ℕ) (before : DeskSeen) (c : Command) (after : DeskSeen) (result : Result Reply CommandFault) : Type 0 where
   pub ok : IfOk result (λ reply. IsStep (opened version before) c record { reply = reply; state = opened (version + changes c) after })
-  pub refused : IfErr result (λ fault. fault ≢ NoMemory → (r : Refusal) × IsStep (opened version before) c (refused (opened version before) r) × (refusal_in fault ≡ Some r))
+  pub refused : IfErr result (λ fault. fault ≢ NoMemory → (r : Refusal)
+      × IsStep (opened version before) c (refused (opened version before) r) × (refusal_in fault ≡ Some r))
   pub unchanged : OnErr result (after ≡ before)
 
 -- a call does what the command does on a state: it answers the reply and leaves that state, or it answers the refusal, or finds

@@ -30,7 +30,8 @@ use Rattle.desk_core.specs.Holds.{key_of, is_refunded, groups_along, with_progre
 abbrev pub clocked_reply : DeskSeen → Sec → Reply
 clocked_reply d at =
     let before = at_moment at d.progress in
-    reply.Clocked (became_in is_over d.progress.groups (settle before).groups) (requests_in (ending (started before))) (refunds_of d (settle before)) (requests_in (beginning before))
+    reply.Clocked (became_in is_over d.progress.groups (settle before).groups) (requests_in (ending (started before)))
+    (refunds_of d (settle before)) (requests_in (beginning before))
 
 -- `clock`: the moment is before now; else it is now, and does what a moment does
 abbrev pub on_clock : DeskSeen → Sec → Decision
@@ -69,7 +70,10 @@ pub record IsFoundAt (d : DeskSeen) (number : RequestNo) (place : Place) : Type 
 -- the books with the seconds that a request has used
 abbrev pub charged : RequestNo → ℕ → Submitted → Wanted → DeskSeen → DeskSeen
 charged number used w q d =
-    record d { books = option_map_or (λ g. with_entry (request_entry (key_of w.document q) used g.number number) d.books) (group_with d.progress.groups number) d.books }
+    record d {
+      books = option_map_or (λ g. with_entry (request_entry (key_of w.document q) used g.number number) d.books)
+          (group_with d.progress.groups number) d.books;
+    }
 
 -- what a report that completes a request may charge: no group is refunded, the account has a grant, and what is held of it is
 -- less then by at least what is charged

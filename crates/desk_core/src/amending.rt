@@ -1,6 +1,7 @@
 // `amend`: a group ends, and another takes its place.
 
-ghost use Rattle.std.specs.Prelude.{◌≡◌, ◌≢◌, ◌+◌, ◌-◌, ◌≤◌, ◌<◌, ◌^◌, ◌||◌, length, map, find, slice_get, Ok, None, Some, IfOk, IfErr, OnOk, OnErr, option_and_then, vec_len, vec_capacity};
+ghost use Rattle.std.specs.Prelude.{◌≡◌, ◌≢◌, ◌+◌, ◌-◌, ◌≤◌, ◌<◌, ◌^◌, ◌||◌, length, map, find};
+ghost use Rattle.std.specs.Prelude.{slice_get, Ok, None, Some, IfOk, IfErr, OnOk, OnErr, option_and_then, vec_len, vec_capacity};
 ghost use Rattle.std.specs.Option.{option_map};
 ghost use Rattle.plan_base.specs.States.{is_completed};
 ghost use Rattle.request_model.specs.Ranges.{IsGroup};
@@ -81,7 +82,8 @@ impl Desk {
     // What is given back of the ipp charge of a group.
     fn refunded(&self, alloc: Global, number: GroupNo) -> Result<ListOf<GroupRefund>, AllocError>
         requires { (1 ≤ number.0) × (number.0 ≤ length self.now.submitted.items) }
-        ensures { (w : Submitted) → slice_get self.now.submitted.items (number.0 - 1) ≡ Some w → IfOk result (λ refunded. refunded ≡ refund_for number w.charged) }
+        ensures { (w : Submitted) → slice_get self.now.submitted.items (number.0 - 1) ≡ Some w
+            → IfOk result (λ refunded. refunded ≡ refund_for number w.charged) }
     {
         let place = (number.0 - 1) as usize;
         refund_for(alloc, number, self.submitted.as_slice()[place].charged)

@@ -8,7 +8,8 @@ ghost use Rattle.request_times.specs.Cadence.{expansion};
 ghost use Rattle.request_times.specs.Duration.{IsOverhead};
 ghost use Rattle.desk_core.specs.Desk.{seen};
 ghost use Rattle.desk_core.specs.Refusals.{Says};
-ghost use Rattle.desk_core.specs.Asking.{at_index, turned_into, overheads, seconds_for, is_single, windows_for, is_inside, is_outside, is_past, is_fitted, made_with, tested, made_from, made_of, seen_made};
+ghost use Rattle.desk_core.specs.Asking.{at_index, turned_into, overheads, seconds_for, is_single};
+ghost use Rattle.desk_core.specs.Asking.{windows_for, is_inside, is_outside, is_past, is_fitted, made_with, tested, made_from, made_of, seen_made};
 
 use crate::desk::Desk;
 use desk_events::{CommandFault, Refusal};

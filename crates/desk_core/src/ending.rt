@@ -50,7 +50,8 @@ fn refund(
     before: &Group,
     after: &Group,
 ) -> Result<Option<Hold>, AllocError>
-    ensures { IfOk result (λ charge. charge ≡ (if is_refunded before.now after.now then standing submitted.now.document.proposal submitted.now.charged else None)) }
+    ensures { IfOk result (λ charge. charge ≡ (if is_refunded before.now after.now
+        then standing submitted.now.document.proposal submitted.now.charged else None)) }
 {
     if !is_refunded(before, after) {
         return Ok(None);

@@ -27,7 +27,8 @@ impl Desk {
         after: &Group,
     ) -> Result<(), AllocError>
         requires { (p : Submitted × (Group × Group)) × IsToldAt (seen self.now) p after.now }
-        ensures { (p : Submitted × (Group × Group)) → IsToldAt (seen self.now) p after.now → OnOk result (endings.new.items ≡ endings.old.items ++ endings_of (p ∷ [])) }
+        ensures { (p : Submitted × (Group × Group)) → IsToldAt (seen self.now) p after.now
+            → OnOk result (endings.new.items ≡ endings.old.items ++ endings_of (p ∷ [])) }
     {
         let place = (after.number.0 - 1) as usize;
         let before = self.runs.known(after.number);
@@ -44,7 +45,8 @@ impl Desk {
     fn endings(&self, alloc: Global, change: &Change) -> Result<Vec<Ending>, AllocError>
         requires desk { IsDesk (seen self.now) }
         requires can { CanChange self.now.runs change.now }
-        ensures { IfOk result (λ endings. endings.items ≡ endings_of (told_along change.entry.now.groups (seen self.now) (changed self.now.runs change.entry.now))) }
+        ensures { IfOk result (λ endings. endings.items
+            ≡ endings_of (told_along change.entry.now.groups (seen self.now) (changed self.now.runs change.entry.now))) }
     {
         let mut endings = Vec::new(alloc);
         let told = change.groups.as_slice();

@@ -1,6 +1,7 @@
 // `submit`: a group is numbered, held for and charged.
 
-ghost use Rattle.std.specs.Prelude.{◌≡◌, ◌≢◌, ◌+◌, ◌≤◌, ◌<◌, ◌^◌, ◌++◌, ◌∷◌, [], nat_lt, ◌&&◌, if◌then◌else◌, length, map, All, true, false, Ok, Some, None, IfOk, IfErr, OnOk, OnErr, vec_len, vec_capacity};
+ghost use Rattle.std.specs.Prelude.{◌≡◌, ◌≢◌, ◌+◌, ◌≤◌, ◌<◌, ◌^◌, ◌++◌, ◌∷◌, [], nat_lt, ◌&&◌};
+ghost use Rattle.std.specs.Prelude.{if◌then◌else◌, length, map, All, true, false, Ok, Some, None, IfOk, IfErr, OnOk, OnErr, vec_len, vec_capacity};
 ghost use Rattle.plan_base.specs.declared.parts.Op.TheVariants.{Many};
 ghost use Rattle.plan_json.specs.Ranges.{IsBetween};
 ghost use Rattle.request_model.specs.Ranges.{IsGroup};
@@ -255,7 +256,8 @@ impl Desk {
         ensures entered { OnOk result (seen self.new ≡ with_entry (seen self.old) document.now (map seen_made made.entry.items)) }
         ensures few { OnOk result (length (targets_with (seen self.old) document.now) ≤ 2048) }
         ensures room { OnOk result (vec_len self.new.submitted < vec_capacity self.new.submitted) }
-        ensures refused { IfErr result (λ fault. fault ≢ NoMemory → (fault ≡ Refused (Full 2048 Targets)) × (2048 < length (targets_with (seen self.old) document.now))) }
+        ensures refused { IfErr result (λ fault. fault ≢ NoMemory → (fault ≡ Refused (Full 2048 Targets))
+            × (2048 < length (targets_with (seen self.old) document.now))) }
         ensures unchanged { OnErr result (seen self.new ≡ seen self.old) }
     {
         let known = self.network.targets();

@@ -106,8 +106,9 @@ impl Desk {
         requires room { IsRoomy self.old.ledger.books }
         requires running { is_placed self.old.runs.running number ≡ true }
         requires charge { CanCharge (seen self.old) number used key.now }
-        ensures { (w : Submitted) (v : Wanted) (g : Group) → key.now ≡ key_of w.document v → group_with self.old.runs.groups number ≡ Some g → g.number ≡ group →
-            Decides (on_completed (seen self.old) number used w v) (seen self.old) (seen self.new) result }
+        ensures { (w : Submitted) (v : Wanted) (g : Group) → key.now ≡ key_of w.document v
+            → group_with self.old.runs.groups number ≡ Some g → g.number ≡ group
+            → Decides (on_completed (seen self.old) number used w v) (seen self.old) (seen self.new) result }
     {
         let Reported {
             canceled,

@@ -15,7 +15,8 @@ use Rattle.desk_events.specs.declared.refusal.Refusal.TheVariants as refusal
 use Rattle.desk_events.specs.declared.read.verb.Verb.{Verb}
 use Rattle.desk_events.specs.declared.read.verb.Verb.TheVariants as verb
 use Rattle.desk_events.specs.Fault.{read_member, read_group}
-use Rattle.desk_events.specs.Commands.{open_of, instrument_of, telescope_of, night_of, visibility_of, close_of, reopen_of, grant_of, submit_of, amend_of, withdraw_of}
+use Rattle.desk_events.specs.Commands.{open_of, instrument_of, telescope_of, night_of, visibility_of}
+use Rattle.desk_events.specs.Commands.{close_of, reopen_of, grant_of, submit_of, amend_of, withdraw_of}
 use Rattle.desk_events.specs.Commands.{clock_of, report_of, publish_of, show_of}
 
 -- the verb with that word

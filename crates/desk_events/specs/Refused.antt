@@ -26,18 +26,23 @@ members_of_refusal (refusal.WrongKind m) = refused 4 (codes "WrongKind") (has (c
 members_of_refusal (refusal.NotWhole m) = refused 5 (codes "NotWhole") (has (codes "member") (string (name_of m)) ∷ [])
 members_of_refusal (refusal.OutOfRange m) = refused 6 (codes "OutOfRange") (has (codes "member") (string (name_of m)) ∷ [])
 members_of_refusal (refusal.BadMoment m) = refused 7 (codes "BadMoment") (has (codes "member") (string (name_of m)) ∷ [])
-members_of_refusal (refusal.BadShape count op) = refused 8 (codes "BadShape") (has (codes "count") (whole count) ∷ has (codes "operator") (string (operator_name op)) ∷ [])
-members_of_refusal (refusal.BadWindow index window) = refused 9 (codes "BadWindow") (has (codes "index") (whole index) ∷ has (codes "window") (whole window) ∷ [])
+members_of_refusal (refusal.BadShape count op) =
+    refused 8 (codes "BadShape") (has (codes "count") (whole count) ∷ has (codes "operator") (string (operator_name op)) ∷ [])
+members_of_refusal (refusal.BadWindow index window) =
+    refused 9 (codes "BadWindow") (has (codes "index") (whole index) ∷ has (codes "window") (whole window) ∷ [])
 members_of_refusal (refusal.BadCadence index) = refused 10 (codes "BadCadence") (has (codes "index") (whole index) ∷ [])
-members_of_refusal (refusal.TooManyWindows count index) = refused 11 (codes "TooManyWindows") (has (codes "count") (whole count) ∷ has (codes "index") (whole index) ∷ [])
-members_of_refusal (refusal.TooLong index seconds) = refused 12 (codes "TooLong") (has (codes "index") (whole index) ∷ has (codes "seconds") (whole seconds) ∷ [])
+members_of_refusal (refusal.TooManyWindows count index) =
+    refused 11 (codes "TooManyWindows") (has (codes "count") (whole count) ∷ has (codes "index") (whole index) ∷ [])
+members_of_refusal (refusal.TooLong index seconds) =
+    refused 12 (codes "TooLong") (has (codes "index") (whole index) ∷ has (codes "seconds") (whole seconds) ∷ [])
 members_of_refusal refusal.NoSuchTelescope = refused 13 (codes "NoSuchTelescope") []
 members_of_refusal refusal.NoSuchSite = refused 14 (codes "NoSuchSite") []
 members_of_refusal refusal.Repeated = refused 15 (codes "Repeated") []
 members_of_refusal (refusal.Full limit what) = refused 16 (codes "Full") (has (codes "limit") (whole limit) ∷ has (codes "what") (string (full_word what)) ∷ [])
 members_of_refusal refusal.NoSuchProposal = refused 17 (codes "NoSuchProposal") []
 members_of_refusal (refusal.NoSuchAllocation account) = refused 18 (codes "NoSuchAllocation") (has (codes "account") (string (account_word account)) ∷ [])
-members_of_refusal (refusal.NotEnoughTime available needed) = refused 19 (codes "NotEnoughTime") (has (codes "available") (whole available) ∷ has (codes "needed") (whole needed) ∷ [])
+members_of_refusal (refusal.NotEnoughTime available needed) =
+    refused 19 (codes "NotEnoughTime") (has (codes "available") (whole available) ∷ has (codes "needed") (whole needed) ∷ [])
 members_of_refusal refusal.NotOpened = refused 20 (codes "NotOpened") []
 members_of_refusal refusal.AlreadyOpened = refused 21 (codes "AlreadyOpened") []
 members_of_refusal (refusal.OutsideSemester index) = refused 22 (codes "OutsideSemester") (has (codes "index") (whole index) ∷ [])

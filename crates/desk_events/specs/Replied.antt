@@ -52,7 +52,8 @@ members_of_reply reply.Closed = accepted (codes "closed") []
 members_of_reply reply.Reopened = accepted (codes "reopened") []
 members_of_reply (reply.Granted balance) = accepted (codes "granted") (has (codes "balance") (whole balance) ∷ [])
 members_of_reply (reply.Submitted group ipp_charged requests) =
-    accepted (codes "submitted") (has (codes "group") (whole group.0) ∷ has (codes "ipp_charged") (whole ipp_charged) ∷ has (codes "requests") (requests_data requests) ∷ [])
+    accepted (codes "submitted") (has (codes "group") (whole group.0) ∷ has (codes "ipp_charged") (whole ipp_charged)
+    ∷ has (codes "requests") (requests_data requests) ∷ [])
 members_of_reply (reply.Amended group ipp_charged refunded replaces requests) =
     accepted (codes "amended")
     (has (codes "group") (whole group.0)
@@ -69,11 +70,14 @@ members_of_reply (reply.Clocked expired failed refunded started) =
     ∷ has (codes "refunded") (refunds_data refunded)
     ∷ has (codes "started") (requests_data started)
     ∷ [])
-members_of_reply (reply.Completed canceled charged) = accepted (codes "completed") (has (codes "canceled") (requests_data canceled) ∷ has (codes "charged") (whole charged) ∷ [])
-members_of_reply (reply.Failed expired refunded) = accepted (codes "failed") (has (codes "expired") (requests_data expired) ∷ has (codes "refunded") (refunds_data refunded) ∷ [])
+members_of_reply (reply.Completed canceled charged) =
+    accepted (codes "completed") (has (codes "canceled") (requests_data canceled) ∷ has (codes "charged") (whole charged) ∷ [])
+members_of_reply (reply.Failed expired refunded) =
+    accepted (codes "failed") (has (codes "expired") (requests_data expired) ∷ has (codes "refunded") (refunds_data refunded) ∷ [])
 members_of_reply reply.Taken = accepted (codes "taken") []
 members_of_reply (reply.Published claim) = accepted (codes "published") (has (codes "claim") (claim_data claim) ∷ [])
-members_of_reply (reply.Exported claim snapshot) = accepted (codes "exported") (has (codes "claim") (claim_data claim) ∷ has (codes "snapshot") (snapshot_data snapshot) ∷ [])
+members_of_reply (reply.Exported claim snapshot) =
+    accepted (codes "exported") (has (codes "claim") (claim_data claim) ∷ has (codes "snapshot") (snapshot_data snapshot) ∷ [])
 members_of_reply (reply.Balances balances) = accepted (codes "balances") (has (codes "balances") (list_of balance_data balances) ∷ [])
 members_of_reply (reply.Shown document group requests state) =
     accepted (codes "shown")

@@ -27,7 +27,8 @@ KeepsSound = (s : Progress) (now : Sec) → IsSound s → IsSound (settle (at_mo
 
 -- and so does a report on a running request
 abbrev pub ReportKeepsSound : Type 0
-ReportKeepsSound = (s : Progress) (number : RequestNo) (completes : Bool) → IsSound s → is_placed s.running number ≡ true → IsSound (reported number completes s)
+ReportKeepsSound = (s : Progress) (number : RequestNo) (completes : Bool) → IsSound s → is_placed s.running number ≡ true
+    → IsSound (reported number completes s)
 
 -- a withdrawal of a group of which no request runs
 abbrev pub WithdrawalKeepsSound : Type 0
@@ -63,4 +64,5 @@ WithdrawalGoesOn = (s : Progress) (number : GroupNo) → GoesOn s (withdrawn num
 
 -- a group that is there may be withdrawn before another is added, or after
 abbrev pub WithdrawalCommutes : Type 0
-WithdrawalCommutes = (s : Progress) (number : GroupNo) (op : Op) (asks : List Ask) → IsSound s → number.0 ≤ length s.groups → withdrawn number (with_group op asks s) ≡ with_group op asks (withdrawn number s)
+WithdrawalCommutes = (s : Progress) (number : GroupNo) (op : Op) (asks : List Ask) → IsSound s → number.0 ≤ length s.groups
+    → withdrawn number (with_group op asks s) ≡ with_group op asks (withdrawn number s)

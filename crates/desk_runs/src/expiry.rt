@@ -129,8 +129,10 @@ fn turn_group(
     running: &[Observation],
     now: Sec,
 ) -> Result<(), AllocError>
-    ensures groups { OnOk result (expiry.new.groups.items ≡ expiry.old.groups.items ++ (if is_touched running.now now group.now then turned running.now now group.now ∷ [] else [])) }
-    ensures requests { OnOk result (expiry.new.requests.items ≡ expiry.old.requests.items ++ became is_over group.now.requests (turned running.now now group.now).requests) }
+    ensures groups { OnOk result (expiry.new.groups.items ≡ expiry.old.groups.items
+        ++ (if is_touched running.now now group.now then turned running.now now group.now ∷ [] else [])) }
+    ensures requests { OnOk result (expiry.new.requests.items ≡ expiry.old.requests.items
+        ++ became is_over group.now.requests (turned running.now now group.now).requests) }
 {
     if !is_touched(group, running, now) {
         return Ok(());
@@ -155,7 +157,8 @@ pub fn expire(
 ) -> Result<Expiry, AllocError>
     requires { All (λ n. (1 ≤ n.0) × (n.0 ≤ length groups.now)) opened.now }
     ensures groups { IfOk result (λ e. e.groups.items ≡ map (turned running.now now) (filter (is_touched running.now now) (groups_of groups.now opened.now))) }
-    ensures requests { IfOk result (λ e. e.requests.items ≡ flat_map (λ g. became is_over g.requests (turned running.now now g).requests) (groups_of groups.now opened.now)) }
+    ensures requests { IfOk result (λ e. e.requests.items
+        ≡ flat_map (λ g. became is_over g.requests (turned running.now now g).requests) (groups_of groups.now opened.now)) }
 {
     let mut expiry = Expiry {
         groups: Vec::new(alloc),

@@ -82,7 +82,12 @@ pub fn change_one(
     over: &[RequestNo],
     running: Vec<Observation>,
 ) -> Result<Change, AllocError>
-    ensures { IfOk result (λ c. c ≡ record { now = now; groups = after ∷ []; kept = filter (λ o. not (list_any (λ r. r.0 == o.request.0) over.now)) kept.now; running = running.items }) }
+    ensures { IfOk result (λ c. c ≡ record {
+      now = now;
+      groups = after ∷ [];
+      kept = filter (λ o. not (list_any (λ r. r.0 == o.request.0) over.now)) kept.now;
+      running = running.items;
+    }) }
 {
     let kept = without(alloc, kept, over)?;
     let groups = one(alloc, after)?;

@@ -1,5 +1,6 @@
 -- The tables of what placements take up.
-use Rattle.std.specs.Prelude.{◌≡◌, ℕ, ◌+◌, ◌*◌, ◌^◌, ◌≤◌, ◌<◌, nat_le, nat_lt, Bool, true, false, cond, ◌&&◌, ◌==◌, List, length, slice_index_or, Option, Some, sum_by}
+use Rattle.std.specs.Prelude.{◌≡◌, ℕ, ◌+◌, ◌*◌, ◌^◌, ◌≤◌, ◌<◌, nat_le, nat_lt, Bool, true, false, cond}
+use Rattle.std.specs.Prelude.{◌&&◌, ◌==◌, List, length, slice_index_or, Option, Some, sum_by}
 use Rattle.plan_base.specs.declared.parts.Parts.{Parts}
 use Rattle.plan_base.specs.declared.parts.Op.TheVariants.{OneOf}
 use Rattle.plan_base.specs.declared.claim.Placement.{Placement}

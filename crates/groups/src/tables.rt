@@ -1,6 +1,7 @@
 // Tables of what the placements of a plan take up.
 
-ghost use Rattle.std.specs.Prelude.{◌≡◌, ℕ, ◌+◌, ◌≤◌, ◌<◌, ◌^◌, ◌&&◌, ◌↔◌, nat_le, nat_lt, not, false, [], length, replicate, cond, slice_index_or, slice_range, Some, IsTrue, IfOk};
+ghost use Rattle.std.specs.Prelude.{◌≡◌, ℕ, ◌+◌, ◌≤◌, ◌<◌, ◌^◌, ◌&&◌, ◌↔◌, nat_le, nat_lt, not, false};
+ghost use Rattle.std.specs.Prelude.{[], length, replicate, cond, slice_index_or, slice_range, Some, IsTrue, IfOk};
 ghost use Rattle.std.specs.List.{list_all};
 ghost use Rattle.plan_base.specs.declared.parts.Op.TheVariants.{OneOf};
 ghost use Rattle.groups.specs.Tables.{AreTables, IsInTables, HasRoom, IsLeftOut, IsTakenUp, TellsMore, towards, same};

@@ -35,4 +35,5 @@ pub record IsRestBest (starts singles : List Start) (g : Start → ℤ) (b : ℤ
 
 -- the same in each of n lanes, at slice k
 abbrev pub AreRestBest : ℕ → List (List Start) → List Start → List (List ℤ) → List (List ℤ) → ℕ → List ℤ → Type 0
-AreRestBest n rows singles prices table k numbers = (l : ℕ) → l < n → IsRestBest (row rows k) singles (gain (lane l prices) (lane l table)) (number_in l numbers)
+AreRestBest n rows singles prices table k numbers = (l : ℕ) → l < n
+    → IsRestBest (row rows k) singles (gain (lane l prices) (lane l table)) (number_in l numbers)

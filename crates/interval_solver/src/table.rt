@@ -139,7 +139,8 @@ fn block_best<const L: usize>(
     requires prices { All (IsForLanes L IsPriceInRange) prices.now }
     requires entries { All (IsForLanes L IsEntry) table.now }
     requires least { All (FitsSigned w64) least }
-    ensures fit { All (FitsSigned w64) result.first × All (FitsSigned w64) result.second × All (FitsSigned w64) result.third × All (FitsSigned w64) result.fourth }
+    ensures fit { All (FitsSigned w64) result.first × All (FitsSigned w64) result.second × All (FitsSigned w64) result.third
+        × All (FitsSigned w64) result.fourth }
     ensures first { IsMostInLanes L (IsWholeAt wholes.now 0) prices.now table.now least.entry result.first }
     ensures second { IsMostInLanes L (IsWholeAt wholes.now 1) prices.now table.now least.entry result.second }
     ensures third { IsMostInLanes L (IsWholeAt wholes.now 2) prices.now table.now least.entry result.third }

@@ -29,7 +29,8 @@ impl<'a> Model for Uses<'a> {
 
     ghost view = { λ a. record { snapshot = a.snapshot.now; starts = a.starts.items; room = min (vec_capacity a.starts) (vec_capacity a.places) } };
 
-    ghost invariant = { λ a. AreUsesOf a.snapshot.now a.starts.items a.places.items a.counts.items × (min (vec_capacity a.starts) (vec_capacity a.places) < 2 ^ 32) };
+    ghost invariant = { λ a. AreUsesOf a.snapshot.now a.starts.items a.places.items a.counts.items
+        × (min (vec_capacity a.starts) (vec_capacity a.places) < 2 ^ 32) };
 }
 
 impl<'a> Uses<'a> {

@@ -97,7 +97,8 @@ pub record IsFirstValue (s : Parts) (workers : ℕ) (made : ℕ → ℕ → Type
       → IsRoundPrices s j k c u → IsRepaired s c q → ¬ (value_of_plan s q ≡ value)
 
 -- the greatest of an opening value and the values of the rounds that were made, with the opening plan or, above its value, a round's
-pub record IsValueFound (s : Parts) (workers : ℕ) (made : ℕ → ℕ → Type 0) (opening : ℕ) (opening_plan : List Placement) (value : ℕ) (plan : List Placement) : Type 0 where
+pub record IsValueFound (s : Parts) (workers : ℕ) (made : ℕ → ℕ → Type 0) (opening : ℕ) (opening_plan : List Placement)
+    (value : ℕ) (plan : List Placement) : Type 0 where
   pub above_opening : opening ≤ value
   pub above : (j k : ℕ) (c : List ℤ) (u : List ℕ) (q : List Placement) → made j k → IsRoundPrices s j k c u → IsRepaired s c q → value_of_plan s q ≤ value
   pub reached : ((value ≡ opening) × (plan ≡ opening_plan)) ⊎ ((opening < value) × IsFirstValue s workers made value plan)

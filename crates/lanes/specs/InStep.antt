@@ -33,7 +33,8 @@ pub record IsFoundInStep (s : Parts) (settings : Settings) (opening : ℕ) (v : 
   pub stopped : y.stopped ≡ true → IsMetFor v × (settings.workers ≡ 1 → IsMetBy s made opening x.lane)
 
 -- these are the lanes in step, each with what it has found; f is what the lanes before them have, and the seat claimed both
-pub record IsInStep (s : Parts) (settings : Settings) (opening : ℕ) (v : SeatView) (f : FoundSeen) (lanes : List LanePrices) (founds : List LaneFound) : Type 0 where
+pub record IsInStep (s : Parts) (settings : Settings) (opening : ℕ) (v : SeatView) (f : FoundSeen) (lanes : List LanePrices)
+    (founds : List LaneFound) : Type 0 where
   pub before : List LaneRounds
   pub within : (j k : ℕ) → IsMade before j k → (j < settings.lanes) × (k < settings.rounds)
   pub claimed : (j k : ℕ) → IsMade before j k → Contains v.claims j

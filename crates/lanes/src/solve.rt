@@ -213,7 +213,8 @@ fn work_all<'a, const L: usize, R: Threads + Sync, G: Gate>(
 ) -> Vec<Worker<'a, L>>
     requires { All (IsReadyToWork L board.now) workers.items }
     ensures count { vec_len result ≡ vec_len workers.entry }
-    ensures each { (i : ℕ) (d : _) → i < vec_len workers.entry → HasDoneWork L board.now (slice_index_or workers.entry.items i d) (slice_index_or result.items i d) }
+    ensures each { (i : ℕ) (d : _) → i < vec_len workers.entry
+        → HasDoneWork L board.now (slice_index_or workers.entry.items i d) (slice_index_or result.items i d) }
 {
     run_all(rt, board, workers.as_mut_slice(), gate);
     workers

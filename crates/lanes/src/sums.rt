@@ -98,7 +98,8 @@ fn write_rebates(snapshot: &Snapshot, net: &Prices, rebates: &mut [i64])
     requires count { length net.now.0 ≡ length (listed snapshot.now) }
     requires range { All IsNetInRange net.now.0 }
     requires room { length rebates.old ≡ length snapshot.now.groups }
-    ensures rebates { (given : List ℤ) (quota_prices : List ℕ) → length given ≡ length (listed snapshot.now) → net.now.0 ≡ net_prices snapshot.now given quota_prices
+    ensures rebates { (given : List ℤ) (quota_prices : List ℕ) → length given ≡ length (listed snapshot.now)
+        → net.now.0 ≡ net_prices snapshot.now given quota_prices
         → AreParts (length snapshot.now.groups) (IsRebate snapshot.now (net_price snapshot.now given quota_prices)) rebates.new }
     ensures least { All (λ c. pos 0 ≤ℤ c) rebates.new }
 {

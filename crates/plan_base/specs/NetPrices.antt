@@ -1,5 +1,6 @@
 -- Net prices, the prices of a group's requests, and the numbers that are made of them.
-use Rattle.std.specs.Prelude.{◌≡◌, ℕ, ◌+◌, ◌≤◌, ◌<◌, Bool, ◌&&◌, int_lt, int_le, if◌then◌else◌, ◌⊎◌, ℤ, pos, neg_ℤ, ◌≤ℤ◌, List, length, map, take, drop, slice_index_or, All, Contains}
+use Rattle.std.specs.Prelude.{◌≡◌, ℕ, ◌+◌, ◌≤◌, ◌<◌, Bool, ◌&&◌, int_lt, int_le, if◌then◌else◌, ◌⊎◌, ℤ}
+use Rattle.std.specs.Prelude.{pos, neg_ℤ, ◌≤ℤ◌, List, length, map, take, drop, slice_index_or, All, Contains}
 use Rattle.std.specs.List.{list_all}
 use Rattle.plan_base.specs.declared.parts.Parts.{Parts}
 use Rattle.plan_base.specs.Limits.{most_net_price}

@@ -17,7 +17,8 @@ has_ranges q = nat_le 1 q.seconds && nat_le q.seconds most_seconds && (nat_le 1 
 
 -- the numbers of the horizon are in their ranges
 abbrev pub has_horizon : Parts → Bool
-has_horizon s = nat_le s.version 524288 && (nat_le 60 s.len && nat_le s.len 3600) && nat_le s.first.0 4223371680 && (nat_le 1 s.slices && nat_le s.slices most_slices)
+has_horizon s = nat_le s.version 524288 && (nat_le 60 s.len && nat_le s.len 3600)
+    && nat_le s.first.0 4223371680 && (nat_le 1 s.slices && nat_le s.slices most_slices)
 
 -- all spans have moments at their ends
 abbrev pub has_all_moments : Parts → Bool

@@ -85,7 +85,8 @@ moved_price step c uses taken = if nat_lt (cond taken 1 0) uses then c +ℤ pos 
 
 -- a quota price after a round: up where more is demanded than the quota, to at most 200,000, and down where less, to at least 0
 abbrev pub moved_quota_price : ℕ → ℕ → ℕ → ℕ → ℕ
-moved_quota_price step u demand most = if nat_lt most demand then min most_quota_price (u + quota_step step) else (if nat_lt demand most then u - quota_step step else u)
+moved_quota_price step u demand most =
+    if nat_lt most demand then min most_quota_price (u + quota_step step) else (if nat_lt demand most then u - quota_step step else u)
 
 -- all prices after a round with these starts
 abbrev pub next_prices : Parts → ℕ → List ℤ → (ℕ → ℤ) → List Placement → List ℤ

@@ -1,5 +1,6 @@
 -- Which parts are a snapshot, and the first fault of those that aren't.
-use Rattle.std.specs.Prelude.{◌≡◌, ℕ, ◌≤◌, ◌<◌, nat_le, nat_lt, Bool, true, not, ◌&&◌, ◌||◌, ◌==◌, if◌then◌else◌, List, [], ◌∷◌, ◌++◌, length, map, drop, Option, Some, None, All, AllPairs, sum_by, find, position}
+use Rattle.std.specs.Prelude.{◌≡◌, ℕ, ◌≤◌, ◌<◌, nat_le, nat_lt, Bool, true, not, ◌&&◌, ◌||◌, ◌==◌}
+use Rattle.std.specs.Prelude.{if◌then◌else◌, List, [], ◌∷◌, ◌++◌, length, map, drop, Option, Some, None, All, AllPairs, sum_by, find, position}
 use Rattle.std.specs.List.{flat_map, list_any, list_all, zip}
 use Rattle.std.specs.Option.{ForSome, option_map, option_or}
 use Rattle.plan_base.specs.declared.parts.Parts.{Parts}

@@ -19,7 +19,8 @@ use crate::snapshot::Snapshot;
 /// Weak duality: whatever the prices, no feasible plan is worth more than the bound that they give. The bound is that of
 /// a Lagrangian relaxation (Geoffrion 1974), with a multiplier for each request and for each quota.
 pub fn weak_duality(snapshot: &Snapshot, prices: &Prices, quota_prices: &QuotaPrices)
-    ensures { (plan : List Placement) (bound : ℤ) → IsFeasible snapshot.now plan → IsBound snapshot.now prices.now.0 quota_prices.now.0 bound → pos (value_of_plan snapshot.now plan) ≤ℤ bound }
+    ensures { (plan : List Placement) (bound : ℤ) → IsFeasible snapshot.now plan
+        → IsBound snapshot.now prices.now.0 quota_prices.now.0 bound → pos (value_of_plan snapshot.now plan) ≤ℤ bound }
 {
     snapshot.recall_valid();
 }

@@ -54,7 +54,8 @@ pub fn one_filled_plan(snapshot: &Snapshot)
 
 /// A lane's round has one list of prices, and one of quota prices.
 pub fn one_round(snapshot: &Snapshot)
-    ensures { (lane round : ℕ) (a : List ℤ) (u : List ℕ) (b : List ℤ) (v : List ℕ) → IsRoundPrices snapshot.now lane round a u → IsRoundPrices snapshot.now lane round b v → (a ≡ b) × (u ≡ v) }
+    ensures { (lane round : ℕ) (a : List ℤ) (u : List ℕ) (b : List ℤ) (v : List ℕ) → IsRoundPrices snapshot.now lane round a u
+        → IsRoundPrices snapshot.now lane round b v → (a ≡ b) × (u ≡ v) }
 {
     snapshot.recall_valid();
 }

@@ -1,6 +1,7 @@
 // What holds of reading and writing together, each law the contract of a function that does nothing.
 
-ghost use Rattle.plan_doc.specs.Laws.{ClaimsAreReadBack, ClaimsAreInRange, ClaimsAreDistinct, SnapshotsAreReadBack, SnapshotsAreInRange, SnapshotsAreDistinct, PublicationsAreReadBack, CertifiedClaimsAreInRange, ExportsAreCertified};
+ghost use Rattle.plan_doc.specs.Laws.{ClaimsAreReadBack, ClaimsAreInRange, ClaimsAreDistinct, SnapshotsAreReadBack};
+ghost use Rattle.plan_doc.specs.Laws.{SnapshotsAreInRange, SnapshotsAreDistinct, PublicationsAreReadBack, CertifiedClaimsAreInRange, ExportsAreCertified};
 
 /// A law: the document of each claim in the ranges is read as that claim.
 pub fn claims_are_read_back()

@@ -4,7 +4,9 @@ ghost use Rattle.std.specs.Prelude.{◌≡◌};
 ghost use Rattle.serde_json.specs.Data.{string};
 ghost use Rattle.plan_json.specs.Adds.{AddsNested};
 ghost use Rattle.plan_json.specs.Member.{name_of};
-ghost use Rattle.plan_doc.specs.Refusal.{number_of_json, number_of_parts, number_of_fault, name_of_json, name_of_parts, name_of_fault, name_of_counted, of_group, of_request, fields_of_json, fields_of_parts, fields_of_fault, fault_at, fault_data};
+ghost use Rattle.plan_doc.specs.Refusal.{number_of_json, number_of_parts, number_of_fault, name_of_json, name_of_parts};
+ghost use Rattle.plan_doc.specs.Refusal.{name_of_fault, name_of_counted, of_group, of_request};
+ghost use Rattle.plan_doc.specs.Refusal.{fields_of_json, fields_of_parts, fields_of_fault, fault_at, fault_data};
 
 use crate::fault::DocFault;
 use plan_base::{Counted, GroupNo, RequestNo, SnapshotFault};

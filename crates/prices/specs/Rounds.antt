@@ -26,4 +26,5 @@ step_size step = unsigned_abs (int_max step (pos 0))
 -- all prices after a round in which each request is used so often
 abbrev pub prices_after : Parts → ℤ → List ℤ → (ℕ → ℤ) → List ℕ → List ℤ
 prices_after s step prices c uses =
-    map (λ i. stepped_price step (slice_index_or prices i (pos 0)) (slice_index_or uses i 0) (is_taken s c (number_at s i))) (range_with_len 0 (length (listed s)))
+    map (λ i. stepped_price step (slice_index_or prices i (pos 0)) (slice_index_or uses i 0) (is_taken s c (number_at s i)))
+    (range_with_len 0 (length (listed s)))

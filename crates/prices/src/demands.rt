@@ -30,7 +30,8 @@ fn add_request(snapshot: &Snapshot, place: usize, demands: &mut [u64])
     requires room { length snapshot.now.quotas ≤ length demands.old }
     requires small { (q : ℕ) → slice_index_or demands.old q 0 + most_seconds < 2 ^ 64 }
     ensures count { length demands.new ≡ length demands.old }
-    ensures added { (q : ℕ) → slice_index_or demands.new q 0 ≡ slice_index_or demands.old q 0 + slice_index_or (map (λ x. towards x.quota x.request.seconds q) (listed snapshot.now)) place 0 }
+    ensures added { (q : ℕ) → slice_index_or demands.new q 0 ≡ slice_index_or demands.old q 0
+        + slice_index_or (map (λ x. towards x.quota x.request.seconds q) (listed snapshot.now)) place 0 }
     ensures few { (q : ℕ) → slice_index_or demands.new q 0 ≤ slice_index_or demands.old q 0 + most_seconds }
 {
     let seconds = snapshot.request_at(place).seconds;

@@ -38,7 +38,8 @@ pub fn advance(
     ensures after { prices.new.0 ≡ prices_after snapshot.now step prices.old.0 (net_price snapshot.now prices.old.0 quota_prices.old.0) uses.now }
     ensures next { (starts : List Placement) → pos 0 ≤ℤ step → AreUses snapshot.now starts uses.now
         → prices.new.0 ≡ next_prices snapshot.now (step_size step) prices.old.0 (net_price snapshot.now prices.old.0 quota_prices.old.0) starts }
-    ensures quotas { quota_prices.new.0 ≡ next_quota_prices snapshot.now (step_size step) quota_prices.old.0 (net_price snapshot.now prices.old.0 quota_prices.old.0) }
+    ensures quotas { quota_prices.new.0
+        ≡ next_quota_prices snapshot.now (step_size step) quota_prices.old.0 (net_price snapshot.now prices.old.0 quota_prices.old.0) }
 {
     let taken = taken_flags(snapshot, net.0.as_slice());
     move_prices(&mut prices.0, uses, &taken, step);

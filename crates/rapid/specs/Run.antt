@@ -63,4 +63,5 @@ pub record IsNoDocument (bytes text : List ℕ) : Type 0 where
 
 -- what is written of these bytes, and what that says
 abbrev pub IsRapidAnswer : List ℕ → List ℕ → Said → Type 0
-IsRapidAnswer bytes text what = ((d : RapidDocument) × (rapid_document_of_bytes bytes ≡ Ok d) × IsAnswerTo d text what) ⊎ (IsNoDocument bytes text × (what ≡ said.NoDocument))
+IsRapidAnswer bytes text what = ((d : RapidDocument) × (rapid_document_of_bytes bytes ≡ Ok d) × IsAnswerTo d text what)
+    ⊎ (IsNoDocument bytes text × (what ≡ said.NoDocument))

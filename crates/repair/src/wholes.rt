@@ -38,7 +38,8 @@ fn add_whole(draft: &mut Draft<'_>, group: usize, trial: &Trial, firsts: &[Optio
     requires own { AreOwn draft.old.snapshot firsts.now }
     ensures same { draft.new.snapshot ≡ draft.old.snapshot }
     ensures feasible { IsFeasible draft.old.snapshot draft.new.placed }
-    ensures adds { (starts : List Placement) → AreFirsts draft.old.snapshot starts firsts.now → AddsWhole draft.old.snapshot starts draft.old.placed group draft.new.placed }
+    ensures adds { (starts : List Placement) → AreFirsts draft.old.snapshot starts firsts.now
+        → AddsWhole draft.old.snapshot starts draft.old.placed group draft.new.placed }
 {
     draft.recall();
     match trial.op {
@@ -53,7 +54,8 @@ fn add_all(draft: &mut Draft<'_>, entries: &[Entry], firsts: &[Option<Placement>
     requires own { AreOwn draft.old.snapshot firsts.now }
     ensures same { draft.new.snapshot ≡ draft.old.snapshot }
     ensures placed { PlacesAllOrNone draft.old.snapshot draft.old.placed (numbers_of entries.now) draft.new.placed }
-    ensures adds { (starts : List Placement) → AreFirsts draft.old.snapshot starts firsts.now → AddsAllOrNone draft.old.snapshot starts draft.old.placed (numbers_of entries.now) draft.new.placed }
+    ensures adds { (starts : List Placement) → AreFirsts draft.old.snapshot starts firsts.now
+        → AddsAllOrNone draft.old.snapshot starts draft.old.placed (numbers_of entries.now) draft.new.placed }
 {
     let count = draft.placed().len();
     for entry in entries {

@@ -95,7 +95,8 @@ fn slices_under(
     slices: &Spans,
 ) -> Result<Spans, AllocError>
     requires { IsOrderly parts.now }
-    ensures { IfOk result (AreSlices (λ k. IsTrue (has slices.now k) × IsVisibleThrough parts.now target.0 site.0 (k * parts.now.len) (k * parts.now.len + seconds))) }
+    ensures { IfOk result (AreSlices (λ k. IsTrue (has slices.now k)
+        × IsVisibleThrough parts.now target.0 site.0 (k * parts.now.len) (k * parts.now.len + seconds))) }
 {
     match sky_of(parts.skies.as_slice(), target, site) {
         Some(sky) => {
@@ -117,7 +118,8 @@ fn slices_under_all(
 ) -> Result<Spans, AllocError>
     requires orderly { IsOrderly parts.now }
     requires sorted { IsSortedApart slices }
-    ensures { IfOk result (AreSlices (λ k. IsTrue (has slices k) × All (λ target. IsVisibleThrough parts.now target.0 site.0 (k * parts.now.len) (k * parts.now.len + seconds)) targets.now)) }
+    ensures { IfOk result (AreSlices (λ k. IsTrue (has slices k)
+        × All (λ target. IsVisibleThrough parts.now target.0 site.0 (k * parts.now.len) (k * parts.now.len + seconds)) targets.now)) }
 {
     let mut left = slices;
     for target in targets {
@@ -155,7 +157,8 @@ fn open_slices(
 ) -> Result<Spans, AllocError>
     requires orderly { IsOrderly parts.now }
     requires seconds { request.now.seconds ≤ most_seconds }
-    ensures { IfOk result (AreSlices (λ k. IsTimely parts.now request.now k × IsOpen parts.now part.now request.now.targets (k * parts.now.len) (k * parts.now.len + request.now.seconds))) }
+    ensures { IfOk result (AreSlices (λ k. IsTimely parts.now request.now k
+        × IsOpen parts.now part.now request.now.targets (k * parts.now.len) (k * parts.now.len + request.now.seconds))) }
 {
     let timely = timely_slices(alloc, parts, request)?;
     let spans = part.usable.as_slice();

@@ -2,7 +2,8 @@
 
 ghost use Rattle.std.specs.Prelude.{◌≡◌, option_map};
 ghost use Rattle.plan_json.specs.Values.{whole, list_of};
-ghost use Rattle.plan_doc.specs.Written.{placement_data, unless_empty, numbers_given, telescope_data, sky_data, telescope_number_data, target_number_data, fade_above_0, request_data, group_data};
+ghost use Rattle.plan_doc.specs.Written.{placement_data, unless_empty, numbers_given, telescope_data};
+ghost use Rattle.plan_doc.specs.Written.{sky_data, telescope_number_data, target_number_data, fade_above_0, request_data, group_data};
 
 use plan_base::{
     GroupPart, ListOf, Placement, RequestPart, Sky, TargetNo, TelescopeNo, TelescopePart,
