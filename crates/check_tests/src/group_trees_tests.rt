@@ -1,16 +1,13 @@
 // Trees over three requests on one telescope, with what they give, worked out by hand. What is made is boxed or lent, so
 // that no proof looks into it.
 
-ghost use Rattle.std.specs.Prelude.{◌≡◌, ◌↔◌, IsTrue, true, All};
-ghost use Rattle.plan_base.specs.Verdict.{IsPriceInRange};
-
 use group_trees::{
     Forest, ForestFault, ForestReason, ForestVerdict, Tree, check_forest, tree_rebate,
 };
 use plan_base::{
     Claim, ListOf, Op, Placement, Prices, QuotaPrices, RequestNo, SliceNo, Snapshot, TelescopeNo,
 };
-use sample_snapshots::{ONE, Sample};
+use sample_snapshots::{ONE, Sample, are_in_range};
 use std::alloc::{AllocError, Global};
 use std::test::Fail;
 
@@ -55,12 +52,6 @@ fn prices(alloc: Global, given: &[i64]) -> Result<Prices, AllocError> {
         prices.push(*price)?;
     }
     Ok(Prices(prices))
-}
-
-fn are_in_range(prices: &[i64]) -> bool
-    ensures { IsTrue result ↔ All IsPriceInRange prices.now }
-{
-    prices.iter().all(|price| *price >= -1_000_000_000_000 && *price <= 1_000_000_000_000)
 }
 
 /// What the first tree gives, where the prices are as they should be.

@@ -1,7 +1,5 @@
 // Possible starts of small desks, worked out by hand, and of drawn ones, found second by second.
 
-mod desk;
 mod drawn;
 mod random;
 mod rows;
-mod seconds;

@@ -1,102 +1,102 @@
-// The parts of a sample.
+// The parts that snapshots are made of. What is made is boxed, so that no proof looks into it.
 
-use crate::sample::{Sample, VALUE};
+use crate::desk::{Dish, View, Wish};
+use crate::fault::SampleFault;
 use plan_base::{
-    GroupNo, GroupPart, ListOf, Parts, RequestNo, RequestPart, Sec, SiteNo, SliceNo, Span,
-    TelescopeNo, TelescopePart,
+    GroupNo, GroupPart, ListOf, Op, Parts, RequestNo, RequestPart, Sec, SiteNo, Sky, Snapshot,
+    Span, TargetNo, TelescopePart,
 };
 use std::alloc::{AllocError, Global};
 
-pub(crate) fn parts_of(alloc: Global, sample: &Sample) -> Result<Box<Parts>, AllocError> {
-    Ok(Box::new(
-        alloc,
-        Parts {
-            version: 0,
-            len: 300,
-            first: SliceNo(0),
-            slices: 12,
-            telescopes: Box::into_inner(telescopes_of(alloc, sample)?),
-            skies: ListOf::new(alloc),
-            groups: Box::into_inner(groups_of(alloc, sample)?),
-            quotas: quotas_of(alloc, sample)?,
-        },
-    )?)
+/// The snapshot of these parts, where each of their numbers is in its range.
+pub(crate) fn snapshot_of(alloc: Global, parts: Box<Parts>) -> Result<Box<Snapshot>, SampleFault> {
+    if !parts.is_in_ranges() {
+        return Err(SampleFault::OutOfRange);
+    }
+    let snapshot = Snapshot::build(alloc, Box::into_inner(parts)).map_err(SampleFault::NoSnapshot)?;
+    Ok(Box::new(alloc, snapshot).map_err(AllocError::from)?)
 }
 
-fn telescopes_of(alloc: Global, sample: &Sample) -> Result<Box<ListOf<TelescopePart>>, AllocError> {
+fn spans_of(alloc: Global, ends: &[(u64, u64)]) -> Result<Box<ListOf<Span>>, AllocError> {
+    let mut spans = ListOf::new(alloc);
+    for (from, to) in ends {
+        spans.push(Span {
+            from: Sec(*from),
+            to: Sec(*to),
+        })?;
+    }
+    Ok(Box::new(alloc, spans)?)
+}
+
+pub(crate) fn telescopes_of(
+    alloc: Global,
+    dishes: &[Dish],
+) -> Result<Box<ListOf<TelescopePart>>, AllocError> {
     let mut telescopes = ListOf::new(alloc);
-    for _ in 0..sample.telescopes {
+    for dish in dishes {
         telescopes.push(TelescopePart {
-            site: SiteNo(0),
-            usable: span(alloc, sample.usable)?,
+            site: SiteNo(dish.site),
+            usable: Box::into_inner(spans_of(alloc, dish.usable)?),
         })?;
     }
     Ok(Box::new(alloc, telescopes)?)
 }
 
-fn span(alloc: Global, ends: (u64, u64)) -> Result<ListOf<Span>, AllocError> {
-    let mut spans = ListOf::new(alloc);
-    spans.push(Span {
-        from: Sec(ends.0),
-        to: Sec(ends.1),
-    })?;
-    Ok(spans)
-}
-
-fn quotas_of(alloc: Global, sample: &Sample) -> Result<ListOf<u64>, AllocError> {
-    let mut quotas = ListOf::new(alloc);
-    if let Some(quota) = sample.quota {
-        quotas.push(quota)?;
+pub(crate) fn skies_of(alloc: Global, views: &[View]) -> Result<Box<ListOf<Sky>>, AllocError> {
+    let mut skies = ListOf::new(alloc);
+    for view in views {
+        skies.push(Sky {
+            target: TargetNo(view.target),
+            site: SiteNo(view.site),
+            spans: Box::into_inner(spans_of(alloc, view.spans)?),
+        })?;
     }
-    Ok(quotas)
+    Ok(Box::new(alloc, skies)?)
 }
 
-fn groups_of(alloc: Global, sample: &Sample) -> Result<Box<ListOf<GroupPart>>, AllocError> {
+/// A group of its own for each wish, numbered from 1 on, with the request of the same number.
+pub(crate) fn groups_of(
+    alloc: Global,
+    wishes: &[Wish],
+) -> Result<Box<ListOf<GroupPart>>, AllocError> {
     let mut groups = ListOf::new(alloc);
     let mut number = 0u32;
-    let mut request = 0u32;
-    for (op, count) in sample.groups {
+    for wish in wishes {
         number = number.saturating_add(1);
-        groups.push(GroupPart {
-            group: GroupNo(number),
-            op: *op,
-            requests: Box::into_inner(requests_of(alloc, sample, &mut request, *count)?),
-            quota: sample.quota.map(|_| 0),
-        })?;
+        groups.push(Box::into_inner(single_of(alloc, number, wish)?))?;
     }
     Ok(Box::new(alloc, groups)?)
 }
 
-/// So many requests, with the numbers after the last one.
-fn requests_of(
-    alloc: Global,
-    sample: &Sample,
-    last: &mut u32,
-    count: usize,
-) -> Result<Box<ListOf<RequestPart>>, AllocError> {
+fn single_of(alloc: Global, number: u32, wish: &Wish) -> Result<Box<GroupPart>, AllocError> {
     let mut requests = ListOf::new(alloc);
-    for _ in 0..count {
-        *last = last.saturating_add(1);
-        requests.push(Box::into_inner(request(alloc, sample, *last)?))?;
-    }
-    Ok(Box::new(alloc, requests)?)
+    requests.push(Box::into_inner(request_of(alloc, number, wish)?))?;
+    Ok(Box::new(
+        alloc,
+        GroupPart {
+            group: GroupNo(number),
+            op: Op::Single,
+            requests,
+            quota: None,
+        },
+    )?)
 }
 
-fn request(alloc: Global, sample: &Sample, number: u32) -> Result<Box<RequestPart>, AllocError> {
-    let mut telescopes = ListOf::new(alloc);
-    for telescope in 0..sample.telescopes {
-        telescopes.push(TelescopeNo(telescope))?;
-    }
+pub(crate) fn request_of(
+    alloc: Global,
+    number: u32,
+    wish: &Wish,
+) -> Result<Box<RequestPart>, AllocError> {
     Ok(Box::new(
         alloc,
         RequestPart {
             request: RequestNo(number),
-            seconds: 300,
-            value: VALUE,
-            windows: span(alloc, sample.window)?,
-            telescopes,
-            targets: ListOf::new(alloc),
-            fade: sample.fade,
+            seconds: wish.seconds,
+            value: wish.value,
+            windows: Box::into_inner(spans_of(alloc, wish.windows)?),
+            telescopes: ListOf::from_vec(Vec::from_slice(alloc, wish.telescopes)?),
+            targets: ListOf::from_vec(Vec::from_slice(alloc, wish.targets)?),
+            fade: wish.fade,
         },
     )?)
 }

@@ -1,8 +1,12 @@
 // What a sample has, and its snapshot.
 
+use crate::desk::{Dish, Wish};
 use crate::fault::SampleFault;
-use crate::make::parts_of;
-use plan_base::{Op, Snapshot};
+use crate::make::{request_of, snapshot_of, telescopes_of};
+use plan_base::{
+    GroupNo, GroupPart, ListOf, Op, Parts, RequestPart, SliceNo, Snapshot, TelescopeNo,
+    TelescopePart, repeated,
+};
 use std::alloc::{AllocError, Global};
 
 /// The value of each request, in thousandths.
@@ -49,13 +53,90 @@ impl<'a> Sample<'a> {
     /// The snapshot that has this, boxed, so that no proof looks into it. The error is a number out of its range, what
     /// [`Snapshot::build`] finds, or want of memory.
     pub fn snapshot(&self, alloc: Global) -> Result<Box<Snapshot>, SampleFault> {
-        let parts = parts_of(alloc, self)?;
-        if !parts.is_in_ranges() {
-            return Err(SampleFault::OutOfRange);
-        }
-        let snapshot = Snapshot::build(alloc, Box::into_inner(parts)).map_err(
-            SampleFault::NoSnapshot,
-        )?;
-        Ok(Box::new(alloc, snapshot).map_err(AllocError::from)?)
+        snapshot_of(alloc, parts_of(alloc, self)?)
     }
+}
+
+fn parts_of(alloc: Global, sample: &Sample) -> Result<Box<Parts>, AllocError> {
+    Ok(Box::new(
+        alloc,
+        Parts {
+            version: 0,
+            len: 300,
+            first: SliceNo(0),
+            slices: 12,
+            telescopes: Box::into_inner(dishes_of(alloc, sample)?),
+            skies: ListOf::new(alloc),
+            groups: Box::into_inner(groups_of(alloc, sample)?),
+            quotas: quotas_of(alloc, sample)?,
+        },
+    )?)
+}
+
+fn dishes_of(alloc: Global, sample: &Sample) -> Result<Box<ListOf<TelescopePart>>, AllocError> {
+    let usable = [sample.usable];
+    let dish = Dish {
+        site: 0,
+        usable: &usable,
+    };
+    let dishes = repeated(alloc, dish, usize::from(sample.telescopes))?;
+    telescopes_of(alloc, dishes.as_slice())
+}
+
+fn quotas_of(alloc: Global, sample: &Sample) -> Result<ListOf<u64>, AllocError> {
+    let mut quotas = ListOf::new(alloc);
+    if let Some(quota) = sample.quota {
+        quotas.push(quota)?;
+    }
+    Ok(quotas)
+}
+
+fn groups_of(alloc: Global, sample: &Sample) -> Result<Box<ListOf<GroupPart>>, AllocError> {
+    let telescopes = numbers_of(alloc, sample.telescopes)?;
+    let windows = [sample.window];
+    let wish = Wish {
+        seconds: 300,
+        value: VALUE,
+        fade: sample.fade,
+        windows: &windows,
+        telescopes: telescopes.as_slice(),
+        targets: &[],
+    };
+    let mut groups = ListOf::new(alloc);
+    let mut number = 0u32;
+    let mut request = 0u32;
+    for (op, count) in sample.groups {
+        number = number.saturating_add(1);
+        groups.push(GroupPart {
+            group: GroupNo(number),
+            op: *op,
+            requests: Box::into_inner(requests_of(alloc, &wish, &mut request, *count)?),
+            quota: sample.quota.map(|_| 0),
+        })?;
+    }
+    Ok(Box::new(alloc, groups)?)
+}
+
+/// The numbers of so many telescopes.
+fn numbers_of(alloc: Global, count: u16) -> Result<Vec<TelescopeNo>, AllocError> {
+    let mut numbers = Vec::new(alloc);
+    for number in 0..count {
+        numbers.push(TelescopeNo(number)).map_err(AllocError::from)?;
+    }
+    Ok(numbers)
+}
+
+/// So many requests, with the numbers after the last one.
+fn requests_of(
+    alloc: Global,
+    wish: &Wish,
+    last: &mut u32,
+    count: usize,
+) -> Result<Box<ListOf<RequestPart>>, AllocError> {
+    let mut requests = ListOf::new(alloc);
+    for _ in 0..count {
+        *last = last.saturating_add(1);
+        requests.push(Box::into_inner(request_of(alloc, *last, wish)?))?;
+    }
+    Ok(Box::new(alloc, requests)?)
 }

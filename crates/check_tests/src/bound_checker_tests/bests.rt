@@ -1,15 +1,17 @@
 // The bests of small snapshots, worked out by hand.
 
-use super::{ALL_DAY, SHORT, Wish, best, parts, snapshot};
+use super::{ALL_DAY, SHORT, best, snapshot};
+use plan_base::TargetNo;
+use sample_snapshots::Wish;
 use std::alloc::Global;
 use std::process::Abort;
 use std::test::Fail;
 
 /// A request alone on telescope 0, and the best there at a price.
 #[derive(Clone, Copy)]
-struct Case {
-    usable: [(u64, u64); 2],
-    wish: Wish,
+struct Case<'a> {
+    usable: &'a [(u64, u64)],
+    wish: Wish<'a>,
     price: i64,
     best: i64,
 }
@@ -24,8 +26,7 @@ const FREE: Case = Case {
 /// Asserts the best of each case.
 fn assert_bests(rt: &impl Abort, alloc: Global, cases: &[Case]) -> Result<(), Fail> {
     for case in cases {
-        let parts = parts(alloc, case.usable.as_slice(), [case.wish].as_slice())?;
-        let snapshot = snapshot(alloc, parts)?;
+        let snapshot = snapshot(alloc, case.usable, &[case.wish])?;
         assert_eq!(rt; best(alloc, &snapshot, [case.price].as_slice())?, case.best);
     }
     Ok(())
@@ -63,19 +64,19 @@ fn each_slice_gives_the_value_less_the_price(rt: HostRuntime) -> Result<(), Fail
 #[test]
 fn a_start_lies_inside_one_window(rt: HostRuntime) -> Result<(), Fail> {
     let touching = Wish {
-        windows: [(450, 900), (0, 450)],
+        windows: &[(450, 900), (0, 450)],
         ..SHORT
     };
     let overlapping = Wish {
-        windows: [(300, 900), (0, 600)],
+        windows: &[(300, 900), (0, 600)],
         ..SHORT
     };
     let short = Wish {
-        windows: [(0, 299), (301, 900)],
+        windows: &[(0, 299), (301, 900)],
         ..SHORT
     };
     let none = Wish {
-        windows: [(0, 0), (0, 0)],
+        windows: &[],
         ..SHORT
     };
     let cases = [
@@ -107,22 +108,22 @@ fn a_start_lies_inside_one_window(rt: HostRuntime) -> Result<(), Fail> {
 fn each_second_of_a_start_is_usable(rt: HostRuntime) -> Result<(), Fail> {
     let cases = [
         Case {
-            usable: [(0, 1_199), (0, 0)],
+            usable: &[(0, 1_199)],
             best: 150_000,
             ..FREE
         },
         Case {
-            usable: [(1, 1_200), (0, 0)],
+            usable: &[(1, 1_200)],
             best: 150_000,
             ..FREE
         },
         Case {
-            usable: [(0, 450), (451, 900)],
+            usable: &[(0, 450), (451, 900)],
             best: 100_000,
             ..FREE
         },
         Case {
-            usable: [(0, 0), (0, 0)],
+            usable: &[],
             best: 0,
             ..FREE
         },
@@ -133,15 +134,15 @@ fn each_second_of_a_start_is_usable(rt: HostRuntime) -> Result<(), Fail> {
 #[test]
 fn a_start_lies_in_the_sky_of_its_target(rt: HostRuntime) -> Result<(), Fail> {
     let first = Wish {
-        target: Some(1),
+        targets: &[TargetNo(1)],
         ..SHORT
     };
     let second = Wish {
-        target: Some(2),
+        targets: &[TargetNo(2)],
         ..SHORT
     };
     let unseen = Wish {
-        target: Some(3),
+        targets: &[TargetNo(3)],
         ..SHORT
     };
     let cases = [
@@ -173,7 +174,7 @@ fn a_start_takes_its_slices_and_fades(rt: HostRuntime) -> Result<(), Fail> {
     let fading = Wish { fade: 100, ..SHORT };
     let late = Wish {
         fade: 100,
-        windows: [(900, 3_600), (600, 900)],
+        windows: &[(900, 3_600), (600, 900)],
         ..SHORT
     };
     let cases = [
@@ -189,7 +190,7 @@ fn a_start_takes_its_slices_and_fades(rt: HostRuntime) -> Result<(), Fail> {
         },
         Case {
             wish: fading,
-            usable: [(900, 3_600), (0, 0)],
+            usable: &[(900, 3_600)],
             price: 30_833,
             best: 4_167,
         },

@@ -1,13 +1,9 @@
 // The rebates and bounds of small snapshots, worked out by hand.
 
-ghost use Rattle.std.specs.Prelude.{◌≡◌, ◌↔◌, ◌≤◌, IsTrue, true, All};
-
-use super::{ALL_DAY, SHORT, are_in_range, only, parts, request, snapshot, spans};
+use super::only;
 use bound_checker::{bound_of, rebate_of};
-use plan_base::{
-    GroupNo, GroupPart, ListOf, Op, Parts, Prices, QuotaPrices, SiteNo, SliceNo, Snapshot,
-    TelescopePart,
-};
+use plan_base::{ListOf, Op, Prices, QuotaPrices, Snapshot};
+use sample_snapshots::{ONE, Sample, are_in_range, are_quota_prices_in_range};
 use std::alloc::{AllocError, Global};
 use std::process::Abort;
 use std::test::Fail;
@@ -23,72 +19,11 @@ struct Pair {
     bound: u64,
 }
 
-fn quotas(alloc: Global, quota: Option<u64>) -> Result<ListOf<u64>, AllocError> {
-    match quota {
-        Some(quota) => only(alloc, quota),
-        None => Ok(ListOf::new(alloc)),
-    }
-}
-
 fn quota_prices(alloc: Global, price: Option<u32>) -> Result<QuotaPrices, AllocError> {
     match price {
         Some(price) => Ok(QuotaPrices(only(alloc, price)?)),
         None => Ok(QuotaPrices(ListOf::new(alloc))),
     }
-}
-
-/// The one group of a pair.
-fn pair_group(alloc: Global, pair: &Pair) -> Result<Box<GroupPart>, AllocError> {
-    let mut requests = ListOf::new(alloc);
-    requests.push(Box::into_inner(request(alloc, 1, &SHORT)?))?;
-    requests.push(Box::into_inner(request(alloc, 2, &SHORT)?))?;
-    Ok(Box::new(
-        alloc,
-        GroupPart {
-            group: GroupNo(1),
-            op: pair.op,
-            requests,
-            quota: pair.quota.map(|_| 0),
-        },
-    )?)
-}
-
-fn pair_parts(alloc: Global, pair: &Pair) -> Result<Box<Parts>, AllocError> {
-    let telescope = TelescopePart {
-        site: SiteNo(0),
-        usable: spans(alloc, ALL_DAY.as_slice())?,
-    };
-    Ok(Box::new(
-        alloc,
-        Parts {
-            version: 0,
-            len: 300,
-            first: SliceNo(0),
-            slices: 12,
-            telescopes: only(alloc, telescope)?,
-            skies: ListOf::new(alloc),
-            groups: only(alloc, Box::into_inner(pair_group(alloc, pair)?))?,
-            quotas: quotas(alloc, pair.quota)?,
-        },
-    )?)
-}
-
-fn is_small(price: u32) -> bool
-    ensures { IsTrue result ↔ (price ≤ 200000) }
-{
-    price <= 200_000
-}
-
-/// Whether all quota prices are in their range.
-fn are_small(prices: &[u32]) -> bool
-    ensures { result ≡ true → All (λ u. u ≤ 200000) prices.now }
-{
-    for price in prices {
-        if !is_small(*price) {
-            return false;
-        }
-    }
-    true
 }
 
 /// The rebate of the first group and the bound.
@@ -101,7 +36,7 @@ fn rebate_and_bound(
     if snapshot.parts().groups.is_empty()
         || prices.0.len() != snapshot.request_count()
         || !are_in_range(prices.0.as_slice())
-        || !are_small(quota_prices.0.as_slice())
+        || !are_quota_prices_in_range(quota_prices.0.as_slice())
     {
         return Err(Fail::new("the prices don't fit"));
     }
@@ -112,7 +47,12 @@ fn rebate_and_bound(
 /// Asserts the rebate and the bound of each pair.
 fn assert_pairs(rt: &impl Abort, alloc: Global, pairs: &[Pair]) -> Result<(), Fail> {
     for pair in pairs {
-        let snapshot = snapshot(alloc, pair_parts(alloc, pair)?)?;
+        let sample = Sample {
+            groups: &[(pair.op, 2)],
+            quota: pair.quota,
+            ..ONE
+        };
+        let snapshot = sample.snapshot(alloc)?;
         let prices = Prices(ListOf::from_vec(Vec::from_slice(alloc, pair.prices.as_slice())?));
         let quota_prices = quota_prices(alloc, pair.quota_price)?;
         let (rebate, bound) = rebate_and_bound(alloc, &snapshot, &prices, &quota_prices)?;
@@ -214,8 +154,7 @@ fn a_quota_costs_its_price(rt: HostRuntime) -> Result<(), Fail> {
 
 /// Asserts the rebate and the bound of one request at half its value.
 fn assert_single(rt: &impl Abort, alloc: Global) -> Result<(), Fail> {
-    let parts = parts(alloc, ALL_DAY.as_slice(), [SHORT].as_slice())?;
-    let snapshot = snapshot(alloc, parts)?;
+    let snapshot = ONE.snapshot(alloc)?;
     let prices = Prices(only(alloc, 25_000)?);
     let quota_prices = quota_prices(alloc, None)?;
     let (rebate, bound) = rebate_and_bound(alloc, &snapshot, &prices, &quota_prices)?;

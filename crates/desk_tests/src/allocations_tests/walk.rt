@@ -1,10 +1,13 @@
 // A random walk over the calls, beside the plain program.
 
+ghost use Rattle.std.specs.Prelude.{◌<◌};
+
 use super::accounts::{Ask, SPOTS, Wish, holds_of, key_at, keys, one_wish};
 use super::desk::{Asked, Desk};
 use super::plain::Plain;
 use allocations::{Account, Key, LedgerFault};
 use plan_base::{GroupNo, RequestNo};
+use sample_snapshots::Random;
 use std::alloc::Global;
 use std::process::Abort;
 use std::test::Fail;
@@ -15,35 +18,13 @@ const STEPS: u32 = 11_600;
 /// How many steps make a call at least.
 const LEAST_CALLS: u32 = 10_000;
 
-/// Numbers that look random, each from the one before.
-#[derive(Drop)]
-struct Draws {
-    seed: u64,
-}
-
-impl Draws {
-    /// A number below `count`, 0 where that is 0.
-    fn below(&mut self, count: usize) -> usize {
-        self.seed = self
-            .seed
-            .wrapping_mul(6_364_136_223_846_793_005)
-            .wrapping_add(1_442_695_040_888_963_407);
-        let drawn = (self.seed >> 33) as usize;
-        drawn.checked_rem(count).unwrap_or(0)
-    }
-
-    fn seconds(&mut self, most: usize) -> u64 {
-        self.below(most) as u64
-    }
-}
-
 /// The ledger and the plain program, with the keys of the accounts, and how many steps made no call.
 #[derive(Drop)]
 struct Walk {
     desk: Desk,
     plain: Plain,
     keys: Vec<Key>,
-    draws: Draws,
+    random: Random,
     skipped: u32,
 }
 
@@ -87,28 +68,42 @@ fn check_all(rt: &impl Abort, walk: &Walk) {
     check_account(rt, walk, accounts, None);
 }
 
-/// An account that may be held.
-fn draw_held(draws: &mut Draws) -> usize {
-    let spot = draws.below(SPOTS.len());
+/// The place of an account.
+fn draw_spot(random: &mut Random) -> usize {
+    random.below(SPOTS.len() as u32) as usize
+}
+
+/// The place of an account that may be held.
+fn draw_held(random: &mut Random) -> usize {
+    let spot = draw_spot(random);
     match SPOTS.get(spot) {
         Some(drawn) if drawn.1 == Account::Ipp => spot.saturating_sub(1),
         _ => spot,
     }
 }
 
-/// A group that was made before.
-fn draw_group(draws: &mut Draws, calls: u32) -> u32 {
-    u32::try_from(draws.below(calls as usize)).unwrap_or(0)
+/// A number of seconds below `bound`.
+fn draw_seconds(random: &mut Random, bound: u32) -> u64
+    requires { 0 < bound }
+{
+    u64::from(random.below(bound))
+}
+
+/// A group that was made before, or 0.
+fn draw_group(random: &mut Random, calls: u32) -> u32 {
+    random.below(calls.max(1))
 }
 
 /// Seconds of one account, or of two where the next ones drawn are of the same proposal.
-fn draw_wish(draws: &mut Draws) -> Wish {
-    let first = draw_held(draws);
-    let second = first.saturating_add(draws.below(2).saturating_add(1));
+fn draw_wish(random: &mut Random) -> Wish {
+    let first = draw_held(random);
+    let second = first
+        .saturating_add(random.below(2) as usize)
+        .saturating_add(1);
     let proposal = SPOTS.get(first).map_or("", |spot| spot.0);
-    let seconds = draws.seconds(600);
-    let more = draws.seconds(600);
-    let ipp = draws.seconds(150).saturating_sub(50);
+    let seconds = draw_seconds(random, 600);
+    let more = draw_seconds(random, 600);
+    let ipp = draw_seconds(random, 150).saturating_sub(50);
     let other = match SPOTS.get(second) {
         Some(spot) if spot.0 == proposal && spot.1 != Account::Ipp => Some(Ask {
             spot: second,
@@ -159,7 +154,7 @@ fn check_answer(
 }
 
 fn hold_step(rt: &impl Abort, alloc: Global, walk: &mut Walk, old: u32) -> Result<(), Fail> {
-    let wish = draw_wish(&mut walk.draws);
+    let wish = draw_wish(&mut walk.random);
     let holds = holds_of(rt, alloc, walk.keys.as_slice(), &wish)?;
     let expected = walk.plain.refusal(old, &wish);
     let group = walk.desk.next();
@@ -175,10 +170,10 @@ fn hold_step(rt: &impl Abort, alloc: Global, walk: &mut Walk, old: u32) -> Resul
 }
 
 fn grant_step(rt: &impl Abort, walk: &mut Walk) -> Result<(), Fail> {
-    let known = (walk.desk.next() / 900) as usize;
-    let drawn = walk.draws.below(known.saturating_add(1));
-    let spot = drawn.saturating_mul(7) % SPOTS.len();
-    let seconds = walk.draws.seconds(2_000);
+    let known = walk.desk.next() / 900;
+    let drawn = walk.random.below(known.saturating_add(1));
+    let spot = drawn.saturating_mul(7) as usize % SPOTS.len();
+    let seconds = draw_seconds(&mut walk.random, 2_000);
     walk.plain.grant(Ask { spot, seconds })?;
     let balance = walk
         .desk
@@ -189,8 +184,8 @@ fn grant_step(rt: &impl Abort, walk: &mut Walk) -> Result<(), Fail> {
 
 /// Charges an account, where the plain program has the seconds.
 fn charge_step(rt: &impl Abort, walk: &mut Walk) -> Result<(), Fail> {
-    let spot = walk.draws.below(SPOTS.len());
-    let seconds = walk.draws.seconds(300);
+    let spot = draw_spot(&mut walk.random);
+    let seconds = draw_seconds(&mut walk.random, 300);
     if !walk.plain.is_granted(spot) || seconds > walk.plain.available(spot, 0) {
         walk.skipped = walk.skipped.saturating_add(1);
         return Ok(());
@@ -207,16 +202,16 @@ fn charge_step(rt: &impl Abort, walk: &mut Walk) -> Result<(), Fail> {
 }
 
 fn end_step(walk: &mut Walk) {
-    let group = draw_group(&mut walk.draws, walk.desk.next());
+    let group = draw_group(&mut walk.random, walk.desk.next());
     walk.plain.end(group);
     walk.desk.end(GroupNo(group));
 }
 
 /// Seconds of one account, then fewer.
 fn lower_step(rt: &impl Abort, alloc: Global, walk: &mut Walk) -> Result<(), Fail> {
-    let spot = draw_held(&mut walk.draws);
-    let seconds = walk.draws.seconds(400);
-    let less = walk.draws.seconds(400).min(seconds);
+    let spot = draw_held(&mut walk.random);
+    let seconds = draw_seconds(&mut walk.random, 400);
+    let less = draw_seconds(&mut walk.random, 400).min(seconds);
     let wish = one_wish(spot, seconds, 0);
     let expected = walk.plain.refusal(0, &wish);
     let group = walk.desk.next();
@@ -231,9 +226,9 @@ fn lower_step(rt: &impl Abort, alloc: Global, walk: &mut Walk) -> Result<(), Fai
 
 /// Seconds of one account and an ipp charge, which is refunded at once.
 fn refund_step(rt: &impl Abort, alloc: Global, walk: &mut Walk) -> Result<(), Fail> {
-    let spot = draw_held(&mut walk.draws);
-    let seconds = walk.draws.seconds(400);
-    let ipp = walk.draws.seconds(400).saturating_add(1);
+    let spot = draw_held(&mut walk.random);
+    let seconds = draw_seconds(&mut walk.random, 400);
+    let ipp = draw_seconds(&mut walk.random, 400).saturating_add(1);
     let wish = one_wish(spot, seconds, ipp);
     let expected = walk.plain.refusal(0, &wish);
     let group = walk.desk.next();
@@ -248,11 +243,11 @@ fn refund_step(rt: &impl Abort, alloc: Global, walk: &mut Walk) -> Result<(), Fa
 }
 
 fn step(rt: &impl Abort, alloc: Global, walk: &mut Walk) -> Result<(), Fail> {
-    match walk.draws.below(16) {
+    match walk.random.below(16) {
         0..=3 => grant_step(rt, walk),
         4..=6 => hold_step(rt, alloc, walk, 0),
         7..=9 => {
-            let old = draw_group(&mut walk.draws, walk.desk.next());
+            let old = draw_group(&mut walk.random, walk.desk.next());
             hold_step(rt, alloc, walk, old)
         }
         10 => lower_step(rt, alloc, walk),
@@ -272,7 +267,7 @@ fn calls_answer_as_the_plain_program(rt: HostRuntime) -> Result<(), Fail> {
         desk: Desk::new(alloc),
         plain: Plain::new(alloc, &SPOTS),
         keys: keys(alloc)?,
-        draws: Draws { seed: 1 },
+        random: Random::new(1),
         skipped: 0,
     };
     for number in 0..STEPS {

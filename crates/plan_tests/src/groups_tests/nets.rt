@@ -1,11 +1,12 @@
 // The prices of requests less what their seconds cost of their quotas.
 
-ghost use Rattle.std.specs.Prelude.{◌≡◌, ◌↔◌, ◌≤◌, ◌⊎◌, [], length, IsTrue, All};
+ghost use Rattle.std.specs.Prelude.{◌≡◌, ◌≤◌, ◌⊎◌, [], length, IsTrue, All};
 ghost use Rattle.plan_base.specs.Verdict.{IsPriceInRange};
 
 use super::desk::{Asked, snapshot_of};
 use groups::net;
 use plan_base::{ListOf, Op, Prices, QuotaPrices, Snapshot};
+use sample_snapshots::{are_in_range, are_quota_prices_in_range};
 use std::alloc::Global;
 use std::process::Abort;
 use std::test::Fail;
@@ -55,19 +56,7 @@ fn are_in_ranges(prices: &Prices, quota_prices: &QuotaPrices) -> bool
     ensures prices { IsTrue result → All IsPriceInRange prices.now.0 }
     ensures quota_prices { IsTrue result → All (λ u. u ≤ 200000) quota_prices.now.0 }
 {
-    are_prices(prices.0.as_slice()) && are_quota_prices(quota_prices.0.as_slice())
-}
-
-fn are_prices(prices: &[i64]) -> bool
-    ensures { IsTrue result ↔ All IsPriceInRange prices.now }
-{
-    prices.iter().all(|price| -1_000_000_000_000 <= *price && *price <= 1_000_000_000_000)
-}
-
-fn are_quota_prices(quota_prices: &[u32]) -> bool
-    ensures { IsTrue result ↔ All (λ u. u ≤ 200000) quota_prices.now }
-{
-    quota_prices.iter().all(|price| *price <= 200_000)
+    are_in_range(prices.0.as_slice()) && are_quota_prices_in_range(quota_prices.0.as_slice())
 }
 
 /// Whether there is a price for each quota, or none at all.

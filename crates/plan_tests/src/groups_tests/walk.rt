@@ -1,10 +1,11 @@
 // A random walk over the calls of a plan that is being built, beside a list whose feasibility is tested anew each time.
 
-ghost use Rattle.std.specs.Prelude.{◌≡◌, ◌<◌};
+ghost use Rattle.std.specs.Prelude.{◌≡◌};
 
 use super::desk::{Asked, FIRST, SLICES, is_possible, snapshot_of};
 use groups::PlanBuild;
 use plan_base::{GroupNo, Op, Placement, RequestNo, SliceNo, Snapshot, TelescopeNo};
+use sample_snapshots::Random;
 use std::alloc::Global;
 use std::process::Abort;
 use std::test::Fail;
@@ -54,33 +55,14 @@ struct Tally {
     open: u32,
 }
 
-/// A linear congruential generator.
-#[derive(Drop)]
-struct Random {
-    state: u64,
-}
-
-impl Random {
-    fn below(&mut self, bound: u32) -> u32
-        requires { 0 < bound }
-        ensures { result < bound }
-    {
-        self.state = self
-            .state
-            .wrapping_mul(6_364_136_223_846_793_005)
-            .wrapping_add(1_442_695_040_888_963_407);
-        ((self.state >> 33) % u64::from(bound)) as u32
-    }
-
-    /// A start of a request, anywhere in the horizon.
-    fn placement(&mut self) -> Placement {
-        let place = self.below(16);
-        let room = SLICES.saturating_sub(size_of(number_at(place)));
-        Placement {
-            request: number_at(place),
-            telescope: TelescopeNo(self.below(2) as u16),
-            slice: SliceNo(FIRST.saturating_add(self.below(room.saturating_add(1)))),
-        }
+/// A start of a request, anywhere in the horizon.
+fn draw_placement(random: &mut Random) -> Placement {
+    let place = random.below(16);
+    let room = SLICES.saturating_sub(size_of(number_at(place)));
+    Placement {
+        request: number_at(place),
+        telescope: TelescopeNo(random.below(2) as u16),
+        slice: SliceNo(FIRST.saturating_add(random.below(room.saturating_add(1)))),
     }
 }
 
@@ -252,7 +234,7 @@ fn step(
         list.clear();
     } else if choice < 40 {
         remove_from_both(rt, plan, list, RequestNo(random.below(34)));
-    } else if try_to_add(rt, snapshot, plan, list, random.placement())? {
+    } else if try_to_add(rt, snapshot, plan, list, draw_placement(random))? {
         tally.added = tally.added.saturating_add(1);
     } else {
         tally.refused = tally.refused.saturating_add(1);
@@ -266,7 +248,7 @@ fn calls_agree_with_a_test_of_the_whole_plan(rt: HostRuntime) -> Result<(), Fail
     let snapshot = snapshot(&rt, alloc)?;
     let mut plan = PlanBuild::new(alloc, &snapshot)?;
     let mut list = Vec::new(alloc);
-    let mut random = Random { state: 1 };
+    let mut random = Random::new(1);
     let mut tally = Tally {
         added: 0,
         refused: 0,

@@ -1,10 +1,9 @@
 // Bests and starts of random snapshots, beside those of all lists of starts.
 
-ghost use Rattle.std.specs.Prelude.{◌<◌};
-
-use super::{Answer, Desk, Wish, assert_answer, snapshot};
+use super::{Answer, assert_answer};
 use interval_solver::Solver;
-use plan_base::{Placement, RequestNo, SliceNo, TelescopeNo};
+use plan_base::{Placement, Snapshot, TelescopeNo};
+use sample_snapshots::{Desk, Dish, Found, Random, SampleFault, Wish, best_of_all, find_starts};
 use snapshot_starts::starts;
 use std::alloc::{AllocError, Global};
 use std::process::Abort;
@@ -26,152 +25,78 @@ const END: u32 = 11;
 /// The numbers of the requests.
 const REQUESTS: [u32; 3] = [1, 2, 3];
 
-/// A linear congruential generator.
-#[derive(Drop)]
-struct Random {
-    state: u64,
-}
-
-impl Random {
-    fn below(&mut self, bound: u32) -> u32
-        requires { 0 < bound }
-        ensures { result < bound }
-    {
-        self.state = self
-            .state
-            .wrapping_mul(6_364_136_223_846_793_005)
-            .wrapping_add(1_442_695_040_888_963_407);
-        ((self.state >> 33) % u64::from(bound)) as u32
-    }
-
-    /// A span that begins at a second or up to 99 later.
-    fn span_from(&mut self, second: u64) -> (u64, u64) {
-        let from = second.saturating_add(u64::from(self.below(100)));
-        let seconds = self.below(300).saturating_add(150);
-        (from, from.saturating_add(u64::from(seconds)))
-    }
-
-    fn wish(&mut self) -> Wish {
-        Wish {
-            seconds: self.below(130).saturating_add(1),
-            value: self.below(4).saturating_add(1).saturating_mul(10),
-            fade: [0, 0, 100, 250][self.below(4) as usize],
-            windows: [self.span_from(150), self.span_from(400)],
-            telescopes: [self.below(4) > 0, self.below(3) > 0],
-        }
-    }
-
-    fn usable(&mut self) -> [(u64, u64); 2] {
-        let early = self.span_from(250);
-        let late = self.span_from(early.1.saturating_add(1));
-        [early, late]
-    }
-
-    fn wishes(&mut self) -> [Wish; 3] {
-        [self.wish(), self.wish(), self.wish()]
-    }
-
-    /// Prices, often equal ones.
-    fn prices(&mut self) -> [i64; 3] {
-        [self.price(), self.price(), self.price()]
-    }
-
-    fn price(&mut self) -> i64 {
-        i64::from(self.below(6))
-            .saturating_mul(10)
-            .saturating_sub(10)
-    }
-}
-
-/// A start that is found second by second.
+/// What is drawn for a request.
 #[derive(Clone, Copy)]
-struct Found {
-    request: u32,
-    from: u32,
-    /// The slice after its last.
-    to: u32,
-    gives: i64,
+struct Drawn {
+    seconds: u32,
+    value: u32,
+    fade: u16,
+    windows: [(u64, u64); 2],
+    telescopes: &'static [TelescopeNo],
 }
 
-fn has_second(spans: &[(u64, u64)], second: u64) -> bool {
-    spans.iter().any(|span| span.0 <= second && second < span.1)
-}
-
-/// Whether a start of the wish at a slice is possible on a telescope that is usable in these spans.
-fn is_possible(usable: &[(u64, u64)], wish: &Wish, slice: u32) -> bool {
-    let from = u64::from(slice.saturating_mul(LEN));
-    let to = from.saturating_add(u64::from(wish.seconds));
-    for second in from..to {
-        if !has_second(usable, second) {
-            return false;
+impl Drawn {
+    fn wish(&self) -> Wish {
+        Wish {
+            seconds: self.seconds,
+            value: self.value,
+            fade: self.fade,
+            windows: &self.windows,
+            telescopes: self.telescopes,
+            targets: &[],
         }
     }
-    let is_in_window = wish
-        .windows
-        .iter()
-        .any(|window| window.0 <= from && to <= window.1);
-    is_in_window && to <= u64::from(END * LEN)
 }
 
-/// What the wish is worth at a slice, where both windows aren't empty.
-fn worth(wish: &Wish, slice: u32) -> u32 {
-    let window = wish.windows[0].0.min(wish.windows[1].0);
-    let earliest = window.saturating_add(u64::from(LEN - 1)) / u64::from(LEN);
-    let delay = u64::from(slice).saturating_sub(earliest);
-    let lost = u64::from(wish.value)
-        .saturating_mul(u64::from(wish.fade))
-        .saturating_mul(delay)
-        / 1_000;
-    let lost = u32::try_from(lost).unwrap_or(u32::MAX);
-    wish.value.saturating_sub(lost).max(1)
+/// A span that begins at a second or up to 99 later.
+fn draw_span(random: &mut Random, second: u64) -> (u64, u64) {
+    let from = second.saturating_add(u64::from(random.below(100)));
+    let seconds = random.below(300).saturating_add(150);
+    (from, from.saturating_add(u64::from(seconds)))
 }
 
-/// The starts of the wishes on a telescope at prices, by slice and then by request.
-fn find_all(
-    alloc: Global,
-    telescope: usize,
-    usable: &[(u64, u64)],
-    wishes: &[Wish; 3],
-    prices: &[i64; 3],
-) -> Result<Vec<Found>, AllocError>
-    requires { telescope < 2 }
-{
-    let mut found = Vec::new(alloc);
-    for slice in FIRST..END {
-        for ((request, wish), price) in REQUESTS.iter().zip(wishes.iter()).zip(prices.iter()) {
-            if wish.telescopes[telescope] && is_possible(usable, wish, slice) {
-                found.push(Found {
-                    request: *request,
-                    from: slice,
-                    to: slice.saturating_add(wish.seconds.saturating_add(LEN - 1) / LEN),
-                    gives: i64::from(worth(wish, slice)).saturating_sub(*price),
-                })?;
-            }
-        }
+fn draw_telescopes(random: &mut Random) -> &'static [TelescopeNo] {
+    match (random.below(4) > 0, random.below(3) > 0) {
+        (true, true) => &[TelescopeNo(0), TelescopeNo(1)],
+        (true, false) => &[TelescopeNo(0)],
+        (false, true) => &[TelescopeNo(1)],
+        (false, false) => &[],
     }
-    Ok(found)
 }
 
-/// The greatest sum of all lists of the starts, from a slice on, of which no two share a slice. They are sorted by slice.
-fn best_of_all(found: &[Found], free: u32) -> i64 {
-    match found {
-        [] => 0,
-        [first, rest @ ..] => {
-            let without = best_of_all(rest, free);
-            if first.from < free {
-                return without;
-            }
-            without.max(first.gives.saturating_add(best_of_all(rest, first.to)))
-        }
+fn draw_request(random: &mut Random) -> Drawn {
+    Drawn {
+        seconds: random.below(130).saturating_add(1),
+        value: random.below(4).saturating_add(1).saturating_mul(10),
+        fade: [0, 0, 100, 250][random.below(4) as usize],
+        windows: [draw_span(random, 150), draw_span(random, 400)],
+        telescopes: draw_telescopes(random),
     }
+}
+
+fn draw_usable(random: &mut Random) -> [(u64, u64); 2] {
+    let early = draw_span(random, 250);
+    let late = draw_span(random, early.1.saturating_add(1));
+    [early, late]
+}
+
+fn draw_price(random: &mut Random) -> i64 {
+    i64::from(random.below(6))
+        .saturating_mul(10)
+        .saturating_sub(10)
+}
+
+/// Prices, often equal ones.
+fn draw_prices(random: &mut Random) -> [i64; 3] {
+    [draw_price(random), draw_price(random), draw_price(random)]
 }
 
 /// The first start at a slice with which a list reaches the best.
 fn first_at(found: &[Found], slice: u32) -> Option<Found> {
     let best = best_of_all(found, slice);
     for start in found {
-        let sum = start.gives.saturating_add(best_of_all(found, start.to));
-        if start.from == slice && sum == best {
+        let sum = start.gives.saturating_add(best_of_all(found, start.after));
+        if start.placement.slice.0 == slice && sum == best {
             return Some(*start);
         }
     }
@@ -179,11 +104,7 @@ fn first_at(found: &[Found], slice: u32) -> Option<Found> {
 }
 
 /// What the telescope starts.
-fn starts_of(
-    alloc: Global,
-    telescope: TelescopeNo,
-    found: &[Found],
-) -> Result<Vec<Placement>, AllocError> {
+fn starts_of(alloc: Global, found: &[Found]) -> Result<Vec<Placement>, AllocError> {
     let mut starts = Vec::new(alloc);
     let mut free = FIRST;
     for slice in FIRST..END {
@@ -193,12 +114,8 @@ fn starts_of(
             continue;
         }
         if let Some(start) = first_at(found, slice) {
-            free = start.to;
-            starts.push(Placement {
-                request: RequestNo(start.request),
-                telescope,
-                slice: SliceNo(slice),
-            })?;
+            free = start.after;
+            starts.push(start.placement)?;
         }
     }
     Ok(starts)
@@ -220,16 +137,12 @@ fn uses_of(alloc: Global, starts: &[Placement]) -> Result<Vec<u32>, AllocError> 
 /// What all lists of starts give.
 fn answer_of(
     alloc: Global,
+    snapshot: &Snapshot,
     telescope: TelescopeNo,
-    desk: &Desk,
-    wishes: &[Wish; 3],
-    prices: &[i64; 3],
-) -> Result<Answer, AllocError>
-    requires { telescope.0 < 2 }
-{
-    let place = usize::from(telescope.0);
-    let found = find_all(alloc, place, desk.usable[place].as_slice(), wishes, prices)?;
-    let starts = starts_of(alloc, telescope, found.as_slice())?;
+    prices: &[i64],
+) -> Result<Answer, AllocError> {
+    let found = find_starts(alloc, snapshot.parts(), telescope, prices)?;
+    let starts = starts_of(alloc, found.as_slice())?;
     let uses = uses_of(alloc, starts.as_slice())?;
     Ok(Answer {
         best: best_of_all(found.as_slice(), FIRST),
@@ -243,36 +156,59 @@ fn assert_telescope<R: Threads + Sync + Abort>(
     rt: &R,
     alloc: Global,
     random: &mut Random,
-    desk: &Desk,
-    wishes: &[Wish; 3],
+    snapshot: &Snapshot,
     telescope: TelescopeNo,
-) -> Result<(), Fail>
-    requires { telescope.0 < 2 }
-{
-    let snapshot = snapshot(alloc, desk, wishes.as_slice())?;
-    let list = starts(rt, alloc, &snapshot)?;
-    let mut solver = Solver::new(alloc, telescope, &snapshot, &list)?;
-    let prices = random.prices();
-    let expected = answer_of(alloc, telescope, desk, wishes, &prices)?;
-    assert_answer(rt, alloc, &snapshot, &mut solver, &prices, &expected)?;
-    let prices = random.prices();
-    let expected = answer_of(alloc, telescope, desk, wishes, &prices)?;
-    assert_answer(rt, alloc, &snapshot, &mut solver, &prices, &expected)
+) -> Result<(), Fail> {
+    let list = starts(rt, alloc, snapshot)?;
+    let mut solver = Solver::new(alloc, telescope, snapshot, &list)?;
+    let prices = draw_prices(random);
+    let expected = answer_of(alloc, snapshot, telescope, &prices)?;
+    assert_answer(rt, alloc, snapshot, &mut solver, &prices, &expected)?;
+    let prices = draw_prices(random);
+    let expected = answer_of(alloc, snapshot, telescope, &prices)?;
+    assert_answer(rt, alloc, snapshot, &mut solver, &prices, &expected)
+}
+
+/// The snapshot of requests and of two telescopes that are usable in these spans.
+fn snapshot(
+    alloc: Global,
+    drawn: &[Drawn; 3],
+    usable: &[[(u64, u64); 2]; 2],
+) -> Result<Box<Snapshot>, SampleFault> {
+    let dishes = [
+        Dish {
+            site: 0,
+            usable: &usable[0],
+        },
+        Dish {
+            site: 0,
+            usable: &usable[1],
+        },
+    ];
+    let desk = Desk {
+        len: LEN,
+        first: FIRST,
+        slices: END - FIRST,
+        dishes: &dishes,
+        views: &[],
+        wishes: &[drawn[0].wish(), drawn[1].wish(), drawn[2].wish()],
+    };
+    desk.snapshot(alloc)
 }
 
 #[test]
 fn answers_are_those_of_all_lists(rt: HostRuntime) -> Result<(), Fail> {
-    let mut random = Random { state: 1 };
+    let mut random = Random::new(1);
     for _ in 0..SNAPSHOTS {
-        let wishes = random.wishes();
-        let desk = Desk {
-            len: LEN,
-            first: FIRST,
-            slices: END - FIRST,
-            usable: [random.usable(), random.usable()],
-        };
-        assert_telescope(&rt, rt.alloc(), &mut random, &desk, &wishes, TelescopeNo(0))?;
-        assert_telescope(&rt, rt.alloc(), &mut random, &desk, &wishes, TelescopeNo(1))?;
+        let drawn = [
+            draw_request(&mut random),
+            draw_request(&mut random),
+            draw_request(&mut random),
+        ];
+        let usable = [draw_usable(&mut random), draw_usable(&mut random)];
+        let snapshot = snapshot(rt.alloc(), &drawn, &usable)?;
+        assert_telescope(&rt, rt.alloc(), &mut random, &snapshot, TelescopeNo(0))?;
+        assert_telescope(&rt, rt.alloc(), &mut random, &snapshot, TelescopeNo(1))?;
     }
     Ok(())
 }

@@ -2,9 +2,10 @@
 
 ghost use Rattle.std.specs.Prelude.{◌≡◌};
 
-use super::{Answer, Desk, Wish, assert_answer, snapshot};
+use super::{Answer, assert_answer};
 use interval_solver::Solver;
 use plan_base::{Placement, RequestNo, SliceNo, Snapshot, TelescopeNo};
+use sample_snapshots::{Desk, Dish, Wish};
 use snapshot_starts::starts;
 use std::alloc::{AllocError, Global};
 use std::process::Abort;
@@ -26,16 +27,22 @@ const MINUTES: Desk = Desk {
     len: 60,
     first: 0,
     slices: 3,
-    usable: [[(0, 180), (0, 0)]; 2],
+    dishes: &[Dish {
+        site: 0,
+        usable: &[(0, 180)],
+    }; 2],
+    views: &[],
+    wishes: &[],
 };
 
-fn wish(seconds: u32, value: u32, fade: u16) -> Wish {
+fn wish(seconds: u32, value: u32, fade: u16) -> Wish<'static> {
     Wish {
         seconds,
         value,
         fade,
-        windows: [(0, 3_600), (0, 0)],
-        telescopes: [true, false],
+        windows: &[(0, 3_600)],
+        telescopes: &[TelescopeNo(0)],
+        targets: &[],
     }
 }
 
@@ -80,7 +87,7 @@ fn assert_desk<R: Threads + Sync + Abort>(
     wishes: &[Wish],
     rows: &[Row],
 ) -> Result<(), Fail> {
-    let snapshot = snapshot(alloc, desk, wishes)?;
+    let snapshot = Desk { wishes, ..*desk }.snapshot(alloc)?;
     let list = starts(rt, alloc, &snapshot)?;
     let mut solver = Solver::new(alloc, TelescopeNo(0), &snapshot, &list)?;
     assert!(rt; solver.chosen().is_empty());
@@ -164,7 +171,10 @@ fn a_fading_request_starts_early(rt: HostRuntime) -> Result<(), Fail> {
 #[test]
 fn nothing_starts_in_a_gap(rt: HostRuntime) -> Result<(), Fail> {
     let desk = Desk {
-        usable: [[(0, 119), (120, 180)]; 2],
+        dishes: &[Dish {
+            site: 0,
+            usable: &[(0, 119), (120, 180)],
+        }; 2],
         ..MINUTES
     };
     let wishes = [wish(60, 100, 0), wish(120, 1_000, 0)];
@@ -183,7 +193,11 @@ fn starts_of_a_fading_request_on_a_late_telescope(rt: HostRuntime) -> Result<(),
         len: 300,
         first: 0,
         slices: 12,
-        usable: [[(900, 3_600), (0, 0)]; 2],
+        dishes: &[Dish {
+            site: 0,
+            usable: &[(900, 3_600)],
+        }; 2],
+        ..MINUTES
     };
     let rows = [
         Row {

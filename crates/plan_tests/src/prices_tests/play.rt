@@ -6,7 +6,7 @@ ghost use Rattle.plan_base.specs.NetPrices.{IsNetInRange, net_prices};
 use groups::{net, rebate};
 use plan_base::{ListOf, Prices, QuotaPrices, Snapshot};
 use prices::{advance, lagrangian, step_of, zero_prices};
-use sample_snapshots::{Sample, VALUE};
+use sample_snapshots::{Sample, VALUE, are_quota_prices_in_range};
 use std::alloc::Global;
 use std::process::Abort;
 use std::test::Fail;
@@ -106,7 +106,7 @@ fn nets_of(
     if prices.0.len() != snapshot.request_count()
         || quota_prices.0.len() != snapshot.parts().quotas.len()
         || !are_prices(prices.0.as_slice())
-        || !are_quota_prices(quota_prices.0.as_slice())
+        || !are_quota_prices_in_range(quota_prices.0.as_slice())
     {
         return Err(Fail::new("the prices don't fit"));
     }
@@ -119,12 +119,6 @@ fn are_prices(prices: &[i64]) -> bool
     ensures { IsTrue result ↔ All (λ c. (neg_ℤ (pos (10 ^ 11)) ≤ℤ c) × (c ≤ℤ pos (10 ^ 11))) prices.now }
 {
     prices.iter().all(|price| -100_000_000_000 <= *price && *price <= 100_000_000_000)
-}
-
-fn are_quota_prices(prices: &[u32]) -> bool
-    ensures { IsTrue result ↔ All (λ u. u ≤ 200000) prices.now }
-{
-    prices.iter().all(|price| *price <= 200_000)
 }
 
 /// What a group gives at net prices.

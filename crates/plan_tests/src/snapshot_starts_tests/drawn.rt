@@ -1,8 +1,8 @@
 // The starts of snapshots that are drawn at random, beside the definition tested second by second.
 
 use super::random::Draws;
-use super::seconds::is_start;
 use plan_base::{Placement, RequestNo, SliceNo, Snapshot, TelescopeNo};
+use sample_snapshots::is_start;
 use snapshot_starts::{Starts, is_possible, starts};
 use std::alloc::Global;
 use std::process::Abort;

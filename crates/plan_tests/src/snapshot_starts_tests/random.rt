@@ -1,59 +1,60 @@
 // Small snapshots that are drawn at random. Most of their moments lie at an edge of a slice, or a second beside it.
 
+ghost use Rattle.std.specs.Prelude.{◌<◌, ◌≤◌};
+
 use plan_base::{
     GroupNo, GroupPart, ListOf, Op, Parts, RequestNo, RequestPart, Sec, SiteNo, Sky, SliceNo,
     Snapshot, Span, TargetNo, TelescopeNo, TelescopePart,
 };
+use sample_snapshots::Random;
 use std::alloc::{AllocError, Global};
 use std::process::Abort;
 use std::test::Fail;
 
 /// Telescopes are at these sites.
-const SITES: u16 = 2;
+const SITES: u32 = 2;
 
 /// Targets below this number may have a sky.
-const TARGETS: u16 = 3;
+const TARGETS: u32 = 3;
 
 /// There are at most so many groups of at most two requests, which are numbered below four times as many.
-const GROUPS: u16 = 3;
+const GROUPS: u32 = 3;
 
-/// Numbers that look random, each from the one before, for snapshots of one length of slices.
+/// What is drawn for snapshots, one after another: random numbers, and how long the slices of the next one are.
 #[derive(Drop)]
 pub struct Draws {
-    seed: u64,
+    random: Random,
     len: u32,
 }
 
 impl Draws {
     pub fn new(seed: u64) -> Self {
-        Draws { seed, len: 60 }
-    }
-
-    /// A number below `count`, 0 where that is 0.
-    fn below(&mut self, count: u16) -> u16 {
-        self.seed = self
-            .seed
-            .wrapping_mul(6_364_136_223_846_793_005)
-            .wrapping_add(1_442_695_040_888_963_407);
-        let drawn = (self.seed >> 48) as u16;
-        drawn.checked_rem(count).unwrap_or(0)
+        Draws {
+            random: Random::new(seed),
+            len: 60,
+        }
     }
 
     /// A number from 1 to `most`.
-    fn up_to(&mut self, most: u16) -> u16 {
-        self.below(most).saturating_add(1)
+    fn up_to(&mut self, most: u32) -> u32
+        requires { 0 < most }
+        ensures { result ≤ most }
+    {
+        self.random.below(most) + 1
     }
 
     /// As many seconds as some slices have, at most `slices`, or one less or more.
-    fn seconds(&mut self, slices: u16) -> u32 {
-        let whole = self.len.saturating_mul(u32::from(self.up_to(slices)));
-        whole
-            .saturating_add(u32::from(self.below(3)))
-            .saturating_sub(1)
+    fn seconds(&mut self, slices: u32) -> u32
+        requires { 0 < slices }
+    {
+        let whole = self.len.saturating_mul(self.up_to(slices));
+        whole.saturating_add(self.random.below(3)).saturating_sub(1)
     }
 
     /// A span that begins at a second and lasts about as long as some slices, at most `slices`.
-    fn span(&mut self, from: u64, slices: u16) -> Span {
+    fn span(&mut self, from: u64, slices: u32) -> Span
+        requires { 0 < slices }
+    {
         Span {
             from: Sec(from),
             to: Sec(from.saturating_add(u64::from(self.seconds(slices)))),
@@ -62,7 +63,7 @@ impl Draws {
 
     /// How long the gap between two spans is.
     fn gap(&mut self) -> u64 {
-        if self.below(2) == 0 {
+        if self.random.below(2) == 0 {
             1
         } else {
             u64::from(self.seconds(2))
@@ -73,7 +74,7 @@ impl Draws {
     fn apart(&mut self, alloc: Global) -> Result<ListOf<Span>, AllocError> {
         let mut spans = ListOf::new(alloc);
         let mut from = self.gap().saturating_sub(1);
-        for _ in 0..self.below(4) {
+        for _ in 0..self.random.below(4) {
             let span = self.span(from, 12);
             from = span.to.0.saturating_add(self.gap());
             spans.push(span)?;
@@ -83,7 +84,7 @@ impl Draws {
 
     /// A window, after one that ends at `before`: it touches that, overlaps it, or begins anywhere.
     fn window(&mut self, before: u64) -> Span {
-        let from = match self.below(4) {
+        let from = match self.random.below(4) {
             0 => before,
             1 => before.saturating_sub(u64::from(self.seconds(2))),
             _ => u64::from(self.seconds(5)),
@@ -110,7 +111,7 @@ impl Draws {
         let mut telescopes = ListOf::new(alloc);
         for _ in 0..count {
             telescopes.push(TelescopePart {
-                site: SiteNo(self.below(SITES)),
+                site: SiteNo(self.random.below(SITES) as u16),
                 usable: self.apart(alloc)?,
             })?;
         }
@@ -120,11 +121,11 @@ impl Draws {
     /// Skies of some targets at some sites.
     fn skies(&mut self, alloc: Global) -> Result<Box<ListOf<Sky>>, AllocError> {
         let mut skies = ListOf::new(alloc);
-        for pair in 0..TARGETS.saturating_mul(SITES) {
-            if 0 < self.below(5) {
+        for pair in 0..TARGETS * SITES {
+            if 0 < self.random.below(5) {
                 skies.push(Sky {
-                    target: TargetNo(pair / SITES),
-                    site: SiteNo(pair % SITES),
+                    target: TargetNo((pair / SITES) as u16),
+                    site: SiteNo((pair % SITES) as u16),
                     spans: self.apart(alloc)?,
                 })?;
             }
@@ -136,7 +137,7 @@ impl Draws {
     fn able(&mut self, alloc: Global, telescopes: u16) -> Result<ListOf<TelescopeNo>, AllocError> {
         let mut able = ListOf::new(alloc);
         for number in 0..telescopes {
-            if 0 < self.below(4) {
+            if 0 < self.random.below(4) {
                 able.push(TelescopeNo(number))?;
             }
         }
@@ -146,8 +147,8 @@ impl Draws {
     /// Up to two targets in any order, perhaps of those that have no sky.
     fn targets(&mut self, alloc: Global) -> Result<ListOf<TargetNo>, AllocError> {
         let mut targets = ListOf::new(alloc);
-        for _ in 0..self.below(3) {
-            targets.push(TargetNo(self.below(TARGETS.saturating_add(1))))?;
+        for _ in 0..self.random.below(3) {
+            targets.push(TargetNo(self.random.below(TARGETS + 1) as u16))?;
         }
         Ok(targets)
     }
@@ -162,7 +163,7 @@ impl Draws {
         let mut requests = ListOf::new(alloc);
         let mut next = number;
         for _ in 0..self.up_to(2) {
-            let request = next.saturating_add(u32::from(self.below(2)));
+            let request = next.saturating_add(self.random.below(2));
             next = request.saturating_add(1);
             requests.push(RequestPart {
                 request: RequestNo(request),
@@ -183,8 +184,7 @@ impl Draws {
         telescopes: u16,
     ) -> Result<Box<ListOf<GroupPart>>, AllocError> {
         let mut groups = ListOf::new(alloc);
-        for place in 0..self.up_to(GROUPS) {
-            let number = u32::from(place);
+        for number in 0..self.up_to(GROUPS) {
             groups.push(GroupPart {
                 group: GroupNo(number),
                 op: Op::Many,
@@ -200,15 +200,15 @@ impl Draws {
     }
 
     fn parts(&mut self, alloc: Global) -> Result<Box<Parts>, AllocError> {
-        self.len = u32::from(self.below(8).saturating_add(60));
-        let count = self.up_to(3);
+        self.len = self.random.below(8).saturating_add(60);
+        let count = self.up_to(3) as u16;
         Ok(Box::new(
             alloc,
             Parts {
                 version: 0,
                 len: self.len,
-                first: SliceNo(u32::from(self.below(4))),
-                slices: u32::from(self.up_to(12)),
+                first: SliceNo(self.random.below(4)),
+                slices: self.up_to(12),
                 telescopes: Box::into_inner(self.telescopes(alloc, count)?),
                 skies: Box::into_inner(self.skies(alloc)?),
                 groups: Box::into_inner(self.groups(alloc, count)?),

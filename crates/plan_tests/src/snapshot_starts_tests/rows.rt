@@ -1,7 +1,7 @@
 // Runs and counts that were worked out by hand.
 
-use super::desk::{Desk, Dish, View, Wish, dish_at, snapshot_of, span, view_of, wish_for};
-use plan_base::{Placement, RequestNo, SliceNo, Span, TargetNo, TelescopeNo};
+use plan_base::{Placement, RequestNo, SliceNo, TargetNo, TelescopeNo};
+use sample_snapshots::{Desk, Dish, View, Wish};
 use snapshot_starts::{Run, StartFault, is_possible, starts};
 use std::alloc::{AllocError, Global};
 use std::process::Abort;
@@ -15,6 +15,27 @@ fn run(telescope: u16, first: u32, count: u32) -> Run {
         telescope: TelescopeNo(telescope),
         first: SliceNo(first),
         count,
+    }
+}
+
+fn dish_at(site: u16, usable: &[(u64, u64)]) -> Dish {
+    Dish { site, usable }
+}
+
+/// A request of value 1 that doesn't fade.
+fn wish_for<'a>(
+    seconds: u32,
+    windows: &'a [(u64, u64)],
+    telescopes: &'a [TelescopeNo],
+    targets: &'a [TargetNo],
+) -> Wish<'a> {
+    Wish {
+        seconds,
+        value: 1,
+        fade: 0,
+        windows,
+        telescopes,
+        targets,
     }
 }
 
@@ -36,22 +57,19 @@ fn check_runs<R: Threads + Sync + Abort>(
         views,
         wishes: &[wish],
     };
-    let snapshot = snapshot_of(rt, alloc, &desk)?;
+    let snapshot = desk.snapshot(alloc)?;
     let list = starts(rt, alloc, &snapshot)?;
     assert_eq!(rt; list.runs(), runs);
     Ok(())
 }
 
-const NIGHT: [Span; 1] = [Span {
-    from: plan_base::Sec(0),
-    to: plan_base::Sec(3600),
-}];
+const NIGHT: [(u64, u64); 1] = [(0, 3600)];
 
 const ONE: [TelescopeNo; 1] = [TelescopeNo(0)];
 
 #[test]
 fn a_closure_cuts_a_run_in_two(rt: HostRuntime) -> Result<(), Fail> {
-    let around = [span(0, 900), span(1800, 3600)];
+    let around = [(0, 900), (1800, 3600)];
     let closed = [dish_at(0, &around)];
     let reopened = [dish_at(0, &NIGHT)];
     let request = wish_for(600, &NIGHT, &ONE, &[]);
@@ -71,7 +89,7 @@ fn a_closure_cuts_a_run_in_two(rt: HostRuntime) -> Result<(), Fail> {
 #[test]
 fn an_observation_lies_in_one_window(rt: HostRuntime) -> Result<(), Fail> {
     let night = [dish_at(0, &NIGHT)];
-    let touching = [span(0, 300), span(300, 600)];
+    let touching = [(0, 300), (300, 600)];
     let long = wish_for(600, &touching, &ONE, &[]);
     let short = wish_for(300, &touching, &ONE, &[]);
     let alloc = rt.alloc();
@@ -91,8 +109,12 @@ fn a_part_of_a_slice_is_a_slice(rt: HostRuntime) -> Result<(), Fail> {
 #[test]
 fn a_target_without_a_sky_is_never_visible(rt: HostRuntime) -> Result<(), Fail> {
     let dishes = [dish_at(0, &NIGHT), dish_at(1, &NIGHT)];
-    let seen = [span(600, 1500)];
-    let views = [view_of(7, 1, &seen)];
+    let seen = [(600, 1500)];
+    let views = [View {
+        target: 7,
+        site: 1,
+        spans: &seen,
+    }];
     let both = [TelescopeNo(0), TelescopeNo(1)];
     let targets = [TargetNo(7)];
     let request = wish_for(300, &NIGHT, &both, &targets);
@@ -127,17 +149,14 @@ fn full_desk<'a>(dishes: &'a [Dish<'a>], wishes: &'a [Wish<'a>]) -> Desk<'a> {
     }
 }
 
-const WHOLE: [Span; 1] = [Span {
-    from: plan_base::Sec(0),
-    to: plan_base::Sec(432_000),
-}];
+const WHOLE: [(u64, u64); 1] = [(0, 432_000)];
 
 #[test]
 fn too_many_starts_are_counted(rt: HostRuntime) -> Result<(), Fail> {
     let telescopes = all_telescopes(rt.alloc())?;
     let dishes = [dish_at(0, &WHOLE); 32];
     let wishes = [wish_for(300, &WHOLE, telescopes.as_slice(), &[]); 23];
-    let snapshot = snapshot_of(&rt, rt.alloc(), &full_desk(&dishes, &wishes))?;
+    let snapshot = full_desk(&dishes, &wishes).snapshot(rt.alloc())?;
     let answer = starts(&rt, rt.alloc(), &snapshot);
     assert!(rt; matches!(answer, Err(StartFault::TooManyStarts { count: 1_059_840 })));
     Ok(())
@@ -156,7 +175,7 @@ fn as_many_starts_as_there_may_be_are_listed(rt: HostRuntime) -> Result<(), Fail
     let telescopes = all_telescopes(rt.alloc())?;
     let dishes = [dish_at(0, &WHOLE); 32];
     let wishes = [wish_for(300, &WHOLE, telescopes.as_slice(), &[]); 22];
-    let snapshot = snapshot_of(&rt, rt.alloc(), &full_desk(&dishes, &wishes))?;
+    let snapshot = full_desk(&dishes, &wishes).snapshot(rt.alloc())?;
     let list = starts(&rt, rt.alloc(), &snapshot)?;
     assert_eq!(rt; list.count(), 1_013_760);
     assert_eq!(rt; list.runs().len(), 22 * 32);

@@ -4,7 +4,8 @@ use plan_base::{
     Parts, Placement, RequestNo, RequestPart, SiteNo, Sky, SliceNo, Span, TargetNo, TelescopePart,
 };
 
-/// Whether the placement is a possible start.
+/// Whether the placement is a possible start: one of the request's telescopes, slices of the horizon alone, and seconds
+/// that all lie in one window, each of them usable and with all targets visible.
 pub fn is_start(parts: &Parts, placement: Placement) -> bool {
     let Some(request) = request_of(parts, placement.request) else {
         return false;
@@ -32,12 +33,13 @@ fn request_of(parts: &Parts, number: RequestNo) -> Option<&RequestPart> {
     })
 }
 
-fn first_second(len: u32, slice: SliceNo) -> u64 {
+/// The first second of a slice.
+pub(crate) fn first_second(len: u32, slice: SliceNo) -> u64 {
     u64::from(slice.0).saturating_mul(u64::from(len))
 }
 
 /// The least number of slices that have so many seconds.
-fn size_of(len: u32, seconds: u32) -> u32 {
+pub(crate) fn size_of(len: u32, seconds: u32) -> u32 {
     for size in 0..seconds {
         if seconds <= size.saturating_mul(len) {
             return size;

@@ -1,0 +1,84 @@
+// What a small desk has, and its snapshot. Spans are pairs: from the first second until before the second one.
+
+use crate::fault::SampleFault;
+use crate::make::{groups_of, skies_of, snapshot_of, telescopes_of};
+use plan_base::{ListOf, Parts, SliceNo, Snapshot, TargetNo, TelescopeNo};
+use std::alloc::{AllocError, Global};
+
+/// A telescope.
+#[derive(Clone, Copy)]
+pub struct Dish<'a> {
+    /// The number of the site that it is at.
+    pub site: u16,
+    /// The seconds in which it can be used: spans, sorted with gaps between them.
+    pub usable: &'a [(u64, u64)],
+}
+
+/// A target as it is seen from a site.
+#[derive(Clone, Copy)]
+pub struct View<'a> {
+    /// The number of the target.
+    pub target: u16,
+    /// The number of the site.
+    pub site: u16,
+    /// The seconds in which the target is visible from the site: spans, sorted with gaps between them.
+    pub spans: &'a [(u64, u64)],
+}
+
+/// A request that is wished for.
+#[derive(Clone, Copy)]
+pub struct Wish<'a> {
+    /// How many seconds it takes.
+    pub seconds: u32,
+    /// What it is worth at its earliest slice, in thousandths.
+    pub value: u32,
+    /// The thousandths of its value that it loses by a slice of delay.
+    pub fade: u16,
+    /// The spans of seconds of which one has to have all of its seconds.
+    pub windows: &'a [(u64, u64)],
+    /// The telescopes that can take it, in rising order.
+    pub telescopes: &'a [TelescopeNo],
+    /// The targets that have to be visible in each of its seconds.
+    pub targets: &'a [TargetNo],
+}
+
+/// A horizon, what can observe in it, and what is wished for.
+#[derive(Clone, Copy)]
+pub struct Desk<'a> {
+    /// How many seconds a slice has.
+    pub len: u32,
+    /// The first slice of the horizon.
+    pub first: u32,
+    /// How many slices the horizon has.
+    pub slices: u32,
+    /// The telescopes, numbered from 0 on.
+    pub dishes: &'a [Dish<'a>],
+    /// The skies, in rising order of target, then site.
+    pub views: &'a [View<'a>],
+    /// The requests, numbered from 1 on, each in a group of its own with the same number.
+    pub wishes: &'a [Wish<'a>],
+}
+
+impl<'a> Desk<'a> {
+    /// The snapshot of the desk, boxed, so that no proof looks into it. The error is a number out of its range, what
+    /// [`Snapshot::build`] finds, or want of memory.
+    pub fn snapshot(&self, alloc: Global) -> Result<Box<Snapshot>, SampleFault> {
+        snapshot_of(alloc, parts_of(alloc, self)?)
+    }
+}
+
+fn parts_of(alloc: Global, desk: &Desk) -> Result<Box<Parts>, AllocError> {
+    Ok(Box::new(
+        alloc,
+        Parts {
+            version: 0,
+            len: desk.len,
+            first: SliceNo(desk.first),
+            slices: desk.slices,
+            telescopes: Box::into_inner(telescopes_of(alloc, desk.dishes)?),
+            skies: Box::into_inner(skies_of(alloc, desk.views)?),
+            groups: Box::into_inner(groups_of(alloc, desk.wishes)?),
+            quotas: ListOf::new(alloc),
+        },
+    )?)
+}
