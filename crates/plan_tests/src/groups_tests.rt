@@ -1,6 +1,5 @@
-// The calls on small snapshots, with answers that were worked out by hand.
+// What groups give and take at prices, with answers that were worked out by hand.
 
 mod desk;
 mod nets;
 mod rebates;
-mod walk;

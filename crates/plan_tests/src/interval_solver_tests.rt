@@ -4,7 +4,7 @@ ghost use Rattle.std.specs.Prelude.{◌≡◌};
 
 use interval_solver::Solver;
 use plan_base::{ListOf, Placement, Prices, Snapshot};
-use sample_snapshots::are_in_range;
+use samples::are_in_range;
 use std::alloc::{AllocError, Global};
 use std::process::Abort;
 use std::test::Fail;

@@ -1,5 +1,4 @@
-// Rounds, claims and the points that workers pass.
+// Rounds, and the points that workers pass.
 
-mod claims;
 mod gates;
 mod rounds;

@@ -1,13 +1,9 @@
 // The snapshots of the tests: two telescopes that can be used at any time, and requests that may start in any slice. What
 // the tests make is boxed, so that no proof looks into it.
 
-ghost use Rattle.std.specs.Prelude.{◌≡◌, ◌+◌, ◌*◌, ◌≤◌, ◌↔◌, [], IsTrue, Contains};
-ghost use Rattle.plan_base.specs.Starts.{slices_for, IsPossibleStart};
-ghost use Rattle.plan_base.specs.BySpans.{HasAll, usable_of};
-
 use plan_base::{
-    GroupNo, GroupPart, ListOf, Op, Parts, Placement, RequestNo, RequestPart, Sec, SiteNo, SliceNo,
-    Snapshot, Span, TelescopeNo, TelescopePart, slices_for,
+    GroupNo, GroupPart, ListOf, Op, Parts, RequestNo, RequestPart, Sec, SiteNo, SliceNo, Snapshot,
+    Span, TelescopeNo, TelescopePart,
 };
 use std::alloc::{AllocError, Global};
 use std::process::Abort;
@@ -17,10 +13,10 @@ use std::test::Fail;
 const LEN: u32 = 300;
 
 /// The first slice of the horizon.
-pub(super) const FIRST: u32 = 100;
+const FIRST: u32 = 100;
 
 /// How many slices the horizon has.
-pub(super) const SLICES: u32 = 8;
+const SLICES: u32 = 8;
 
 /// A group that is asked for, with a request for each number of seconds.
 #[derive(Clone, Copy)]
@@ -121,84 +117,4 @@ fn request(alloc: Global, number: u32, seconds: u32) -> Result<Box<RequestPart>,
         fade: 0,
     };
     Ok(Box::new(alloc, request)?)
-}
-
-/// Whether a placement is a possible start of a request without targets; false where it is none.
-pub(super) fn is_possible(snapshot: &Snapshot, placement: Placement) -> bool
-    ensures { IsTrue result → IsPossibleStart snapshot.now placement }
-{
-    let parts = snapshot.parts();
-    match snapshot.place_of(placement.request) {
-        Some(place) => can_begin(parts, snapshot.request_at(place), placement),
-        None => false,
-    }
-}
-
-/// Whether a request without targets can be observed from the placement's slice on, on its telescope.
-fn can_begin(parts: &Parts, request: &RequestPart, placement: Placement) -> bool
-    requires least { 60 ≤ parts.now.len }
-    requires most { parts.now.len ≤ 3600 }
-    requires seconds { request.now.seconds ≤ 86400 }
-    ensures able { IsTrue result → Contains request.now.telescopes placement.telescope }
-    ensures begins { IsTrue result → parts.now.first.0 ≤ placement.slice.0 }
-    ensures ends { IsTrue result → placement.slice.0 + slices_for parts.now.len request.now.seconds ≤ parts.now.first.0 + parts.now.slices }
-    ensures window { IsTrue result → HasAll request.now.windows (placement.slice.0 * parts.now.len) (placement.slice.0 * parts.now.len + request.now.seconds) }
-    ensures usable { IsTrue result → HasAll (usable_of parts.now placement.telescope.0) (placement.slice.0 * parts.now.len) (placement.slice.0 * parts.now.len + request.now.seconds) }
-    ensures targets { IsTrue result → request.now.targets ≡ [] }
-{
-    let from = start_of(placement.slice, parts.len);
-    let to = from + u64::from(request.seconds);
-    request.targets.is_empty()
-        && is_able(request, placement.telescope)
-        && is_within_horizon(parts, request, placement.slice)
-        && has_all(request.windows.as_slice(), from, to)
-        && is_usable(parts, placement.telescope, from, to)
-}
-
-/// The first second of a slice.
-fn start_of(slice: SliceNo, len: u32) -> u64
-    requires { len ≤ 3600 }
-    ensures value { result ≡ slice.0 * len }
-    ensures most { result ≤ 15461882265600 }
-{
-    u64::from(slice.0) * u64::from(len)
-}
-
-/// Whether the telescope is one of the request's.
-fn is_able(request: &RequestPart, telescope: TelescopeNo) -> bool
-    ensures { IsTrue result ↔ Contains request.now.telescopes telescope }
-{
-    request.telescopes.as_slice().contains(&telescope)
-}
-
-/// Whether the slices of the request lie within the horizon where it begins at this one.
-fn is_within_horizon(parts: &Parts, request: &RequestPart, slice: SliceNo) -> bool
-    requires least { 60 ≤ parts.now.len }
-    requires most { parts.now.len ≤ 3600 }
-    requires seconds { request.now.seconds ≤ 86400 }
-    ensures begins { IsTrue result → parts.now.first.0 ≤ slice.0 }
-    ensures ends { IsTrue result → slice.0 + slices_for parts.now.len request.now.seconds ≤ parts.now.first.0 + parts.now.slices }
-{
-    let size = slices_for(u64::from(parts.len), u64::from(request.seconds));
-    let end = u64::from(parts.first.0) + u64::from(parts.slices);
-    parts.first.0 <= slice.0 && u64::from(slice.0) + size <= end
-}
-
-/// Whether one usable span of the telescope has all seconds from one up to the one before another.
-fn is_usable(parts: &Parts, telescope: TelescopeNo, from: u64, to: u64) -> bool
-    ensures { IsTrue result → HasAll (usable_of parts.now telescope.0) from to }
-{
-    match parts.telescopes.as_slice().get(usize::from(telescope.0)) {
-        Some(part) => has_all(part.usable.as_slice(), from, to),
-        None => false,
-    }
-}
-
-/// Whether one of the spans has all seconds from one up to the one before another.
-fn has_all(spans: &[Span], from: u64, to: u64) -> bool
-    ensures { IsTrue result ↔ HasAll spans.now from to }
-{
-    spans
-        .iter()
-        .any(|span| span.from.0 <= from && to <= span.to.0)
 }

@@ -6,7 +6,7 @@ ghost use Rattle.plan_base.specs.Verdict.{IsPriceInRange};
 use super::desk::{Asked, snapshot_of};
 use groups::net;
 use plan_base::{ListOf, Op, Prices, QuotaPrices, Snapshot};
-use sample_snapshots::{are_in_range, are_quota_prices_in_range};
+use samples::{are_in_range, are_quota_prices_in_range};
 use std::alloc::Global;
 use std::process::Abort;
 use std::test::Fail;

@@ -3,7 +3,7 @@
 use super::{Answer, assert_answer};
 use interval_solver::Solver;
 use plan_base::{Placement, Snapshot, TelescopeNo};
-use sample_snapshots::{Desk, Dish, Found, Random, SampleFault, Wish, best_of_all, find_starts};
+use samples::{Desk, Dish, Found, Random, SampleFault, Wish, best_of_all, find_starts};
 use snapshot_starts::starts;
 use std::alloc::{AllocError, Global};
 use std::process::Abort;
@@ -12,6 +12,9 @@ use std::thread::Threads;
 
 /// How many snapshots are made.
 const SNAPSHOTS: u32 = 100;
+
+/// The fewest starts in all answers with which the draw is thought to show something: one a snapshot.
+const FEWEST_STARTS: usize = 100;
 
 /// How long a slice is, in seconds.
 const LEN: u32 = 60;
@@ -151,22 +154,23 @@ fn answer_of(
     })
 }
 
-/// Asserts what the solver of a telescope answers at prices, and then at others.
+/// Asserts what the solver of a telescope answers at prices, and then at others. Returns how many starts that were.
 fn assert_telescope<R: Threads + Sync + Abort>(
     rt: &R,
     alloc: Global,
     random: &mut Random,
     snapshot: &Snapshot,
     telescope: TelescopeNo,
-) -> Result<(), Fail> {
+) -> Result<usize, Fail> {
     let list = starts(rt, alloc, snapshot)?;
     let mut solver = Solver::new(alloc, telescope, snapshot, &list)?;
     let prices = draw_prices(random);
-    let expected = answer_of(alloc, snapshot, telescope, &prices)?;
-    assert_answer(rt, alloc, snapshot, &mut solver, &prices, &expected)?;
+    let first = answer_of(alloc, snapshot, telescope, &prices)?;
+    assert_answer(rt, alloc, snapshot, &mut solver, &prices, &first)?;
     let prices = draw_prices(random);
-    let expected = answer_of(alloc, snapshot, telescope, &prices)?;
-    assert_answer(rt, alloc, snapshot, &mut solver, &prices, &expected)
+    let second = answer_of(alloc, snapshot, telescope, &prices)?;
+    assert_answer(rt, alloc, snapshot, &mut solver, &prices, &second)?;
+    Ok(first.starts.len().saturating_add(second.starts.len()))
 }
 
 /// The snapshot of requests and of two telescopes that are usable in these spans.
@@ -199,6 +203,7 @@ fn snapshot(
 #[test]
 fn answers_are_those_of_all_lists(rt: HostRuntime) -> Result<(), Fail> {
     let mut random = Random::new(1);
+    let mut count = 0usize;
     for _ in 0..SNAPSHOTS {
         let drawn = [
             draw_request(&mut random),
@@ -207,8 +212,11 @@ fn answers_are_those_of_all_lists(rt: HostRuntime) -> Result<(), Fail> {
         ];
         let usable = [draw_usable(&mut random), draw_usable(&mut random)];
         let snapshot = snapshot(rt.alloc(), &drawn, &usable)?;
-        assert_telescope(&rt, rt.alloc(), &mut random, &snapshot, TelescopeNo(0))?;
-        assert_telescope(&rt, rt.alloc(), &mut random, &snapshot, TelescopeNo(1))?;
+        for telescope in [TelescopeNo(0), TelescopeNo(1)] {
+            let starts = assert_telescope(&rt, rt.alloc(), &mut random, &snapshot, telescope)?;
+            count = count.saturating_add(starts);
+        }
     }
+    assert!(rt; FEWEST_STARTS <= count);
     Ok(())
 }

@@ -5,7 +5,7 @@ ghost use Rattle.std.specs.Prelude.{◌≡◌};
 use super::{Answer, assert_answer};
 use interval_solver::Solver;
 use plan_base::{Placement, RequestNo, SliceNo, Snapshot, TelescopeNo};
-use sample_snapshots::{Desk, Dish, Wish};
+use samples::{Desk, Dish, Wish};
 use snapshot_starts::starts;
 use std::alloc::{AllocError, Global};
 use std::process::Abort;

@@ -1,12 +1,16 @@
 // Which rounds are made, seen at the points that workers pass.
 
-use super::claims::{ALONE, claim_of, solve};
-use plan_base::Settings;
+ghost use Rattle.lanes.specs.Solving.{IsInRange};
+
+use lanes::solve_plan;
+use plan_base::{Claim, Outcome, Settings, Snapshot, Solved, Taken};
 use plan_io::{Gate, Point};
-use sample_snapshots::{ONE, Sample, TWO};
+use samples::{ONE, Sample, TWO};
+use std::alloc::Global;
 use std::hint::spin_loop;
 use std::sync::atomic::{AtomicU32, Ordering};
 use std::test::Fail;
+use std::thread::Threads;
 
 /// How often a gate turns at most.
 const MOST_TURNS: u32 = 100_000_000;
@@ -72,12 +76,45 @@ const EARLY: Sample = Sample {
     ..ONE
 };
 
+/// One lane of eight rounds, on one worker.
+const ALONE: Settings = Settings {
+    lanes: 1,
+    rounds: 8,
+    workers: 1,
+};
+
 /// Two lanes of eight rounds, on two workers.
 const APART: Settings = Settings {
     lanes: 2,
     rounds: 8,
     workers: 2,
 };
+
+/// What is found for a snapshot.
+fn solve<R: Threads + Sync, G: Gate>(
+    rt: &R,
+    alloc: Global,
+    snapshot: Box<Snapshot>,
+    settings: Settings,
+    gate: &G,
+) -> Result<Box<Solved>, Fail>
+    requires { IsInRange settings }
+{
+    let taken = Taken {
+        caller: 0,
+        settings,
+        snapshot: Box::into_inner(snapshot),
+    };
+    Ok(Box::new(alloc, solve_plan(rt, alloc, taken, gate)?)?)
+}
+
+/// The claim that was found.
+fn claim_of(solved: &Solved) -> Result<&Claim, Fail> {
+    match solved.outcome() {
+        Outcome::Plan(claim) => Ok(claim),
+        Outcome::TooManyStarts(_) => Err(Fail::new("too many starts")),
+    }
+}
 
 #[test]
 fn a_lane_stops_where_bound_and_value_meet(rt: HostRuntime) -> Result<(), Fail> {

@@ -6,7 +6,7 @@ ghost use Rattle.plan_base.specs.NetPrices.{IsNetInRange, net_prices};
 use groups::{net, rebate};
 use plan_base::{ListOf, Prices, QuotaPrices, Snapshot};
 use prices::{advance, lagrangian, step_of, zero_prices};
-use sample_snapshots::{Sample, VALUE, are_quota_prices_in_range};
+use samples::{Sample, VALUE, are_quota_prices_in_range};
 use std::alloc::Global;
 use std::process::Abort;
 use std::test::Fail;

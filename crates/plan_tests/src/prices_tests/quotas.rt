@@ -3,7 +3,7 @@
 
 use super::play::{Round, assert_rounds};
 use plan_base::Op;
-use sample_snapshots::{ONE, Sample, TWO};
+use samples::{ONE, Sample, TWO};
 use std::test::Fail;
 
 #[test]

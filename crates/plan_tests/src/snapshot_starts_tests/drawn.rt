@@ -2,7 +2,7 @@
 
 use super::random::Draws;
 use plan_base::{Placement, RequestNo, SliceNo, Snapshot, TelescopeNo};
-use sample_snapshots::is_start;
+use samples::is_start;
 use snapshot_starts::{Starts, is_possible, starts};
 use std::alloc::Global;
 use std::process::Abort;

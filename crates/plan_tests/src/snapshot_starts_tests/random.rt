@@ -6,7 +6,7 @@ use plan_base::{
     GroupNo, GroupPart, ListOf, Op, Parts, RequestNo, RequestPart, Sec, SiteNo, Sky, SliceNo,
     Snapshot, Span, TargetNo, TelescopeNo, TelescopePart,
 };
-use sample_snapshots::Random;
+use samples::Random;
 use std::alloc::{AllocError, Global};
 use std::process::Abort;
 use std::test::Fail;

@@ -1,7 +1,7 @@
 // Runs and counts that were worked out by hand.
 
 use plan_base::{Placement, RequestNo, SliceNo, TargetNo, TelescopeNo};
-use sample_snapshots::{Desk, Dish, View, Wish};
+use samples::{Desk, Dish, View, Wish};
 use snapshot_starts::{Run, StartFault, is_possible, starts};
 use std::alloc::{AllocError, Global};
 use std::process::Abort;
