@@ -1,5 +1,5 @@
 -- What stands before and after an insertion, and what a verdict says of a claim.
-use Rattle.std.proofs.Common.{◌≡◌, ℕ, Option, None, Some, refl}
+use Rattle.std.proofs.Common.{◌≡◌, ℕ, List, Option, None, Some, refl, sym, subst}
 use Rattle.plan_base.specs.declared.parts.Parts.{Parts}
 use Rattle.plan_base.specs.declared.parts.GroupPart.{GroupPart}
 use Rattle.plan_base.specs.declared.claim.Claim.{Claim}
@@ -9,7 +9,9 @@ use Rattle.plan_base.specs.Verdict.{IsCertified, IsFirstReason, verdict_of, IsVe
 use Rattle.rapid.specs.declared.inserted.Inserted.{Inserted}
 use Rattle.rapid.specs.Standing.{Standing}
 use Rattle.rapid.specs.Insertion.{IsInsertion}
-use Rattle.rapid.specs.Inside.{standing}
+use Rattle.rapid.specs.Inside.{standing, standing_of, IsMadeOf}
+use Rattle.rapid.specs.declared.making.Made.{Made}
+use Rattle.plan_base.specs.declared.number.RequestNo.{RequestNo}
 
 -- what was displaced before doesn't matter
 pub insertion_from : (before after : Standing) (group : GroupPart) (answer : Inserted) → IsInsertion (standing before.snapshot before.claim) group answer after → IsInsertion before group answer after
@@ -24,6 +26,14 @@ insertion_from before after group answer h = record {
   quota_prices = h.quota_prices;
   certified = h.certified;
 }
+
+-- what an insertion made, once its pieces stand in their places
+pub put_in : (before : Standing) (group : GroupPart) (made : Made) (s : Parts) (claim : Claim) (displaced : List RequestNo) → IsMadeOf before.snapshot before.claim group made → s ≡ made.snapshot → claim ≡ made.claim → displaced ≡ made.displaced
+    → IsInsertion before group made.inserted (record { snapshot = s; claim = claim; displaced = displaced })
+put_in before group made s claim displaced h same_parts same_claim same_displaced =
+    let after : Standing = record { snapshot = s; claim = claim; displaced = displaced } in
+    let same : standing_of made ≡ after = cc in
+    subst (IsInsertion before group made.inserted) same (insertion_from before (standing_of made) group made.inserted h)
 
 yes_not_no : (value bound : ℕ) (reason : Reason) → Yes value bound ≡ No reason → ⊥
 yes_not_no value bound reason e = cc

@@ -101,12 +101,13 @@ fn place_and_price(
         snapshot: &snapshot,
         request,
     };
+    let quota_prices = copied(alloc, &claim.quota_prices)?;
     let pricing = price(alloc, &extension)?;
     let placing = place(alloc, &snapshot, claim.placements.as_slice(), number)?;
     let claim = Claim {
         placements: placing.placements,
         prices: pricing.prices,
-        quota_prices: copied(alloc, &claim.quota_prices)?,
+        quota_prices,
         value: claim.value + placing.gain,
         bound: pricing.bound,
     };

@@ -16,6 +16,7 @@ use bound_checker::check;
 use plan_base::{Claim, GroupPart, ListOf, Reason, RequestNo, Snapshot, Verdict};
 use std::alloc::{AllocError, Global};
 use std::marker::Model;
+use std::mem::replace;
 
 /// A snapshot with a claim that is certified for it. Groups of one request are inserted one after another, and the claim
 /// stays certified, its bound that of its prices. What each telescope gives from each slice on is kept, and an insertion makes
@@ -90,10 +91,11 @@ impl Rapid {
     {
         let tables = self.tables.as_slice();
         let made = make(self.alloc, &self.snapshot, &self.claim, tables, group)?;
-        self.snapshot = made.snapshot;
-        self.claim = made.claim;
-        self.tables = made.tables;
-        self.displaced = made.displaced;
+        // A call drops what stood there. An assignment would drop it here, piece by piece, which the proof would have to follow.
+        drop(replace(&mut self.snapshot, made.snapshot));
+        drop(replace(&mut self.claim, made.claim));
+        drop(replace(&mut self.tables, made.tables));
+        drop(replace(&mut self.displaced, made.displaced));
         Ok(made.inserted)
     }
 

@@ -77,12 +77,12 @@ fn with_refusal(text: Vec<u8>, fault: RapidFault) -> Result<Answer, AllocError>
 }
 
 /// What is written where groups are inserted.
-fn answer_from(alloc: Global, mut rapid: Rapid, groups: &[GroupPart]) -> Result<Answer, AllocError>
+fn answer_from(alloc: Global, rapid: &mut Rapid, groups: &[GroupPart]) -> Result<Answer, AllocError>
     requires { All IsGroupInRanges groups.now }
-    ensures { IfOk result (λ a. IsAnswerFrom rapid groups.now a.text.items a.said) }
+    ensures { IfOk result (λ a. IsAnswerFrom rapid.old groups.now a.text.items a.said) }
 {
     let mut text = Vec::new(alloc);
-    match insert_each(&mut rapid, groups, &mut text) {
+    match insert_each(rapid, groups, &mut text) {
         Ok(()) => Ok(Answer {
             text,
             said: Said::Yes,
@@ -99,7 +99,9 @@ fn answer_to(alloc: Global, document: &RapidDocument) -> Result<Answer, AllocErr
     let publication = &document.publication;
     let claim = publication.claim.copy()?;
     match Rapid::new(alloc, &publication.snapshot, claim)? {
-        RapidAnswer::Ready(rapid) => answer_from(alloc, rapid, document.groups.as_slice()),
+        RapidAnswer::Ready(mut rapid) => {
+            answer_from(alloc, &mut rapid, document.groups.as_slice())
+        }
         RapidAnswer::No(reason) => answer_line(alloc, &VerdictDoc(Verdict::No(reason)), Said::No),
     }
 }

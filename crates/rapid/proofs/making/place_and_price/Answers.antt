@@ -43,5 +43,5 @@ returns-clause-made c = λ group single whole.
     insertion c.args.before.now c.args.snapshot c.args.claim.now group single whole c.recall_valid.ensures.orderly c.recall_valid-2.ensures.orderly c.requires.certified c.last_request-request.result.now
     (the_last c.args.before.now c.args.snapshot c.args.claim.now group single whole c.recall_valid.ensures.orderly c.recall_valid-2.ensures.orderly c.requires.certified c.last_request-request.result.now c.last_request-request.ensures)
     c.in_ok-placing.placing c.in_ok-pricing.pricing _
-    (subst (λ (xs : List Placement). IsPlacedSo c.args.snapshot xs c.last_request-request.result.now.request.0 c.in_ok-placing.placing) c.as_slice.ensures c.in_ok-placing.ensures) c.in_ok-pricing.ensures refl refl c.in_ok-copied.ensures
+    (subst (λ (xs : List Placement). IsPlacedSo c.args.snapshot xs c.last_request-request.result.now.request.0 c.in_ok-placing.placing) c.as_slice.ensures c.in_ok-placing.ensures) c.in_ok-pricing.ensures refl refl c.in_ok-quota_prices.ensures
     refl refl

@@ -2,7 +2,4 @@ use Rattle.rapid.proofs.Answering.{whole_lines, refused_answer}
 use Rattle.rapid.proofs.run.answer_from.Goals as goal
 
 pub returns-in-Ok : goal.returns-in-Ok
-returns-in-Ok c = whole_lines c.args.rapid c.args.groups.now c.insert_each.new.rapid c.new-text.result.items c.insert_each.new.text.items c.new-text.ensures.items c.in-Ok.ensures.ok
-
-pub returns : goal.returns
-returns c = refused_answer c.args.rapid c.args.groups.now c.in-Err.fault c.new-text.result.items c.insert_each.new.text.items c.with_refusal.result c.new-text.ensures.items c.in-Err.ensures.fault c.with_refusal.ensures
+returns-in-Ok c = whole_lines c.args.rapid.now c.args.groups.now c.insert_each.new.rapid c.new-text.result.items c.insert_each.new.text.items c.new-text.ensures.items c.in-Ok.ensures.ok

@@ -2,7 +2,7 @@ use Rattle.std.proofs.Common.{◌≡◌, None, subst}
 use Rattle.rapid.specs.Standing.{Standing}
 use Rattle.rapid.specs.Insertion.{IsInsertion}
 use Rattle.rapid.specs.Refused.{refusal_of}
-use Rattle.rapid.proofs.Standings.{insertion_from}
+use Rattle.rapid.proofs.Standings.{put_in}
 use Rattle.rapid.proofs.rapid.Rapid.insert.Goals as goal
 
 pub make-requires-clause-certified : goal.make-requires-clause-certified
@@ -10,10 +10,12 @@ make-requires-clause-certified c = c.self.invariant.0
 
 pub returns : goal.returns
 returns c =
-    let after : Standing = record { snapshot = c.in_ok-made.made.snapshot; claim = c.in_ok-made.made.claim; displaced = c.in_ok-made.made.displaced } in
+    let made = c.in_ok-made.made in
     let before : Standing = record { snapshot = c.self.inside.snapshot; claim = c.self.inside.claim; displaced = c.self.inside.displaced } in
+    let after : Standing = record { snapshot = c.replace.new.dest; claim = c.replace-2.new.dest; displaced = c.replace-4.new.dest } in
     record {
-      ok = subst (λ (standing : Standing). IsInsertion standing c.args.group c.in_ok-made.made.inserted after) c.self.view_is (insertion_from before after c.args.group c.in_ok-made.made.inserted c.in_ok-made.ensures.ok);
+      ok = subst (λ (standing : Standing). IsInsertion standing c.args.group made.inserted after) c.self.view_is
+          (put_in before c.args.group made c.replace.new.dest c.replace-2.new.dest c.replace-4.new.dest c.in_ok-made.ensures.ok (c.replace.ensures.after) (c.replace-2.ensures.after) (c.replace-4.ensures.after));
       accepted = subst (λ (standing : Standing). refusal_of standing.snapshot c.args.group ≡ None) c.self.view_is c.in_ok-made.ensures.accepted;
       err = tt;
       fault = tt;
