@@ -9,7 +9,7 @@ ghost use Rattle.plan_base.specs.declared.parts.Op.TheVariants.{Single};
 ghost use Rattle.rapid.specs.Insertion.{with_group};
 ghost use Rattle.rapid.specs.Tables.{AreTables};
 ghost use Rattle.rapid.specs.Refused.{is_single, refusal_of, IsGroupInRanges};
-ghost use Rattle.rapid.specs.Inside.{IsExtended, IsMadeOf};
+ghost use Rattle.rapid.specs.Inside.{IsExtended, IsMadeOf, made_of};
 ghost use Rattle.rapid.specs.declared.fault.RapidFault.TheVariants.{NoMemory};
 
 use crate::fault::RapidFault;
@@ -73,6 +73,16 @@ fn copied(alloc: Global, quota_prices: &QuotaPrices) -> Result<QuotaPrices, Allo
     Ok(QuotaPrices(ListOf::from_vec(prices)))
 }
 
+/// A claim on a snapshot with one more group, and what belongs to it.
+#[derive(Drop)]
+pub(crate) struct Priced {
+    pub claim: Claim,
+    /// What each telescope gives from each slice of the horizon on, at the claim's prices.
+    pub tables: ListOf<ListOf<i64>>,
+    pub displaced: ListOf<RequestNo>,
+    pub inserted: Inserted,
+}
+
 /// What comes of a claim where the snapshot has one more request, the one of a `SINGLE`, at its end. Fails only for want of
 /// memory.
 fn place_and_price(
@@ -80,30 +90,30 @@ fn place_and_price(
     before: &Snapshot,
     claim: &Claim,
     tables: &[ListOf<i64>],
-    snapshot: Snapshot,
-) -> Result<Made, AllocError>
+    snapshot: &Snapshot,
+) -> Result<Priced, AllocError>
     requires certified { IsCertified before.now claim.now }
     requires tables { AreTables before.now claim.now.prices.0 tables.now }
-    requires extended { IsExtended before.now snapshot }
-    ensures tables { IfOk result (λ made. AreTables made.snapshot made.claim.prices.0 made.tables) }
-    ensures made { IfOk result (λ made. (group : GroupPart) → group.op ≡ Single → snapshot ≡ with_group before.now group
-        → IsMadeOf before.now claim.now group made) }
+    requires extended { IsExtended before.now snapshot.now }
+    ensures tables { IfOk result (λ priced. AreTables snapshot.now priced.claim.prices.0 priced.tables) }
+    ensures made { IfOk result (λ priced. (group : GroupPart) → group.op ≡ Single → snapshot.now ≡ with_group before.now group
+        → IsMadeOf before.now claim.now group (made_of snapshot.now priced)) }
 {
     before.recall_valid();
     snapshot.recall_valid();
-    value_limit(&snapshot);
-    let request = last_request(&snapshot);
+    value_limit(snapshot);
+    let request = last_request(snapshot);
     let number = request.request;
     let extension = Extension {
         before,
         claim,
         tables,
-        snapshot: &snapshot,
+        snapshot,
         request,
     };
     let quota_prices = copied(alloc, &claim.quota_prices)?;
     let pricing = price(alloc, &extension)?;
-    let placing = place(alloc, &snapshot, claim.placements.as_slice(), number)?;
+    let placing = place(alloc, snapshot, claim.placements.as_slice(), number)?;
     let claim = Claim {
         placements: placing.placements,
         prices: pricing.prices,
@@ -111,8 +121,7 @@ fn place_and_price(
         value: claim.value + placing.gain,
         bound: pricing.bound,
     };
-    Ok(Made {
-        snapshot,
+    Ok(Priced {
         claim,
         tables: pricing.tables,
         displaced: placing.displaced,
@@ -137,5 +146,12 @@ pub(crate) fn make(
     ensures err { IfErr result (λ fault. fault ≢ NoMemory → refusal_of snapshot.now group ≡ Some fault) }
 {
     let extended = with_group(alloc, snapshot, group)?;
-    Ok(place_and_price(alloc, snapshot, claim, tables, extended)?)
+    let priced = place_and_price(alloc, snapshot, claim, tables, &extended)?;
+    Ok(Made {
+        snapshot: extended,
+        claim: priced.claim,
+        tables: priced.tables,
+        displaced: priced.displaced,
+        inserted: priced.inserted,
+    })
 }
