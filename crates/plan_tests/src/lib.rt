@@ -1,4 +1,4 @@
-// Tests of what seeks plans: groups, possible starts, telescopes at prices, rounds and lanes.
+// Tests of what seeks plans: groups, possible starts, telescopes at prices, repairs, rounds and lanes.
 #![tactic(auto)]
 
 #[cfg(test)]
@@ -9,5 +9,7 @@ mod interval_solver_tests;
 mod lanes_tests;
 #[cfg(test)]
 mod prices_tests;
+#[cfg(test)]
+mod repair_tests;
 #[cfg(test)]
 mod snapshot_starts_tests;

@@ -14,4 +14,3 @@ pub mod Sorting
 pub mod Blocked
 pub mod Foremost
 pub mod Repaired
-pub mod Slots

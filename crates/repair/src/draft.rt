@@ -6,13 +6,11 @@ ghost use Rattle.plan_base.specs.Starts.{IsPossibleStart, size_of};
 ghost use Rattle.plan_base.specs.Feasible.{requests_of};
 ghost use Rattle.plan_base.specs.FeasibleSoFar.{IsFeasibleSoFar};
 ghost use Rattle.plan_base.specs.Saturated.{HasNonePlaced};
-ghost use Rattle.groups.specs.Footprints.{first_slot, end_slot};
-ghost use Rattle.groups.specs.Places.{ArePlaces};
 ghost use Rattle.repair.specs.Apart.{IsPossibleRun, HasNoApart, IsFirstApart};
 
 use crate::marks::{clear_marks, first_clear, no_marks, write_marks};
-use groups::{Places, PlanBuild};
-use plan_base::{Placement, RequestNo, SliceNo, Snapshot, slices_for};
+use groups::{PlanBuild, Slots};
+use plan_base::{Placement, RequestNo, SliceNo, Snapshot};
 use snapshot_starts::Run;
 use std::alloc::{AllocError, Global};
 use std::marker::Model;
@@ -36,13 +34,6 @@ impl<'a> Model for Draft<'a> {
     ghost view = { λ a. a.build };
 
     ghost invariant = { λ a. IsDraft a.snapshot.now a.build a.marks.items };
-}
-
-/// The slots of a placement on a telescope: the first, and the one after the last.
-#[derive(Clone, Copy, Debug)]
-pub(crate) struct Slots {
-    pub from: usize,
-    pub to: usize,
 }
 
 impl<'a> Draft<'a> {
@@ -108,7 +99,7 @@ impl<'a> Draft<'a> {
         ensures { self.new ≡ record { snapshot = self.old.snapshot; placed = self.old.placed ++ start ∷ [] } }
     {
         self.recall();
-        let slots = slots_of(self.snapshot, self.build.places(), start);
+        let slots = Slots::of(self.snapshot, self.build.places(), start);
         self.build.add(start);
         write_marks(&mut self.marks, slots.from, slots.to, slots.to as u16);
     }
@@ -120,7 +111,7 @@ impl<'a> Draft<'a> {
     {
         self.recall();
         let start = last_of(self.build.placed());
-        let slots = slots_of(self.snapshot, self.build.places(), start);
+        let slots = Slots::of(self.snapshot, self.build.places(), start);
         let _ = self.build.remove(start.request);
         write_marks(&mut self.marks, slots.from, slots.to, 0);
     }
@@ -173,22 +164,4 @@ fn last_of(placed: &[Placement]) -> Placement
     ensures { HoldsAt (λ start. start ≡ result) placed.now (length placed.now - 1) }
 {
     placed[placed.len() - 1]
-}
-
-/// The slots that a possible start occupies.
-pub(crate) fn slots_of(snapshot: &Snapshot, places: &Places, start: Placement) -> Slots
-    requires places { ArePlaces snapshot.now places.now }
-    requires possible { IsPossibleStart snapshot.now start }
-    ensures from { result.from ≡ first_slot snapshot.now start }
-    ensures to { result.to ≡ end_slot snapshot.now start }
-{
-    let parts = snapshot.parts();
-    let place = places.known_place(snapshot, start.request);
-    let seconds = u64::from(snapshot.request_at(place).seconds);
-    let row = usize::from(start.telescope.0) * parts.slices as usize;
-    let from = row + (start.slice.0 - parts.first.0) as usize;
-    Slots {
-        from,
-        to: from + slices_for(u64::from(parts.len), seconds) as usize,
-    }
 }

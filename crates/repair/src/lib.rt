@@ -12,8 +12,6 @@ mod offers;
 mod order;
 mod ranked;
 mod repairer;
-#[cfg(test)]
-mod tests;
 mod trials;
 mod visit;
 mod wholes;

@@ -2,7 +2,7 @@
 
 use crate::fault::SampleFault;
 use crate::make::{groups_of, skies_of, snapshot_of, telescopes_of};
-use plan_base::{ListOf, Parts, SliceNo, Snapshot, TargetNo, TelescopeNo};
+use plan_base::{ListOf, Op, Parts, SliceNo, Snapshot, TargetNo, TelescopeNo};
 use std::alloc::{AllocError, Global};
 
 /// A telescope.
@@ -42,6 +42,26 @@ pub struct Wish<'a> {
     pub targets: &'a [TargetNo],
 }
 
+/// A group that is wished for.
+#[derive(Clone, Copy)]
+pub struct GroupWish<'a> {
+    /// Its kind.
+    pub op: Op,
+    /// The place of the quota that it names, if it names one.
+    pub quota: Option<u16>,
+    /// Its requests.
+    pub wishes: &'a [Wish<'a>],
+}
+
+/// The groups of a desk. Groups and requests are numbered from 1 on.
+#[derive(Clone, Copy)]
+pub enum Groups<'a> {
+    /// A group of its own for each request.
+    Singles(&'a [Wish<'a>]),
+    /// Groups of any kind.
+    Of(&'a [GroupWish<'a>]),
+}
+
 /// A horizon, what can observe in it, and what is wished for.
 #[derive(Clone, Copy)]
 pub struct Desk<'a> {
@@ -55,8 +75,9 @@ pub struct Desk<'a> {
     pub dishes: &'a [Dish<'a>],
     /// The skies, in rising order of target, then site.
     pub views: &'a [View<'a>],
-    /// The requests, numbered from 1 on, each in a group of its own with the same number.
-    pub wishes: &'a [Wish<'a>],
+    pub groups: Groups<'a>,
+    /// The seconds of each quota.
+    pub quotas: &'a [u64],
 }
 
 impl<'a> Desk<'a> {
@@ -77,8 +98,8 @@ fn parts_of(alloc: Global, desk: &Desk) -> Result<Box<Parts>, AllocError> {
             slices: desk.slices,
             telescopes: Box::into_inner(telescopes_of(alloc, desk.dishes)?),
             skies: Box::into_inner(skies_of(alloc, desk.views)?),
-            groups: Box::into_inner(groups_of(alloc, desk.wishes)?),
-            quotas: ListOf::new(alloc),
+            groups: Box::into_inner(groups_of(alloc, desk.groups)?),
+            quotas: ListOf::from_vec(Vec::from_slice(alloc, desk.quotas)?),
         },
     )?)
 }

@@ -11,7 +11,7 @@ mod ranges;
 mod sample;
 mod seconds;
 
-pub use desk::{Desk, Dish, View, Wish};
+pub use desk::{Desk, Dish, GroupWish, Groups, View, Wish};
 pub use fault::SampleFault;
 pub use lists::{Found, best_of_all, find_starts};
 pub use random::Random;

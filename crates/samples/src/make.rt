@@ -1,6 +1,6 @@
 // The parts that snapshots are made of. What is made is boxed, so that no proof looks into it.
 
-use crate::desk::{Dish, View, Wish};
+use crate::desk::{Dish, GroupWish, Groups, View, Wish};
 use crate::fault::SampleFault;
 use plan_base::{
     GroupNo, GroupPart, ListOf, Op, Parts, RequestNo, RequestPart, Sec, SiteNo, Sky, Snapshot,
@@ -54,39 +54,76 @@ pub(crate) fn skies_of(alloc: Global, views: &[View]) -> Result<Box<ListOf<Sky>>
     Ok(Box::new(alloc, skies)?)
 }
 
-/// A group of its own for each wish, numbered from 1 on, with the request of the same number.
 pub(crate) fn groups_of(
     alloc: Global,
-    wishes: &[Wish],
+    groups: Groups,
 ) -> Result<Box<ListOf<GroupPart>>, AllocError> {
+    match groups {
+        Groups::Singles(wishes) => singles_of(alloc, wishes),
+        Groups::Of(groups) => groups_with(alloc, groups),
+    }
+}
+
+/// The last numbers that groups and requests were given.
+#[derive(Clone, Copy)]
+struct Last {
+    group: u32,
+    request: u32,
+}
+
+fn singles_of(alloc: Global, wishes: &[Wish]) -> Result<Box<ListOf<GroupPart>>, AllocError> {
     let mut groups = ListOf::new(alloc);
-    let mut number = 0u32;
-    for wish in wishes {
-        number = number.saturating_add(1);
-        groups.push(Box::into_inner(single_of(alloc, number, wish)?))?;
+    let mut last = Last {
+        group: 0,
+        request: 0,
+    };
+    for index in 0..wishes.len() {
+        let group = GroupWish {
+            op: Op::Single,
+            quota: None,
+            wishes: &wishes[index..=index],
+        };
+        groups.push(Box::into_inner(group_of(alloc, group, &mut last)?))?;
     }
     Ok(Box::new(alloc, groups)?)
 }
 
-fn single_of(alloc: Global, number: u32, wish: &Wish) -> Result<Box<GroupPart>, AllocError> {
+fn groups_with(alloc: Global, wished: &[GroupWish]) -> Result<Box<ListOf<GroupPart>>, AllocError> {
+    let mut groups = ListOf::new(alloc);
+    let mut last = Last {
+        group: 0,
+        request: 0,
+    };
+    for group in wished {
+        groups.push(Box::into_inner(group_of(alloc, *group, &mut last)?))?;
+    }
+    Ok(Box::new(alloc, groups)?)
+}
+
+/// The group, with the numbers after the last ones.
+fn group_of(
+    alloc: Global,
+    group: GroupWish,
+    last: &mut Last,
+) -> Result<Box<GroupPart>, AllocError> {
+    last.group = last.group.saturating_add(1);
     let mut requests = ListOf::new(alloc);
-    requests.push(Box::into_inner(request_of(alloc, number, wish)?))?;
+    for wish in group.wishes {
+        last.request = last.request.saturating_add(1);
+        requests.push(Box::into_inner(request_of(alloc, last.request, wish)?))?;
+    }
     Ok(Box::new(
         alloc,
         GroupPart {
-            group: GroupNo(number),
-            op: Op::Single,
+            group: GroupNo(last.group),
+            op: group.op,
             requests,
-            quota: None,
+            quota: group.quota,
         },
     )?)
 }
 
-pub(crate) fn request_of(
-    alloc: Global,
-    number: u32,
-    wish: &Wish,
-) -> Result<Box<RequestPart>, AllocError> {
+fn request_of(alloc: Global, number: u32, wish: &Wish) -> Result<Box<RequestPart>, AllocError> {
     Ok(Box::new(
         alloc,
         RequestPart {

@@ -1,12 +1,8 @@
 // What a sample has, and its snapshot.
 
-use crate::desk::{Dish, Wish};
+use crate::desk::{Desk, Dish, GroupWish, Groups, Wish};
 use crate::fault::SampleFault;
-use crate::make::{request_of, snapshot_of, telescopes_of};
-use plan_base::{
-    GroupNo, GroupPart, ListOf, Op, Parts, RequestPart, SliceNo, Snapshot, TelescopeNo,
-    TelescopePart, repeated,
-};
+use plan_base::{Op, Snapshot, TelescopeNo, repeated};
 use std::alloc::{AllocError, Global};
 
 /// The value of each request, in thousandths.
@@ -53,90 +49,92 @@ impl<'a> Sample<'a> {
     /// The snapshot that has this, boxed, so that no proof looks into it. The error is a number out of its range, what
     /// [`Snapshot::build`] finds, or want of memory.
     pub fn snapshot(&self, alloc: Global) -> Result<Box<Snapshot>, SampleFault> {
-        snapshot_of(alloc, parts_of(alloc, self)?)
+        let telescopes = numbers_of(alloc, self.telescopes)?;
+        let windows = [self.window];
+        let wish = Wish {
+            seconds: 300,
+            value: VALUE,
+            fade: self.fade,
+            windows: &windows,
+            telescopes: telescopes.as_slice(),
+            targets: &[],
+        };
+        self.snapshot_of(alloc, wish)
     }
-}
 
-fn parts_of(alloc: Global, sample: &Sample) -> Result<Box<Parts>, AllocError> {
-    Ok(Box::new(
-        alloc,
-        Parts {
-            version: 0,
+    /// The snapshot whose requests are all of this kind.
+    fn snapshot_of(&self, alloc: Global, wish: Wish) -> Result<Box<Snapshot>, SampleFault> {
+        let wishes = repeated(alloc, wish, self.most_requests())?;
+        let groups = self.groups_of(alloc, wishes.as_slice())?;
+        self.snapshot_with(alloc, groups.as_slice())
+    }
+
+    /// The snapshot that has these groups.
+    fn snapshot_with(
+        &self,
+        alloc: Global,
+        groups: &[GroupWish],
+    ) -> Result<Box<Snapshot>, SampleFault> {
+        let usable = [self.usable];
+        let dish = Dish {
+            site: 0,
+            usable: &usable,
+        };
+        let dishes = repeated(alloc, dish, usize::from(self.telescopes))?;
+        let quotas = self.quotas(alloc)?;
+        let desk = Desk {
             len: 300,
-            first: SliceNo(0),
+            first: 0,
             slices: 12,
-            telescopes: Box::into_inner(dishes_of(alloc, sample)?),
-            skies: ListOf::new(alloc),
-            groups: Box::into_inner(groups_of(alloc, sample)?),
-            quotas: quotas_of(alloc, sample)?,
-        },
-    )?)
-}
-
-fn dishes_of(alloc: Global, sample: &Sample) -> Result<Box<ListOf<TelescopePart>>, AllocError> {
-    let usable = [sample.usable];
-    let dish = Dish {
-        site: 0,
-        usable: &usable,
-    };
-    let dishes = repeated(alloc, dish, usize::from(sample.telescopes))?;
-    telescopes_of(alloc, dishes.as_slice())
-}
-
-fn quotas_of(alloc: Global, sample: &Sample) -> Result<ListOf<u64>, AllocError> {
-    let mut quotas = ListOf::new(alloc);
-    if let Some(quota) = sample.quota {
-        quotas.push(quota)?;
+            dishes: dishes.as_slice(),
+            views: &[],
+            groups: Groups::Of(groups),
+            quotas: quotas.as_slice(),
+        };
+        desk.snapshot(alloc)
     }
-    Ok(quotas)
-}
 
-fn groups_of(alloc: Global, sample: &Sample) -> Result<Box<ListOf<GroupPart>>, AllocError> {
-    let telescopes = numbers_of(alloc, sample.telescopes)?;
-    let windows = [sample.window];
-    let wish = Wish {
-        seconds: 300,
-        value: VALUE,
-        fade: sample.fade,
-        windows: &windows,
-        telescopes: telescopes.as_slice(),
-        targets: &[],
-    };
-    let mut groups = ListOf::new(alloc);
-    let mut number = 0u32;
-    let mut request = 0u32;
-    for (op, count) in sample.groups {
-        number = number.saturating_add(1);
-        groups.push(GroupPart {
-            group: GroupNo(number),
-            op: *op,
-            requests: Box::into_inner(requests_of(alloc, &wish, &mut request, *count)?),
-            quota: sample.quota.map(|_| 0),
-        })?;
+    /// How many requests the greatest group has.
+    fn most_requests(&self) -> usize {
+        self.groups
+            .iter()
+            .map(|(_, count)| *count)
+            .max()
+            .unwrap_or(0)
     }
-    Ok(Box::new(alloc, groups)?)
+
+    /// The groups, each with the first of these requests.
+    fn groups_of<'b>(
+        &self,
+        alloc: Global,
+        wishes: &'b [Wish<'b>],
+    ) -> Result<Vec<GroupWish<'b>>, AllocError> {
+        let mut groups = Vec::new(alloc);
+        for (op, count) in self.groups {
+            groups.push(GroupWish {
+                op: *op,
+                quota: self.quota.map(|_| 0),
+                wishes: &wishes[..wishes.len().min(*count)],
+            })?;
+        }
+        Ok(groups)
+    }
+
+    /// The seconds of the quota, if there is one.
+    fn quotas(&self, alloc: Global) -> Result<Vec<u64>, AllocError> {
+        let mut quotas = Vec::new(alloc);
+        if let Some(quota) = self.quota {
+            quotas.push(quota)?;
+        }
+        Ok(quotas)
+    }
 }
 
 /// The numbers of so many telescopes.
 fn numbers_of(alloc: Global, count: u16) -> Result<Vec<TelescopeNo>, AllocError> {
     let mut numbers = Vec::new(alloc);
     for number in 0..count {
-        numbers.push(TelescopeNo(number)).map_err(AllocError::from)?;
+        numbers.push(TelescopeNo(number))?;
     }
     Ok(numbers)
-}
-
-/// So many requests, with the numbers after the last one.
-fn requests_of(
-    alloc: Global,
-    wish: &Wish,
-    last: &mut u32,
-    count: usize,
-) -> Result<Box<ListOf<RequestPart>>, AllocError> {
-    let mut requests = ListOf::new(alloc);
-    for _ in 0..count {
-        *last = last.saturating_add(1);
-        requests.push(Box::into_inner(request_of(alloc, *last, wish)?))?;
-    }
-    Ok(Box::new(alloc, requests)?)
 }

@@ -3,10 +3,10 @@
 ghost use Rattle.std.specs.Prelude.{◌≡◌, ◌≤◌, ◌⊎◌, [], length, IsTrue, All};
 ghost use Rattle.plan_base.specs.Verdict.{IsPriceInRange};
 
-use super::desk::{Asked, snapshot_of};
+use super::desk::{snapshot_of, wish_for};
 use groups::net;
 use plan_base::{ListOf, Op, Prices, QuotaPrices, Snapshot};
-use samples::{are_in_range, are_quota_prices_in_range};
+use samples::{GroupWish, SampleFault, are_in_range, are_quota_prices_in_range};
 use std::alloc::Global;
 use std::process::Abort;
 use std::test::Fail;
@@ -25,30 +25,30 @@ struct Row<'a> {
 }
 
 /// A group that names no quota, two that name the first and one that names the second.
-fn snapshot(rt: &impl Abort, alloc: Global) -> Result<Box<Snapshot>, Fail> {
+fn snapshot(alloc: Global) -> Result<Box<Snapshot>, SampleFault> {
     let groups = [
-        Asked {
+        GroupWish {
             op: Op::Single,
             quota: None,
-            seconds: &[300],
+            wishes: &[wish_for(300)],
         },
-        Asked {
+        GroupWish {
             op: Op::Many,
             quota: Some(0),
-            seconds: &[300, 600],
+            wishes: &[wish_for(300), wish_for(600)],
         },
-        Asked {
+        GroupWish {
             op: Op::And,
             quota: Some(1),
-            seconds: &[86_400, 1],
+            wishes: &[wish_for(86_400), wish_for(1)],
         },
-        Asked {
+        GroupWish {
             op: Op::OneOf,
             quota: Some(0),
-            seconds: &[299],
+            wishes: &[wish_for(299)],
         },
     ];
-    snapshot_of(rt, alloc, &groups, &[1000, 0])
+    snapshot_of(alloc, &groups, &[1000, 0])
 }
 
 /// Whether prices and quota prices are such as a claim may have.
@@ -70,7 +70,7 @@ fn are_counted(snapshot: &Snapshot, quota_prices: &QuotaPrices) -> bool
 }
 
 fn assert_row(rt: &impl Abort, alloc: Global, row: &Row) -> Result<(), Fail> {
-    let snapshot = snapshot(rt, alloc)?;
+    let snapshot = snapshot(alloc)?;
     assert_nets(rt, alloc, &snapshot, row)
 }
 

@@ -3,15 +3,23 @@
 ghost use Rattle.std.specs.Prelude.{◌≡◌, ◌↔◌, IsTrue, All};
 ghost use Rattle.plan_base.specs.NetPrices.{IsNetInRange};
 
-use super::desk::{Asked, snapshot_of};
+use super::desk::{WISH, snapshot_of};
 use groups::{choice, rebate};
-use plan_base::{ListOf, Op, Prices, Snapshot};
+use plan_base::{ListOf, Op, Prices, Snapshot, repeated};
+use samples::{GroupWish, SampleFault};
 use std::alloc::{AllocError, Global};
 use std::process::Abort;
 use std::test::Fail;
 
 /// The greatest net price that there may be; its negative is the least.
 const MOST: i64 = 2_000_000_000_000;
+
+/// A group of one request.
+const NEIGHBOUR: GroupWish = GroupWish {
+    op: Op::Single,
+    quota: None,
+    wishes: &[WISH],
+};
 
 /// The net prices of a group, what it gives, and which of its requests it takes.
 #[derive(Clone, Copy)]
@@ -23,19 +31,14 @@ struct Row<'a> {
 }
 
 /// A group of this kind between two groups of one request each.
-fn group_of(rt: &impl Abort, alloc: Global, op: Op, count: usize) -> Result<Box<Snapshot>, Fail> {
-    let seconds = vec![in alloc; 300; count]?;
-    let neighbour = Asked {
-        op: Op::Single,
-        quota: None,
-        seconds: &[300],
-    };
-    let group = Asked {
+fn group_of(alloc: Global, op: Op, count: usize) -> Result<Box<Snapshot>, SampleFault> {
+    let wishes = repeated(alloc, WISH, count)?;
+    let group = GroupWish {
         op,
         quota: None,
-        seconds: seconds.as_slice(),
+        wishes: wishes.as_slice(),
     };
-    snapshot_of(rt, alloc, &[neighbour, group, neighbour], &[])
+    snapshot_of(alloc, &[NEIGHBOUR, group, NEIGHBOUR], &[])
 }
 
 /// The prices of a group between two neighbours of the greatest price.
@@ -56,7 +59,7 @@ fn are_in_range(prices: &[i64]) -> bool
 }
 
 fn assert_row(rt: &impl Abort, alloc: Global, row: &Row) -> Result<(), Fail> {
-    let snapshot = group_of(rt, alloc, row.op, row.prices.len())?;
+    let snapshot = group_of(alloc, row.op, row.prices.len())?;
     let prices = prices_of(alloc, row.prices)?;
     assert!(rt; snapshot.parts().groups.len() == 3);
     assert!(rt; prices.0.len() == snapshot.request_count());

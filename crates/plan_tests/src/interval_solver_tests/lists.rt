@@ -3,7 +3,7 @@
 use super::{Answer, assert_answer};
 use interval_solver::Solver;
 use plan_base::{Placement, Snapshot, TelescopeNo};
-use samples::{Desk, Dish, Found, Random, SampleFault, Wish, best_of_all, find_starts};
+use samples::{Desk, Dish, Found, Groups, Random, SampleFault, Wish, best_of_all, find_starts};
 use snapshot_starts::starts;
 use std::alloc::{AllocError, Global};
 use std::process::Abort;
@@ -154,7 +154,7 @@ fn answer_of(
     })
 }
 
-/// Asserts what the solver of a telescope answers at prices, and then at others. Returns how many starts that were.
+/// Asserts what the solver of a telescope answers at prices, and then at others: how many starts it chose in all.
 fn assert_telescope<R: Threads + Sync + Abort>(
     rt: &R,
     alloc: Global,
@@ -189,13 +189,24 @@ fn snapshot(
             usable: &usable[1],
         },
     ];
+    let wishes = [drawn[0].wish(), drawn[1].wish(), drawn[2].wish()];
+    snapshot_of(alloc, &dishes, &wishes)
+}
+
+/// The snapshot of these telescopes and requests.
+fn snapshot_of<'a>(
+    alloc: Global,
+    dishes: &'a [Dish<'a>],
+    wishes: &'a [Wish<'a>],
+) -> Result<Box<Snapshot>, SampleFault> {
     let desk = Desk {
         len: LEN,
         first: FIRST,
         slices: END - FIRST,
-        dishes: &dishes,
+        dishes,
         views: &[],
-        wishes: &[drawn[0].wish(), drawn[1].wish(), drawn[2].wish()],
+        groups: Groups::Singles(wishes),
+        quotas: &[],
     };
     desk.snapshot(alloc)
 }

@@ -5,7 +5,7 @@ ghost use Rattle.std.specs.Prelude.{◌≡◌};
 use super::{Answer, assert_answer};
 use interval_solver::Solver;
 use plan_base::{Placement, RequestNo, SliceNo, Snapshot, TelescopeNo};
-use samples::{Desk, Dish, Wish};
+use samples::{Desk, Dish, Groups, Wish};
 use snapshot_starts::starts;
 use std::alloc::{AllocError, Global};
 use std::process::Abort;
@@ -32,7 +32,8 @@ const MINUTES: Desk = Desk {
         usable: &[(0, 180)],
     }; 2],
     views: &[],
-    wishes: &[],
+    groups: Groups::Singles(&[]),
+    quotas: &[],
 };
 
 fn wish(seconds: u32, value: u32, fade: u16) -> Wish<'static> {
@@ -87,7 +88,8 @@ fn assert_desk<R: Threads + Sync + Abort>(
     wishes: &[Wish],
     rows: &[Row],
 ) -> Result<(), Fail> {
-    let snapshot = Desk { wishes, ..*desk }.snapshot(alloc)?;
+    let groups = Groups::Singles(wishes);
+    let snapshot = Desk { groups, ..*desk }.snapshot(alloc)?;
     let list = starts(rt, alloc, &snapshot)?;
     let mut solver = Solver::new(alloc, TelescopeNo(0), &snapshot, &list)?;
     assert!(rt; solver.chosen().is_empty());

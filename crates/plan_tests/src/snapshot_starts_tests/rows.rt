@@ -1,7 +1,7 @@
 // Runs and counts that were worked out by hand.
 
 use plan_base::{Placement, RequestNo, SliceNo, TargetNo, TelescopeNo};
-use samples::{Desk, Dish, View, Wish};
+use samples::{Desk, Dish, Groups, View, Wish};
 use snapshot_starts::{Run, StartFault, is_possible, starts};
 use std::alloc::{AllocError, Global};
 use std::process::Abort;
@@ -40,13 +40,13 @@ fn wish_for<'a>(
 }
 
 /// Asserts that one request on telescopes of one site has these runs, with slices of 300 seconds.
-fn check_runs<R: Threads + Sync + Abort>(
+fn check_runs<'a, R: Threads + Sync + Abort>(
     rt: &R,
     alloc: Global,
     slices: u32,
-    dishes: &[Dish],
-    views: &[View],
-    wish: Wish,
+    dishes: &'a [Dish<'a>],
+    views: &'a [View<'a>],
+    wish: Wish<'a>,
     runs: &[Run],
 ) -> Result<(), Fail> {
     let desk = Desk {
@@ -55,7 +55,8 @@ fn check_runs<R: Threads + Sync + Abort>(
         slices,
         dishes,
         views,
-        wishes: &[wish],
+        groups: Groups::Singles(&[wish]),
+        quotas: &[],
     };
     let snapshot = desk.snapshot(alloc)?;
     let list = starts(rt, alloc, &snapshot)?;
@@ -145,7 +146,8 @@ fn full_desk<'a>(dishes: &'a [Dish<'a>], wishes: &'a [Wish<'a>]) -> Desk<'a> {
         slices: 1440,
         dishes,
         views: &[],
-        wishes,
+        groups: Groups::Singles(wishes),
+        quotas: &[],
     }
 }
 

@@ -5,11 +5,11 @@ ghost use Rattle.plan_base.specs.Starts.{IsPossibleStart};
 ghost use Rattle.plan_base.specs.Feasible.{IsDisjoint};
 ghost use Rattle.groups.specs.Places.{ArePlaces};
 
-use super::{Wish, listed, make_wish, snapshot};
-use crate::Repairer;
-use crate::draft::slots_of;
-use groups::Places;
+use super::{BOTH, DISH, WISH, counted, group_of, listed, snapshot_of};
+use groups::{Places, Slots};
 use plan_base::{Op, Placement, RequestNo, SliceNo, Snapshot, TelescopeNo};
+use repair::Repairer;
+use samples::Wish;
 use snapshot_starts::{is_possible, starts};
 use std::alloc::{AllocError, Global};
 use std::process::Abort;
@@ -57,8 +57,8 @@ fn are_apart(snapshot: &Snapshot, places: &Places, starts: &[Placement]) -> bool
     ensures { result ≡ true → IsDisjoint snapshot.now starts.now }
 {
     for index in 1..starts.len() {
-        let before = slots_of(snapshot, places, starts[index - 1]);
-        let after = slots_of(snapshot, places, starts[index]);
+        let before = Slots::of(snapshot, places, starts[index - 1]);
+        let after = Slots::of(snapshot, places, starts[index]);
         if after.from < before.to {
             return false;
         }
@@ -111,12 +111,9 @@ fn assert_rows<R: Threads + Sync + Abort>(
 fn first_start_of_a_request_is_added_and_the_other_is_filled_in(
     rt: HostRuntime,
 ) -> Result<(), Fail> {
-    let alloc = rt.alloc();
-    let wishes = [
-        make_wish(1, 1, 50_000, 0, 12),
-        make_wish(2, 1, 50_000, 0, 12),
-    ];
-    let snapshot = snapshot(alloc, 1, &[Op::Single, Op::Single], &wishes, None)?;
+    let single = [WISH];
+    let groups = [group_of(Op::Single, &single); 2];
+    let snapshot = snapshot_of(rt.alloc(), &[DISH], &groups, &[])?;
     let chosen = [
         (1, 0, 0),
         (1, 0, 1),
@@ -136,52 +133,60 @@ fn first_start_of_a_request_is_added_and_the_other_is_filled_in(
         value: 100_000,
         plan: &[(1, 0, 0), (2, 0, 1)],
     };
-    assert_rows(&rt, alloc, &snapshot, &[row])
+    assert_rows(&rt, rt.alloc(), &snapshot, &[row])
 }
 
 #[test]
 fn delay_takes_from_the_value(rt: HostRuntime) -> Result<(), Fail> {
-    let alloc = rt.alloc();
-    let fading = Wish {
-        fade: 100,
-        ..make_wish(1, 1, 50_000, 0, 12)
-    };
-    let wishes = [fading, make_wish(2, 3, 10, 0, 3)];
-    let snapshot = snapshot(alloc, 1, &[Op::Single, Op::Single], &wishes, None)?;
+    let fading = [Wish { fade: 100, ..WISH }];
+    let long = [Wish {
+        seconds: 900,
+        value: 10,
+        windows: &[(0, 900)],
+        ..WISH
+    }];
+    let groups = [group_of(Op::Single, &fading), group_of(Op::Single, &long)];
+    let snapshot = snapshot_of(rt.alloc(), &[DISH], &groups, &[])?;
     let row = Row {
         chosen: &[(2, 0, 0)],
         value: 35_010,
         plan: &[(2, 0, 0), (1, 0, 3)],
     };
-    assert_rows(&rt, alloc, &snapshot, &[row])
+    assert_rows(&rt, rt.alloc(), &snapshot, &[row])
 }
 
 #[test]
 fn start_of_greater_worth_goes_first(rt: HostRuntime) -> Result<(), Fail> {
-    let alloc = rt.alloc();
-    let fading = Wish {
+    let fading = [Wish {
+        value: 60_000,
         fade: 100,
-        ..make_wish(1, 1, 60_000, 0, 12)
-    };
-    let wishes = [fading, make_wish(2, 1, 50_000, 0, 12)];
-    let snapshot = snapshot(alloc, 2, &[Op::Single, Op::Single], &wishes, Some(300))?;
+        telescopes: BOTH,
+        ..WISH
+    }];
+    let steady = [Wish {
+        telescopes: BOTH,
+        ..WISH
+    }];
+    let groups = [counted(&fading), counted(&steady)];
+    let snapshot = snapshot_of(rt.alloc(), &[DISH, DISH], &groups, &[300])?;
     let row = Row {
         chosen: &[(1, 0, 5), (2, 1, 0)],
         value: 50_000,
         plan: &[(2, 1, 0)],
     };
-    assert_rows(&rt, alloc, &snapshot, &[row])
+    assert_rows(&rt, rt.alloc(), &snapshot, &[row])
 }
 
 #[test]
 fn and_is_added_whole_or_left_to_fill(rt: HostRuntime) -> Result<(), Fail> {
-    let alloc = rt.alloc();
-    let wishes = [
-        make_wish(1, 1, 50_000, 0, 12),
-        make_wish(1, 1, 60_000, 0, 12),
-        make_wish(2, 1, 10, 0, 12),
-    ];
-    let snapshot = snapshot(alloc, 1, &[Op::And, Op::Single], &wishes, None)?;
+    let greater = Wish {
+        value: 60_000,
+        ..WISH
+    };
+    let members = [WISH, greater];
+    let single = [Wish { value: 10, ..WISH }];
+    let groups = [group_of(Op::And, &members), group_of(Op::Single, &single)];
+    let snapshot = snapshot_of(rt.alloc(), &[DISH], &groups, &[])?;
     let whole = Row {
         chosen: &[(1, 0, 4), (2, 0, 6), (1, 0, 8)],
         value: 110_010,
@@ -192,5 +197,5 @@ fn and_is_added_whole_or_left_to_fill(rt: HostRuntime) -> Result<(), Fail> {
         value: 110_010,
         plan: &[(1, 0, 0), (2, 0, 1), (3, 0, 2)],
     };
-    assert_rows(&rt, alloc, &snapshot, &[whole, left])
+    assert_rows(&rt, rt.alloc(), &snapshot, &[whole, left])
 }

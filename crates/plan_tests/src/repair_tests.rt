@@ -1,0 +1,77 @@
+// Plans of small desks, worked out by hand.
+
+use plan_base::{Op, Placement, Snapshot, TelescopeNo};
+use samples::{ALL_DAY, Desk, Dish, GroupWish, Groups, SampleFault, Wish};
+use std::alloc::{AllocError, Global};
+
+mod greedy;
+mod repairs;
+
+/// A telescope that can be used in the whole horizon.
+const DISH: Dish = Dish {
+    site: 0,
+    usable: &[ALL_DAY],
+};
+
+/// A request of one slice on telescope 0, at any time.
+const WISH: Wish = Wish {
+    seconds: 300,
+    value: 50_000,
+    fade: 0,
+    windows: &[ALL_DAY],
+    telescopes: &[TelescopeNo(0)],
+    targets: &[],
+};
+
+/// Telescopes 0 and 1.
+const BOTH: &[TelescopeNo] = &[TelescopeNo(0), TelescopeNo(1)];
+
+/// A group of this kind that names no quota.
+fn group_of<'a>(op: Op, wishes: &'a [Wish<'a>]) -> GroupWish<'a> {
+    GroupWish {
+        op,
+        quota: None,
+        wishes,
+    }
+}
+
+/// A group of one request that names the first quota.
+fn counted<'a>(wishes: &'a [Wish<'a>]) -> GroupWish<'a> {
+    GroupWish {
+        op: Op::Single,
+        quota: Some(0),
+        wishes,
+    }
+}
+
+/// The snapshot of these groups: twelve slices of 300 seconds on these telescopes, and quotas of so many seconds.
+fn snapshot_of(
+    alloc: Global,
+    dishes: &[Dish],
+    groups: &[GroupWish],
+    quotas: &[u64],
+) -> Result<Box<Snapshot>, SampleFault> {
+    let desk = Desk {
+        len: 300,
+        first: 0,
+        slices: 12,
+        dishes,
+        views: &[],
+        groups: Groups::Of(groups),
+        quotas,
+    };
+    desk.snapshot(alloc)
+}
+
+/// The placements as request, telescope and slice.
+fn listed(alloc: Global, plan: &[Placement]) -> Result<Vec<(u32, u16, u32)>, AllocError> {
+    let mut list = Vec::new(alloc);
+    for placement in plan {
+        list.push((
+            placement.request.0,
+            placement.telescope.0,
+            placement.slice.0,
+        ))?;
+    }
+    Ok(list)
+}
