@@ -1,5 +1,5 @@
 -- What is written of a document.
-use Rattle.std.proofs.Common.{◌≡◌, ◌≢◌, ℕ, List, [], ◌++◌, Result, Ok, Err, IfOk, sym, ◌∙◌, ap, subst}
+use Rattle.std.proofs.Common.{◌≡◌, ℕ, List, [], ◌++◌, Result, Ok, Err, IfOk, sym, ◌∙◌, ap, subst}
 use Rattle.plan_base.specs.declared.parts.GroupPart.{GroupPart}
 use Rattle.plan_base.specs.declared.claim.Claim.{Claim}
 use Rattle.plan_base.specs.declared.verdict.Reason.{Reason}
@@ -16,10 +16,7 @@ use Rattle.rapid.specs.declared.rapid.RapidAnswer.TheVariants.{Ready, No}
 use Rattle.rapid.specs.Standing.{Standing}
 use Rattle.rapid.specs.Answer.{IsAnswer}
 use Rattle.rapid.specs.Run.{WritesEach, opening, IsOpen, IsAnswerTo}
-use Rattle.rapid.specs.declared.fault.RapidFault.{RapidFault}
-use Rattle.rapid.specs.declared.fault.RapidFault.TheVariants.{NoMemory}
-use Rattle.rapid.specs.Lines.{AreLinesOf, IsStoppedAt, IsRefusalAdded, IsAnswerFrom}
-use Rattle.rapid.proofs.Writing.{cut_off}
+use Rattle.rapid.specs.Lines.{AreLinesOf, IsAnswerFrom}
 
 pub whole_lines : (first : Standing) (groups : List GroupPart) (after : Standing) (start text : List ℕ) → start ≡ [] → AreLinesOf first groups after start text → (x : Standing) × WritesEach first groups text x
 whole_lines first groups after start text e h = (after, subst (λ (t : List ℕ). WritesEach first groups t after) (sym (h.2 ∙ ap (λ (t : List ℕ). t ++ h.0) e)) h.1)
@@ -48,10 +45,3 @@ no_answer d claim answer reason r same h e text what =
     let no : IsVerdict d.publication.snapshot d.publication.claim (judged.No reason) = subst (λ (c : Claim). IsVerdict d.publication.snapshot c (judged.No reason)) same (subst (IsAnswer d.publication.snapshot claim) e h) in
     both_ok (λ (a : Answer). a.text.items ≡ line_of (reason_data reason)) (λ (a : Answer). a.said ≡ said.No) (λ (a : Answer). IsAnswerTo d a.text.items a.said) r text what
     (λ a t w. subst (λ (x : Said). IsAnswerTo d a.text.items x) (sym w) (reason, no, t))
-
--- where a group is refused
-pub refused_answer : {E : Type 0} (first : Standing) (groups : List GroupPart) (fault : RapidFault) (start text : List ℕ) (r : Result Answer E) → start ≡ [] → (fault ≢ NoMemory → IsStoppedAt first groups fault start text) → IfOk r (IsRefusalAdded text fault)
-    → IfOk r (λ a. IsAnswerFrom first groups a.text.items a.said)
-refused_answer first groups fault start text r e stopped ok =
-    both_ok (IsRefusalAdded text fault) (IsRefusalAdded text fault) (λ (a : Answer). IsAnswerFrom first groups a.text.items a.said) r ok ok
-    (λ a p q. subst (λ (x : Said). IsAnswerFrom first groups a.text.items x) (sym p.what) (cut_off first groups fault text a.text.items (subst (λ (t : List ℕ). IsStoppedAt first groups fault t text) e (stopped p.told)) p.whole))

@@ -10,7 +10,7 @@ use Rattle.rapid.specs.declared.inserted.Inserted.{Inserted}
 use Rattle.rapid.specs.Standing.{Standing}
 use Rattle.rapid.specs.Insertion.{IsInsertion}
 use Rattle.rapid.specs.Inside.{standing, standing_of, IsMadeOf}
-use Rattle.rapid.specs.declared.making.Made.{Made}
+use Rattle.rapid.specs.declared.making.Priced.{Priced}
 use Rattle.plan_base.specs.declared.number.RequestNo.{RequestNo}
 
 -- what was displaced before doesn't matter
@@ -28,12 +28,12 @@ insertion_from before after group answer h = record {
 }
 
 -- what an insertion made, once its pieces stand in their places
-pub put_in : (before : Standing) (group : GroupPart) (made : Made) (s : Parts) (claim : Claim) (displaced : List RequestNo) → IsMadeOf before.snapshot before.claim group made → s ≡ made.snapshot → claim ≡ made.claim → displaced ≡ made.displaced
-    → IsInsertion before group made.inserted (record { snapshot = s; claim = claim; displaced = displaced })
-put_in before group made s claim displaced h same_parts same_claim same_displaced =
+pub put_in : (before : Standing) (group : GroupPart) (made : Parts) (priced : Priced) (s : Parts) (claim : Claim) (displaced : List RequestNo) → IsMadeOf before.snapshot before.claim group made priced
+    → s ≡ made → claim ≡ priced.claim → displaced ≡ priced.displaced → IsInsertion before group priced.inserted (record { snapshot = s; claim = claim; displaced = displaced })
+put_in before group made priced s claim displaced h same_parts same_claim same_displaced =
     let after : Standing = record { snapshot = s; claim = claim; displaced = displaced } in
-    let same : standing_of made ≡ after = cc in
-    subst (IsInsertion before group made.inserted) same (insertion_from before (standing_of made) group made.inserted h)
+    let same : standing_of made priced ≡ after = cc in
+    subst (IsInsertion before group priced.inserted) same (insertion_from before (standing_of made priced) group priced.inserted h)
 
 yes_not_no : (value bound : ℕ) (reason : Reason) → Yes value bound ≡ No reason → ⊥
 yes_not_no value bound reason e = cc

@@ -8,8 +8,8 @@ use Rattle.rapid.specs.declared.inserted.Inserted.{Inserted}
 use Rattle.rapid.specs.Standing.{Standing}
 use Rattle.rapid.specs.Insertion.{IsInsertion}
 use Rattle.rapid.specs.Refused.{refusal_of}
-use Rattle.rapid.specs.Written.{inserted_data, refusal_data}
-use Rattle.rapid.specs.Run.{WritesEach, IsCutOff}
+use Rattle.rapid.specs.Written.{inserted_data}
+use Rattle.rapid.specs.Run.{WritesEach}
 use Rattle.rapid.specs.Lines.{IsLineOf, AreLinesOf, IsStoppedAt}
 
 none_after : {X : Type 0} (xs : List X) → xs ≡ xs ++ []
@@ -53,18 +53,3 @@ module _ (first : Standing) (groups : List GroupPart) (start : List ℕ) where
     where
       parts : (gs : List GroupPart) (k : ℕ) (e : GroupPart) → k < length gs → gs ≡ take k gs ++ slice_index_or gs k e ∷ drop (suc k) gs
       parts gs k e m = sym (take-append-drop k gs) ∙ ap (λ (l : List GroupPart). take k gs ++ l) (drop-cons gs k e m)
-
--- the line of the refusal after the lines before it
-pub cut_off : (first : Standing) (groups : List GroupPart) (fault : RapidFault) (text more : List ℕ) → IsStoppedAt first groups fault [] text → more ≡ text ++ line_of (refusal_data fault) → IsCutOff first groups more
-cut_off first groups fault text more h e = record {
-  done = h.done;
-  group = h.group;
-  others = h.others;
-  parted = h.parted;
-  lines = h.lines.0;
-  standing = h.standing;
-  written = h.lines.1;
-  refusal = fault;
-  refused = h.refused;
-  whole = e ∙ ap (λ (t : List ℕ). t ++ line_of (refusal_data fault)) h.lines.2;
-}

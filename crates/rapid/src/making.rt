@@ -9,7 +9,7 @@ ghost use Rattle.plan_base.specs.declared.parts.Op.TheVariants.{Single};
 ghost use Rattle.rapid.specs.Insertion.{with_group};
 ghost use Rattle.rapid.specs.Tables.{AreTables};
 ghost use Rattle.rapid.specs.Refused.{is_single, refusal_of, IsGroupInRanges};
-ghost use Rattle.rapid.specs.Inside.{IsExtended, IsMadeOf, made_of};
+ghost use Rattle.rapid.specs.Inside.{IsExtended, IsMadeOf};
 ghost use Rattle.rapid.specs.declared.fault.RapidFault.TheVariants.{NoMemory};
 
 use crate::fault::RapidFault;
@@ -22,15 +22,21 @@ use plan_base::{
 };
 use std::alloc::{AllocError, Global};
 
-/// A snapshot and a claim with one more group.
-#[derive(Debug, Drop)]
-pub(crate) struct Made {
-    pub snapshot: Snapshot,
+/// A claim on a snapshot with one more group, and what belongs to it.
+#[derive(Drop)]
+pub(crate) struct Priced {
     pub claim: Claim,
     /// What each telescope gives from each slice of the horizon on, at the claim's prices.
     pub tables: ListOf<ListOf<i64>>,
     pub displaced: ListOf<RequestNo>,
     pub inserted: Inserted,
+}
+
+/// A snapshot with one more group, and the claim on it.
+#[derive(Drop)]
+pub(crate) struct Made {
+    pub snapshot: Snapshot,
+    pub priced: Priced,
 }
 
 fn is_single(op: Op) -> bool
@@ -73,16 +79,6 @@ fn copied(alloc: Global, quota_prices: &QuotaPrices) -> Result<QuotaPrices, Allo
     Ok(QuotaPrices(ListOf::from_vec(prices)))
 }
 
-/// A claim on a snapshot with one more group, and what belongs to it.
-#[derive(Drop)]
-pub(crate) struct Priced {
-    pub claim: Claim,
-    /// What each telescope gives from each slice of the horizon on, at the claim's prices.
-    pub tables: ListOf<ListOf<i64>>,
-    pub displaced: ListOf<RequestNo>,
-    pub inserted: Inserted,
-}
-
 /// What comes of a claim where the snapshot has one more request, the one of a `SINGLE`, at its end. Fails only for want of
 /// memory.
 fn place_and_price(
@@ -97,7 +93,7 @@ fn place_and_price(
     requires extended { IsExtended before.now snapshot.now }
     ensures tables { IfOk result (λ priced. AreTables snapshot.now priced.claim.prices.0 priced.tables) }
     ensures made { IfOk result (λ priced. (group : GroupPart) → group.op ≡ Single → snapshot.now ≡ with_group before.now group
-        → IsMadeOf before.now claim.now group (made_of snapshot.now priced)) }
+        → IsMadeOf before.now claim.now group snapshot.now priced) }
 {
     before.recall_valid();
     snapshot.recall_valid();
@@ -140,8 +136,8 @@ pub(crate) fn make(
     requires ranges { IsGroupInRanges group }
     requires certified { IsCertified snapshot.now claim.now }
     requires tables { AreTables snapshot.now claim.now.prices.0 tables.now }
-    ensures tables { IfOk result (λ made. AreTables made.snapshot made.claim.prices.0 made.tables) }
-    ensures ok { IfOk result (IsMadeOf snapshot.now claim.now group) }
+    ensures tables { IfOk result (λ made. AreTables made.snapshot made.priced.claim.prices.0 made.priced.tables) }
+    ensures ok { IfOk result (λ made. IsMadeOf snapshot.now claim.now group made.snapshot made.priced) }
     ensures accepted { OnOk result (refusal_of snapshot.now group ≡ None) }
     ensures err { IfErr result (λ fault. fault ≢ NoMemory → refusal_of snapshot.now group ≡ Some fault) }
 {
@@ -149,9 +145,6 @@ pub(crate) fn make(
     let priced = place_and_price(alloc, snapshot, claim, tables, &extended)?;
     Ok(Made {
         snapshot: extended,
-        claim: priced.claim,
-        tables: priced.tables,
-        displaced: priced.displaced,
-        inserted: priced.inserted,
+        priced,
     })
 }

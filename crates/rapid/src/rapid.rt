@@ -93,10 +93,10 @@ impl Rapid {
         let made = make(self.alloc, &self.snapshot, &self.claim, tables, group)?;
         // A call drops what stood there. An assignment would drop it here, piece by piece, which the proof would have to follow.
         drop(replace(&mut self.snapshot, made.snapshot));
-        drop(replace(&mut self.claim, made.claim));
-        drop(replace(&mut self.tables, made.tables));
-        drop(replace(&mut self.displaced, made.displaced));
-        Ok(made.inserted)
+        drop(replace(&mut self.claim, made.priced.claim));
+        drop(replace(&mut self.tables, made.priced.tables));
+        drop(replace(&mut self.displaced, made.priced.displaced));
+        Ok(made.priced.inserted)
     }
 
     /// The claim: after an insertion its placements are by telescope, then slice.

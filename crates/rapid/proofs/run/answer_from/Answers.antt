@@ -1,4 +1,4 @@
-use Rattle.rapid.proofs.Answering.{whole_lines, refused_answer}
+use Rattle.rapid.proofs.Answering.{whole_lines}
 use Rattle.rapid.proofs.run.answer_from.Goals as goal
 
 pub returns-in-Ok : goal.returns-in-Ok

@@ -14,8 +14,8 @@ returns c =
     let before : Standing = record { snapshot = c.self.inside.snapshot; claim = c.self.inside.claim; displaced = c.self.inside.displaced } in
     let after : Standing = record { snapshot = c.replace.new.dest; claim = c.replace-2.new.dest; displaced = c.replace-4.new.dest } in
     record {
-      ok = subst (λ (standing : Standing). IsInsertion standing c.args.group made.inserted after) c.self.view_is
-          (put_in before c.args.group made c.replace.new.dest c.replace-2.new.dest c.replace-4.new.dest c.in_ok-made.ensures.ok (c.replace.ensures.after) (c.replace-2.ensures.after) (c.replace-4.ensures.after));
+      ok = subst (λ (standing : Standing). IsInsertion standing c.args.group made.priced.inserted after) c.self.view_is
+          (put_in before c.args.group made.snapshot made.priced c.replace.new.dest c.replace-2.new.dest c.replace-4.new.dest c.in_ok-made.ensures.ok (c.replace.ensures.after) (c.replace-2.ensures.after) (c.replace-4.ensures.after));
       accepted = subst (λ (standing : Standing). refusal_of standing.snapshot c.args.group ≡ None) c.self.view_is c.in_ok-made.ensures.accepted;
       err = tt;
       fault = tt;
