@@ -2,7 +2,6 @@
 #![tactic(auto)]
 
 mod command;
-mod copies;
 mod entry;
 mod fault;
 mod faults;
