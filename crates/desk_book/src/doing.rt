@@ -64,7 +64,12 @@ pub fn apply_read(
     ensures unchanged { OnErr result (state.new ≡ state.old) }
 {
     match read {
-        Ok(command) => apply(state, &command),
+        Ok(command) => {
+            let reply = apply(state, &command);
+            // A call drops the command. Else it would be dropped here, piece by piece, which the proof would have to follow.
+            drop(command);
+            reply
+        }
         Err(CommandFault::Refused(refusal)) => Ok(Reply::Refused(refusal)),
         Err(CommandFault::NoMemory) => Err(AllocError),
     }

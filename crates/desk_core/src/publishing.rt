@@ -16,6 +16,7 @@ use desk_events::{CommandFault, Refusal, Reply};
 use desk_runs::{Observation, Request};
 use plan_base::{Claim, ListOf, Placement, RequestNo, Snapshot, Verdict};
 use std::alloc::{AllocError, Global};
+use std::mem::replace;
 
 impl Desk {
     /// `publish`: a claim for a version, where the desk has this one.
@@ -38,10 +39,17 @@ impl Desk {
             .into());
         }
         let snapshot = self.snapshot(alloc, version)?;
-        if let Verdict::No(reason) = check(alloc, &snapshot, claim)? {
-            return Err(Refusal::Rejected { reason }.into());
+        match check(alloc, &snapshot, claim) {
+            Ok(Verdict::Yes { .. }) => Ok(self.publish_planned(alloc, snapshot, claim)?),
+            Ok(Verdict::No(reason)) => {
+                drop(snapshot);
+                Err(Refusal::Rejected { reason }.into())
+            }
+            Err(no_memory) => {
+                drop(snapshot);
+                Err(no_memory.into())
+            }
         }
-        Ok(self.publish_planned(alloc, snapshot, claim)?)
     }
 
     /// Publishes a claim that is certified for the desk's snapshot: its placements replace those that haven't started, and
@@ -59,15 +67,37 @@ impl Desk {
         ensures desk { IfOk result (λ _. seen self.new ≡ with_publication snapshot.version claim.now (seen self.old)) }
         ensures unchanged { OnErr result (seen self.new ≡ seen self.old) }
     {
+        let (observations, kept, told) = match self.taken_from(alloc, claim) {
+            Ok(taken) => taken,
+            Err(no_memory) => {
+                drop(snapshot);
+                return Err(no_memory);
+            }
+        };
+        self.runs.publish(observations);
+        let publication = Publication {
+            snapshot,
+            claim: kept,
+        };
+        // A call drops the one before. An assignment would drop it here, piece by piece, which the proof would have to follow.
+        drop(replace(&mut self.published, Some(publication)));
+        Ok(Reply::Published { claim: told })
+    }
+
+    // What is observed by a claim, and the claim twice. Fails only for want of memory.
+    fn taken_from(
+        &self,
+        alloc: Global,
+        claim: &Claim,
+    ) -> Result<(ListOf<Observation>, Claim, Claim), AllocError>
+        ensures observations { IfOk result (λ taken. taken.0 ≡ map (observed (seen self.now)) claim.now.placements) }
+        ensures kept { IfOk result (λ taken. taken.1 ≡ claim.now) }
+        ensures told { IfOk result (λ taken. taken.2 ≡ claim.now) }
+    {
         let observations = self.observations(alloc, claim.placements.as_slice())?;
         let kept = claim.copy()?;
         let told = claim.copy()?;
-        self.runs.publish(observations);
-        self.published = Some(Publication {
-            snapshot,
-            claim: kept,
-        });
-        Ok(Reply::Published { claim: told })
+        Ok((observations, kept, told))
     }
 
     // How long a request takes; nothing where there is none with the number.

@@ -40,7 +40,11 @@ impl Desk {
         self.recall_small();
         let listed = self.listed(alloc)?;
         let proposals = self.proposals(alloc, listed.as_slice())?;
-        let groups = self.group_parts(alloc, &proposals, listed.as_slice())?;
+        let made = self.group_parts(alloc, &proposals, listed.as_slice());
+        let count = proposals.len();
+        // A call drops the set. Else each way out would drop it piece by piece, which the proof would have to follow.
+        drop(proposals);
+        let groups = made?;
         let targets = targets_in(alloc, groups.as_slice())?;
         let horizon = self.horizon(alloc)?;
         Ok(Parts {
@@ -51,7 +55,7 @@ impl Desk {
             telescopes: self.telescope_parts(alloc, &horizon)?,
             skies: self.skies(alloc, &horizon, targets.as_slice())?,
             groups,
-            quotas: self.quotas(alloc, proposals.len())?,
+            quotas: self.quotas(alloc, count)?,
         })
     }
 

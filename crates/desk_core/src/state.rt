@@ -22,6 +22,7 @@ use plan_base::{Claim, Sec, Settings, Snapshot};
 use site_model::Network;
 use std::alloc::{AllocError, Global};
 use std::marker::Model;
+use std::mem::replace;
 
 /// The state of a desk. A command costs what it touches, never the length of what came before.
 #[derive(Debug, Drop)]
@@ -206,7 +207,8 @@ impl State {
         ensures unchanged { OnErr result (self.new ≡ self.old) }
     {
         let desk = new_desk(self.alloc, opening, now)?;
-        self.desk = Some(desk);
+        // A call drops what stood there. An assignment would drop it here, piece by piece, which the proof would have to follow.
+        drop(replace(&mut self.desk, Some(desk)));
         self.version += 1;
         Ok(())
     }

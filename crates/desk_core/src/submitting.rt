@@ -224,11 +224,11 @@ impl Desk {
         ensures room { OnOk result (vec_len self.new.submitted < vec_capacity self.new.submitted) }
         ensures unchanged { OnErr result (seen self.new ≡ seen self.old) }
     {
+        self.submitted.reserve(1)?;
         let op = op_of(document.op, made.len());
         let asks = asks_of(alloc, made.as_slice())?;
         let wanted = wanted_for(alloc, &self.network, document, made)?;
         let document = document.copy()?;
-        self.submitted.reserve(1)?;
         let number = self.runs.add(op, asks.as_slice())?;
         match self.new_group(alloc, document, wanted, number) {
             Ok(new) => Ok(new),
@@ -307,6 +307,8 @@ impl Desk {
         let new = self.enter(alloc, document, made)?;
         let charged = new.submitted.charged;
         if let Err(fault) = self.ledger.hold(new.number, new.holds.as_slice(), charged) {
+            // A call drops the group. Else it would be dropped here, piece by piece, which the proof would have to follow.
+            drop(new);
             self.forget(known);
             return Err(CommandFault::from(fault));
         }

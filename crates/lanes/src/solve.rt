@@ -173,9 +173,9 @@ fn worker_of<'a, const L: usize>(
 {
     let snapshot = &taken.snapshot;
     snapshot.recall_valid();
-    let steps = Steps::new(alloc, snapshot, starts, rows)?;
     let lanes = founds_of(alloc, snapshot, L)?;
     let found = Found::new(alloc, snapshot, value)?;
+    let steps = Steps::new(alloc, snapshot, starts, rows)?;
     Ok(Worker {
         number,
         settings: taken.settings,
@@ -237,6 +237,9 @@ fn gather<const L: usize>(
 {
     taken.snapshot.recall_valid();
     while let Some(worker) = workers.pop() {
+        // Calls drop these. Else they would be dropped here, piece by piece, which the proof would have to follow.
+        drop(worker.steps);
+        drop(worker.lanes);
         found.take(&worker.found);
         board.join(seat, worker.seat);
     }

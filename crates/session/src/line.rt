@@ -1,5 +1,6 @@
 //! What is done with one line.
-ghost use Rattle.std.specs.Prelude.{◌≡◌, ◌<◌, IfOk, IsSome};
+ghost use Rattle.std.specs.Prelude.{◌≡◌, ◌<◌, ◌++◌, IfOk, OnOk, OnErr, IsSome};
+ghost use Rattle.desk_events.specs.Entry.{text_of_entry};
 ghost use Rattle.desk_events.specs.Line.{command_of_line};
 ghost use Rattle.desk_events.specs.Ranges.{IsCommand};
 ghost use Rattle.desk_core.specs.History.{IsPlanning, after_publish};
@@ -18,6 +19,17 @@ use std::thread::Threads;
 
 /// The only caller of a session.
 const CALLER: u8 = 0;
+
+/// Adds the text of an entry, or nothing where memory is wanting. The entry is dropped here by a call: else each way out of
+/// what makes it would drop it piece by piece, which the proof would have to follow.
+fn add_entry(entry: EventEntry, replies: &mut Vec<u8>) -> Result<(), AllocError>
+    ensures ok { OnOk result (replies.new.items ≡ replies.old.items ++ text_of_entry entry) }
+    ensures err { OnErr result (replies.new.items ≡ replies.old.items) }
+{
+    let done = write_entry(&entry, replies);
+    drop(entry);
+    done
+}
 
 /// Does a line that is one step, and adds its entry.
 fn do_step(
@@ -40,7 +52,7 @@ fn do_step(
         version,
         reply,
     };
-    write_entry(&entry, replies)
+    add_entry(entry, replies)
 }
 
 /// Takes the snapshot of an opened desk, with the settings that its plan is sought with, which are in their ranges.
@@ -61,7 +73,8 @@ fn publish_solved(state: &mut State, solved: Solved) -> Result<Reply, AllocError
     ensures left { IfOk result (λ reply. state.new ≡ after_publish state.old reply) }
 {
     let (taken, outcome) = solved.into_parts();
-    let (reply, _) = publish_found(state, taken, outcome)?;
+    let (reply, told) = publish_found(state, taken, outcome)?;
+    drop(told);
     Ok(reply)
 }
 
@@ -98,7 +111,7 @@ fn publish<R: Threads + Sync>(
         version,
         reply,
     };
-    write_entry(&entry, replies)
+    add_entry(entry, replies)
 }
 
 /// Does a line that asks for a plan of an opened desk: adds its Take, and then its Publish.
@@ -114,6 +127,7 @@ fn do_plan<R: Threads + Sync>(
     requires planning { IsPlanning state.old read }
     ensures { AddsLine state.old state.new line read replies.old.items replies.new.items result }
 {
+    drop(read);
     let taken = EventEntry {
         caller: CALLER,
         line,
@@ -121,7 +135,7 @@ fn do_plan<R: Threads + Sync>(
         version: state.version(),
         reply: Reply::Taken,
     };
-    write_entry(&taken, replies)?;
+    add_entry(taken, replies)?;
     publish(rt, alloc, state, line, replies)
 }
 
@@ -156,6 +170,7 @@ pub(crate) fn reply_to<R: Threads + Sync>(
 {
     let read = read_line(alloc, line)?;
     if is_plan(&read) && state.is_opened() {
+        drop(read);
         return seek(rt, alloc, state);
     }
     apply_read(state, read)

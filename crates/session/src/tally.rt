@@ -29,7 +29,9 @@ fn sum_up<R: Threads + Sync>(
     while let Some(bytes) = workload.next(alloc)? {
         let line = ScriptLine::Bytes(ByteList::from(bytes));
         let reply = reply_to(rt, alloc, state, &line)?;
-        summary = with_line(summary, &reply)?;
+        let more = with_line(summary, &reply);
+        drop(reply);
+        summary = more?;
     }
     Ok(summary)
 }

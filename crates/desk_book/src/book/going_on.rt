@@ -109,8 +109,9 @@ impl Book {
         ensures err { OnErr result (self.new ≡ self.old) }
     {
         if is_plan(&read) && self.state.is_opened() {
-            let taken = self.do_take(caller, &read)?;
-            return Ok(BookCall::Taken(taken));
+            let taken = self.do_take(caller, &read);
+            drop(read);
+            return Ok(BookCall::Taken(taken?));
         }
         self.do_step(caller, read)?;
         Ok(BookCall::Replied)

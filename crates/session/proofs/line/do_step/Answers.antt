@@ -3,5 +3,5 @@ use Rattle.session.proofs.line.do_step.Goals as goal
 
 pub returns : goal.returns
 returns c =
-    step_added c.args.state.now c.apply_read.new.state c.args.line c.version-version.result c.in_ok-reply.reply c.args.read c.args.replies.now.items c.write_entry.new.into.items c.write_entry.result
-    c.version-version.ensures.version c.in_ok-reply.ensures.done c.write_entry.ensures.ok c.write_entry.ensures.err
+    step_added c.args.state.now c.apply_read.new.state c.args.line c.version-version.result c.in_ok-reply.reply c.args.read c.args.replies.now.items c.add_entry.new.replies.items c.add_entry.result
+    c.version-version.ensures.version c.in_ok-reply.ensures.done c.add_entry.ensures.ok c.add_entry.ensures.err
