@@ -30,8 +30,11 @@ fn documents_are_written(rt: HostRuntime) -> Result<(), Fail> {
         &[(1, 0, 0), (4_294_967_295, 65_535, 10)],
         &[i64::MIN, -10, -1, 0, 9, i64::MAX],
     )?;
-    let wanted =
-        "{\"\":{\"note\":\"a\\\"\\\\\\n\\u001f\u{7f}\u{e9}\",\"ok\":\"taken\"},\"a b\":true,\"n\":null,\"placements\":[[1,0,0],[4294967295,65535,10]],\"prices\":[-9223372036854775808,-10,-1,0,9,9223372036854775807]}";
+    let wanted = concat!(
+        "{\"\":{\"note\":\"a\\\"\\\\\\n\\u001f\u{7f}\u{e9}\",\"ok\":\"taken\"},\"a b\":true,\"n\":null,",
+        "\"placements\":[[1,0,0],[4294967295,65535,10]],",
+        "\"prices\":[-9223372036854775808,-10,-1,0,9,9223372036854775807]}",
+    );
     assert!(rt; found.as_slice() == wanted.as_bytes());
     Ok(())
 }
