@@ -1,6 +1,21 @@
 -- The greatest numbers of snapshots, plans and claims, each named once.
 use Rattle.std.specs.Prelude.{ℕ, ◌*◌, ◌^◌}
 
+-- the most changes that a desk accepts, and so its greatest version
+abbrev pub most_version : ℕ
+most_version = 524288
+
+-- the shortest and the longest slice, in seconds
+abbrev pub least_len : ℕ
+least_len = 60
+
+abbrev pub most_len : ℕ
+most_len = 3600
+
+-- the last slice that a horizon may begin with
+abbrev pub most_first : ℕ
+most_first = 4223371680
+
 -- the greatest size of a price in a claim
 abbrev pub most_price : ℕ
 most_price = 10 ^ 12

@@ -4,7 +4,7 @@ use Rattle.std.specs.List.{list_all}
 use Rattle.plan_base.specs.declared.parts.Parts.{Parts}
 use Rattle.plan_base.specs.declared.parts.RequestPart.{RequestPart}
 use Rattle.plan_base.specs.declared.span.Span.{Span}
-use Rattle.plan_base.specs.Limits.{most_moment, most_seconds, most_value, most_slices}
+use Rattle.plan_base.specs.Limits.{most_moment, most_seconds, most_value, most_slices, most_version, most_len, least_len, most_first}
 use Rattle.plan_base.specs.Faults.{all_requests}
 
 -- both ends are moments
@@ -17,8 +17,8 @@ has_ranges q = nat_le 1 q.seconds && nat_le q.seconds most_seconds && (nat_le 1 
 
 -- the numbers of the horizon are in their ranges
 abbrev pub has_horizon : Parts → Bool
-has_horizon s = nat_le s.version 524288 && (nat_le 60 s.len && nat_le s.len 3600)
-    && nat_le s.first.0 4223371680 && (nat_le 1 s.slices && nat_le s.slices most_slices)
+has_horizon s = nat_le s.version most_version && (nat_le least_len s.len && nat_le s.len most_len)
+    && nat_le s.first.0 most_first && (nat_le 1 s.slices && nat_le s.slices most_slices)
 
 -- all spans have moments at their ends
 abbrev pub has_all_moments : Parts → Bool

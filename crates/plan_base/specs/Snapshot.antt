@@ -25,11 +25,11 @@ use Rattle.plan_base.specs.declared.fault.SnapshotFault.TheVariants.{
   NoSuchQuota,
   QuotaRange,
 }
-use Rattle.plan_base.specs.Limits.{most_moment, most_slices, most_seconds, most_value, most_quota}
+use Rattle.plan_base.specs.Limits.{most_moment, most_slices, most_seconds, most_value, most_quota, most_version, least_len, most_len, most_first}
 use Rattle.plan_base.specs.Requests.{listed}
 use Rattle.plan_base.specs.Skies.{SkiesRise}
 
--- a second before the last that a horizon may have
+-- a second that a span of a snapshot may name
 abbrev pub IsMoment : ℕ → Type 0
 IsMoment x = x ≤ most_moment
 
@@ -39,10 +39,10 @@ all_spans s = flat_map (λ t. t.usable) s.telescopes ++ flat_map (λ y. y.spans)
 
 -- the numbers lie where a document may put them
 pub record IsInRanges (s : Parts) : Type 0 where
-  pub version : s.version ≤ 524288
-  pub len_least : 60 ≤ s.len
-  pub len_most : s.len ≤ 3600
-  pub first : s.first.0 ≤ 4223371680
+  pub version : s.version ≤ most_version
+  pub len_least : least_len ≤ s.len
+  pub len_most : s.len ≤ most_len
+  pub first : s.first.0 ≤ most_first
   pub slices_least : 1 ≤ s.slices
   pub slices_most : s.slices ≤ most_slices
   pub seconds : All (λ x. (1 ≤ x.request.seconds) × (x.request.seconds ≤ most_seconds)) (listed s)

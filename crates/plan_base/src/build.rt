@@ -1,20 +1,20 @@
 // The tests of a snapshot's parts, apart from their numbers.
 
-ghost use Rattle.std.specs.Prelude.{◌≡◌, ℕ, ◌+◌, ◌≤◌, ◌<◌, nat_lt, nat_le, ◌&&◌, ◌||◌, [], ◌∷◌, ◌++◌, length, map, drop, Option, find, position, IfSome};
+ghost use Rattle.std.specs.Prelude.{◌≡◌, ◌+◌, ◌≤◌, ◌<◌, nat_lt, nat_le, ◌&&◌, ◌||◌, length, map, drop, Option, find, position, IfSome};
 ghost use Rattle.std.specs.List.{list_any, list_all, zip, flat_map};
 ghost use Rattle.std.specs.Option.{option_map};
-ghost use Rattle.plan_base.specs.Snapshot.{all_spans, is_apart, sky_below, skies_rise, most_requests, has_shape, fits_after, names_quota};
+ghost use Rattle.plan_base.specs.Snapshot.{is_apart, sky_below, skies_rise, most_requests, has_shape, fits_after, names_quota};
 ghost use Rattle.plan_base.specs.Snapshot.{first_some, span_fault, apart_fault, group_fault};
 ghost use Rattle.plan_base.specs.Snapshot.{request_fault, shape_fault, telescope_fault, fade_fault, quota_fault, quota_range_fault};
 ghost use Rattle.plan_base.specs.Limits.{most_quota};
 ghost use Rattle.plan_base.specs.Rows.{rows_from};
 ghost use Rattle.plan_base.specs.declared.parts.Parts.{Parts};
-ghost use Rattle.plan_base.specs.Faults.{all_requests, has_empty, first_fall, first_unfit, unfit_in, fault_within_limits};
+ghost use Rattle.plan_base.specs.Faults.{all_requests, has_empty, first_unfit, unfit_in, fault_within_limits};
 
 use crate::fault::SnapshotFault;
 use crate::greatest::MOST_QUOTA;
 use crate::number::{RequestNo, TelescopeNo};
-use crate::parts::{GroupPart, Op, Parts, RequestPart, Sky};
+use crate::parts::{GroupPart, Op, Parts, Sky};
 use crate::rows::Row;
 use crate::span::Span;
 

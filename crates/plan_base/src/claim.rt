@@ -1,4 +1,4 @@
-// What is said of a snapshot: a plan with the prices that bound every plan.
+// What is said of a snapshot: a plan with its value, and prices with the bound that they give.
 
 use crate::list::ListOf;
 use crate::number::{RequestNo, SliceNo, TelescopeNo};
@@ -6,8 +6,11 @@ use crate::number::{RequestNo, SliceNo, TelescopeNo};
 /// A request on a telescope, from the start of a slice on.
 #[derive(Clone, Copy, Debug, PartialEq, Eq)]
 pub struct Placement {
+    /// What is observed; it stands in a plan once.
     pub request: RequestNo,
+    /// Where, by its place in the snapshot's list.
     pub telescope: TelescopeNo,
+    /// The slice that it starts with, counted from 1970-01-01T00:00:00Z like those of the horizon.
     pub slice: SliceNo,
 }
 
@@ -20,14 +23,18 @@ pub struct Prices(pub ListOf<i64>);
 #[derive(Clone, Debug, Drop, PartialEq, Eq)]
 pub struct QuotaPrices(pub ListOf<u32>);
 
-/// A plan, and the prices by which no plan that is feasible is worth more than the bound (the Lagrangian dual bound of
-/// the model of Lampoudi, Saunders and Eastman 2015).
+/// A plan with the value that it is said to have, and prices with the bound that they are said to give (the Lagrangian
+/// dual bound of the model of Lampoudi, Saunders and Eastman 2015). It is certified where that is so: then no feasible
+/// plan is worth more than the bound.
 #[derive(Clone, Debug, Drop, PartialEq, Eq)]
 pub struct Claim {
+    /// The plan, in any order.
     pub placements: ListOf<Placement>,
     pub prices: Prices,
     pub quota_prices: QuotaPrices,
+    /// What the plan is said to be worth: 0 to 10^12 in a document.
     pub value: u64,
+    /// What no feasible plan is said to be worth more than: 0 to 10^17 in a document.
     pub bound: u64,
 }
 

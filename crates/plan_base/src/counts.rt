@@ -1,11 +1,12 @@
 // Whether a snapshot's parts are more than the limits allow.
 
-ghost use Rattle.std.specs.Prelude.{◌≡◌, ℕ, [], ◌∷◌, length, sum_by, IfSome, IfOk};
+ghost use Rattle.std.specs.Prelude.{◌≡◌, [], ◌∷◌, length, sum_by, IfSome, IfOk};
 ghost use Rattle.plan_base.specs.Snapshot.{limit_of, limit_fault};
 ghost use Rattle.plan_base.specs.Requests.{listed};
 ghost use Rattle.plan_base.specs.Faults.{all_requests, first_over, site_limit_fault, request_limit_fault};
 
 use crate::fault::{Counted, SnapshotFault};
+use crate::greatest::{MOST_REQUESTS, MOST_TELESCOPES};
 use crate::parts::{GroupPart, Parts, Sky, TelescopePart};
 use std::alloc::AllocError;
 
@@ -47,11 +48,12 @@ fn limit_of(what: Counted) -> u64
     ensures { result ≡ limit_of what }
 {
     match what {
-        Counted::Telescopes | Counted::Windows | Counted::Fits => 32,
+        Counted::Telescopes | Counted::Fits => MOST_TELESCOPES as u64,
+        Counted::Windows => 32,
         Counted::Usable => 2_048,
         Counted::Skies => 32_768,
         Counted::Spans => 262_144,
-        Counted::Groups | Counted::Requests | Counted::Quotas => 1_024,
+        Counted::Groups | Counted::Requests | Counted::Quotas => MOST_REQUESTS as u64,
         Counted::Targets => 16,
     }
 }

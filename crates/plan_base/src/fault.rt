@@ -29,7 +29,7 @@ pub enum Counted {
     Quotas,
 }
 
-/// The first thing, in this order, that is wrong with a snapshot's parts.
+/// The first thing, in this order, that is wrong with a snapshot's parts. Want of memory may come in place of any.
 #[derive(Clone, Copy, Debug, PartialEq, Eq, Error)]
 pub enum SnapshotFault {
     /// More is counted than the limit; of several telescopes or requests above it, the first one's count is given.

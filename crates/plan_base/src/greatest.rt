@@ -1,5 +1,17 @@
 // The greatest numbers of snapshots, plans and claims, each named once.
 
+/// The most changes that a desk accepts, and so its greatest version.
+pub const MOST_VERSION: u32 = 524_288;
+
+/// The shortest slice, in seconds.
+pub const LEAST_LEN: u32 = 60;
+
+/// The longest slice, in seconds.
+pub const MOST_LEN: u32 = 3_600;
+
+/// The last slice that a horizon may begin with.
+pub const MOST_FIRST: u32 = 4_223_371_680;
+
 /// The greatest size of a price in a claim that is certified.
 pub const MOST_PRICE: i64 = 1_000_000_000_000;
 
@@ -15,7 +27,7 @@ pub const MOST_SECONDS: u32 = 86_400;
 /// The greatest value of a request.
 pub const MOST_VALUE: u32 = 288_000_000;
 
-/// The last second that a span may name, since a horizon may end after the last moment of a document.
+/// The last second that a span may name, since a horizon may end after the last moment that a line can name.
 pub const MOST_MOMENT: u64 = 1_000_000_000_000;
 
 /// The most slices of a horizon.

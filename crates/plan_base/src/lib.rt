@@ -10,6 +10,7 @@ mod greatest;
 mod laws;
 mod list;
 mod listing;
+mod max;
 mod name;
 mod number;
 mod parts;
@@ -28,8 +29,8 @@ mod verdict;
 pub use claim::{Claim, Placement, Prices, QuotaPrices, Settings};
 pub use fault::{Counted, SnapshotFault};
 pub use greatest::{
-    MOST_MOMENT, MOST_PRICE, MOST_QUOTA, MOST_QUOTA_PRICE, MOST_REQUESTS, MOST_SECONDS,
-    MOST_SLICES, MOST_STARTS, MOST_TELESCOPES, MOST_VALUE,
+    LEAST_LEN, MOST_FIRST, MOST_LEN, MOST_MOMENT, MOST_PRICE, MOST_QUOTA, MOST_QUOTA_PRICE,
+    MOST_REQUESTS, MOST_SECONDS, MOST_SLICES, MOST_STARTS, MOST_VALUE, MOST_VERSION,
 };
 pub use laws::{
     bound_limit, bound_of_parts, empty_is_feasible, filled_is_saturated, table_has_bests,
@@ -37,11 +38,12 @@ pub use laws::{
 };
 pub use list::{ListOf, repeated};
 pub use listing::listing_of;
-pub use name::{NAME_BYTES, Name};
+pub use max::larger;
+pub use name::Name;
 pub use number::{GroupNo, RequestNo, Sec, SiteNo, SliceNo, TargetNo, TelescopeNo};
 pub use parts::{GroupPart, Op, Parts, RequestPart, Sky, TelescopePart};
 pub use sky::sky_of;
-pub use slicing::{faded, larger, least_from, slices_for};
+pub use slicing::{faded, least_from, slices_for};
 pub use snapshot::Snapshot;
 pub use solved::Solved;
 pub use span::Span;

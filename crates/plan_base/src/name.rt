@@ -1,6 +1,6 @@
 // Texts that name things.
 
-ghost use Rattle.std.specs.Prelude.{◌≡◌, ℕ, ◌≤◌, ◌<◌, List, length, refl, nat_eq, IfOk, Some, None, MatchOption};
+ghost use Rattle.std.specs.Prelude.{◌≡◌, ℕ, ◌≤◌, ◌<◌, List, length, refl, nat_eq, IfOk, Some, None};
 ghost use Rattle.std.specs.String.{string_bytes};
 ghost use Rattle.std.specs.Ordering.{nat_cmp};
 ghost use Rattle.std.specs.Cmp.Lexicographic.{pointwise, slice_cmp, nat_list_eq_equiv, nat_list_cmp_total, texts_ties, texts_po};
@@ -15,7 +15,7 @@ use std::hash::{Hash, Hasher};
 use std::marker::Model;
 
 /// The most bytes that a name has.
-pub const NAME_BYTES: usize = 128;
+const NAME_BYTES: usize = 128;
 
 /// A text of 0 to 128 bytes of UTF-8: a proposal, a site, a code, an instrument type or a target. Contracts see its
 /// bytes, and order and equality are those of the bytes.

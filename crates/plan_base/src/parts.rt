@@ -28,11 +28,14 @@ pub struct TelescopePart {
     pub usable: ListOf<Span>,
 }
 
-/// When a target can be observed from a site, sorted with gaps between the spans.
+/// When a target can be observed from a site.
 #[derive(Clone, Debug, Drop, PartialEq, Eq)]
 pub struct Sky {
+    /// What is observed, by its number of the desk.
     pub target: TargetNo,
+    /// From where, by its number of the desk.
     pub site: SiteNo,
+    /// Sorted, with gaps between them.
     pub spans: ListOf<Span>,
 }
 
@@ -57,8 +60,10 @@ pub struct RequestPart {
 /// A request group.
 #[derive(Debug, Drop, PartialEq, Eq)]
 pub struct GroupPart {
+    /// Its number of the desk; numbers rise through the snapshot's list.
     pub group: GroupNo,
     pub op: Op,
+    /// Those that may still be placed: 1 in a `SINGLE`, 1 to 256 in a `MANY`, 1 to 32 in the others.
     pub requests: ListOf<RequestPart>,
     /// The place in the snapshot's list of quotas of the one that the group counts towards, if there is one.
     pub quota: Option<u16>,
@@ -89,6 +94,7 @@ pub struct Parts {
     pub first: SliceNo,
     /// How many slices the horizon has, 1 to 1,440.
     pub slices: u32,
+    /// At most 32; a telescope's number is its place.
     pub telescopes: ListOf<TelescopePart>,
     /// In rising order of target, then site.
     pub skies: ListOf<Sky>,

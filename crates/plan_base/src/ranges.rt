@@ -6,7 +6,10 @@ ghost use Rattle.plan_base.specs.Snapshot.{IsInRanges};
 ghost use Rattle.plan_base.specs.Faults.{all_requests};
 ghost use Rattle.plan_base.specs.Ranges.{has_moments, has_ranges, has_horizon, has_all_moments, is_in_ranges};
 
-use crate::greatest::{MOST_MOMENT, MOST_SECONDS, MOST_SLICES, MOST_VALUE};
+use crate::greatest::{
+    LEAST_LEN, MOST_FIRST, MOST_LEN, MOST_MOMENT, MOST_SECONDS, MOST_SLICES, MOST_VALUE,
+    MOST_VERSION,
+};
 use crate::parts::{GroupPart, Parts, RequestPart, Sky, TelescopePart};
 use crate::span::Span;
 
@@ -29,9 +32,9 @@ fn is_in_ranges(parts: &Parts) -> bool
 fn has_horizon(parts: &Parts) -> bool
     ensures { result ≡ has_horizon parts.now }
 {
-    parts.version <= 524_288
-        && (60 <= parts.len && parts.len <= 3_600)
-        && parts.first.0 <= 4_223_371_680
+    parts.version <= u64::from(MOST_VERSION)
+        && (LEAST_LEN <= parts.len && parts.len <= MOST_LEN)
+        && parts.first.0 <= MOST_FIRST
         && (1 <= parts.slices && parts.slices <= MOST_SLICES)
 }
 

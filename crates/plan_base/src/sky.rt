@@ -1,12 +1,13 @@
 // The sky of a target at a site.
 
-ghost use Rattle.std.specs.Prelude.{◌≡◌, ◌↔◌, IsTrue, All, Contains, MatchOption};
+ghost use Rattle.std.specs.Prelude.{◌↔◌, IsTrue, All, Contains, MatchOption};
 ghost use Rattle.plan_base.specs.Skies.{SkiesRise, IsSkyOf, IsCountBelow};
 
 use crate::number::{SiteNo, TargetNo};
 use crate::parts::Sky;
 
-/// The sky of the target at the site, of skies in rising order of target, then site. It looks by halves.
+/// The sky of the target at the site, of skies in rising order of target, then site; none where there is none. It looks
+/// by halves.
 pub fn sky_of(skies: &[Sky], target: TargetNo, site: SiteNo) -> Option<&Sky>
     requires { SkiesRise skies.now }
     ensures { MatchOption result

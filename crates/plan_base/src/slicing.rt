@@ -1,7 +1,7 @@
-// Seconds as slices, values that fade by the slice, and the larger of two.
+// Seconds as slices, and values that fade by the slice.
 
-ghost use Rattle.std.specs.Prelude.{◌≡◌, ◌≤◌, ◌⊎◌, ◌≤ℤ◌, map, fold, min, All};
-ghost use Rattle.plan_base.specs.Limits.{most_value};
+ghost use Rattle.std.specs.Prelude.{◌≡◌, ◌≤◌, map, fold, min, All};
+ghost use Rattle.plan_base.specs.Limits.{most_value, least_len, most_len};
 ghost use Rattle.plan_base.specs.Snapshot.{IsMoment};
 ghost use Rattle.plan_base.specs.Starts.{slices_for, least_of, faded};
 
@@ -10,8 +10,8 @@ use crate::span::Span;
 /// How many slices of `len` seconds (60 to 3,600) so many seconds take, the last one perhaps in part: the size of an
 /// observation, or the first slice that doesn't begin before a moment.
 pub fn slices_for(len: u64, seconds: u64) -> u64
-    requires least { 60 ≤ len }
-    requires most { len ≤ 3600 }
+    requires least { least_len ≤ len }
+    requires most { len ≤ most_len }
     requires seconds { IsMoment seconds }
     ensures value { result ≡ slices_for len seconds }
     ensures most { result ≤ seconds }
@@ -54,13 +54,4 @@ fn least_after(first: u64, windows: &[Span]) -> u64
         least = least.min(window.from.0);
     }
     least
-}
-
-/// The larger of two numbers.
-pub fn larger(a: i64, b: i64) -> i64
-    ensures first { a ≤ℤ result }
-    ensures second { b ≤ℤ result }
-    ensures one { (result ≡ a) ⊎ (result ≡ b) }
-{
-    if b > a { b } else { a }
 }
