@@ -30,7 +30,7 @@ pub struct View<'a> {
 pub struct Wish<'a> {
     /// How many seconds it takes.
     pub seconds: u32,
-    /// What it is worth at its earliest slice, in thousandths.
+    /// What it is worth at its earliest slice.
     pub value: u32,
     /// The thousandths of its value that it loses by a slice of delay.
     pub fade: u16,
@@ -75,6 +75,7 @@ pub struct Desk<'a> {
     pub dishes: &'a [Dish<'a>],
     /// The skies, in rising order of target, then site.
     pub views: &'a [View<'a>],
+    /// The groups with their requests.
     pub groups: Groups<'a>,
     /// The seconds of each quota.
     pub quotas: &'a [u64],

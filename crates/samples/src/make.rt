@@ -54,6 +54,7 @@ pub(crate) fn skies_of(alloc: Global, views: &[View]) -> Result<Box<ListOf<Sky>>
     Ok(Box::new(alloc, skies)?)
 }
 
+/// The groups, numbered from 1 on, as their requests are.
 pub(crate) fn groups_of(
     alloc: Global,
     groups: Groups,
@@ -71,12 +72,14 @@ struct Last {
     request: u32,
 }
 
+const NONE_YET: Last = Last {
+    group: 0,
+    request: 0,
+};
+
 fn singles_of(alloc: Global, wishes: &[Wish]) -> Result<Box<ListOf<GroupPart>>, AllocError> {
     let mut groups = ListOf::new(alloc);
-    let mut last = Last {
-        group: 0,
-        request: 0,
-    };
+    let mut last = NONE_YET;
     for index in 0..wishes.len() {
         let group = GroupWish {
             op: Op::Single,
@@ -90,10 +93,7 @@ fn singles_of(alloc: Global, wishes: &[Wish]) -> Result<Box<ListOf<GroupPart>>, 
 
 fn groups_with(alloc: Global, wished: &[GroupWish]) -> Result<Box<ListOf<GroupPart>>, AllocError> {
     let mut groups = ListOf::new(alloc);
-    let mut last = Last {
-        group: 0,
-        request: 0,
-    };
+    let mut last = NONE_YET;
     for group in wished {
         groups.push(Box::into_inner(group_of(alloc, *group, &mut last)?))?;
     }

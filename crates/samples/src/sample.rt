@@ -5,7 +5,7 @@ use crate::fault::SampleFault;
 use plan_base::{Op, Snapshot, TelescopeNo, repeated};
 use std::alloc::{AllocError, Global};
 
-/// The value of each request, in thousandths.
+/// What each request is worth at its earliest slice.
 pub const VALUE: u32 = 50_000;
 
 /// From the first second of the horizon to its end: twelve slices of 300 seconds.
