@@ -4,13 +4,16 @@ use Rattle.std.proofs.KnownBytes.{Consumes-trans, Consumes-whole}
 use Rattle.std.specs.declared.option.Option.{Option}
 use Rattle.std.specs.Io.KnownBytes.{Consumes}
 use Rattle.std.proofs.Math.Seq.{take-append_seam}
+use Rattle.std.proofs.lemmas.Bool.Decides.{leb_tells}
 use Rattle.plan_io.specs.declared.lines.ScriptLine.{ScriptLine}
 use Rattle.plan_io.specs.declared.lines.LineAnswer.{LineAnswer}
 use Rattle.plan_io.specs.declared.lines.LineAnswer.TheVariants.{Line, End, ReadFault, InputOver}
-use Rattle.plan_io.specs.LinesSeen.{LinesSeen, IsFresh}
-use Rattle.plan_io.specs.LinesOf.{line_of, lines_from, lines_of, whole_lines_of, lines_left}
+use Rattle.plan_io.specs.LinesSeen.{LinesSeen, IsFresh, IsWithin}
+use Rattle.plan_io.specs.LinesOf.{line_of, last_of, lines_from, lines_of, whole_lines_of, after_newline, lines_left}
+use Rattle.plan_io.specs.Newline.{NoNewline}
 use Rattle.plan_io.specs.Next.{Cuts, ReadsOn, ReadsOver, BeginsTooMany, IsNext}
 use Rattle.plan_io.specs.Reading.{HasEnded, HasAnswered, ReadsAll}
+use Rattle.plan_io.proofs.Cuts.{after_more, last_line}
 use Rattle.plan_io.proofs.Readings.{advances_on, cuts_on}
 use Rattle.plan_io.proofs.Turns.{reads_none}
 use Rattle.plan_io.proofs.Wholes.{all_lines, all_with_last, all_whole_lines, first_whole_lines, fresh_lines}
@@ -68,9 +71,41 @@ begun_left true held h = omega arith
 begun_left false [] h = absurd (h (refl, refl))
 begun_left false (b ∷ bs) h = lines_some [] (b ∷ bs ++ []) (omega arith)
 
-open_over : (s t u : LinesSeen) (a b c : Option (List ℕ)) (ls : List ScriptLine) → IsFresh s → s.taken ≡ 0 → t.taken ≤ t.most_bytes → ReadsOn s a ls t b → ReadsOver t b u c
-    → (given : List ℕ) × Consumes a c given × (s.most_bytes < length given) × (ls ≡ whole_lines_of (take s.most_bytes given))
-open_over s t u a b c ls fresh zero within h g =
+-- all lines of the bytes that were taken: those that were answered, and those that are left
+answered_then_left : (s u : LinesSeen) (bytes : List ℕ) (ls : List ScriptLine) → IsFresh s → Cuts s bytes ls u → length (lines_of bytes) ≡ length ls + length (lines_left u.long (u.held ++ []))
+answered_then_left s u bytes ls fresh cuts =
+    let left = lines_left u.long (u.held ++ []) in
+    let all : lines_of bytes ≡ ls ++ left = ap lines_of (sym (append-nil bytes)) ∙ sym (fresh_lines s bytes [] fresh) ∙ cuts [] in
+    ap length all ∙ length-append ls left
+
+one_last : (held : List ℕ) → length (last_of held) ≤ 1
+one_last [] = omega arith
+one_last (b ∷ bs) = omega arith
+
+-- where no newline is held, at most one line is left
+one_at_most : (long : Bool) (held : List ℕ) → NoNewline held → length (lines_left long (held ++ [])) ≤ 1
+one_at_most true held clear = let rest : length (lines_of (after_newline (held ++ []))) ≡ 0 = ap (λ (xs : List ℕ). length (lines_of xs)) (after_more held [] clear) in omega (arith, rest)
+one_at_most false held clear =
+    let same : length (lines_of (held ++ [])) ≡ length (last_of held) = ap (λ (xs : List ℕ). length (lines_of xs)) (append-nil held) ∙ ap length (last_line held clear) in
+    omega (arith, same, one_last held)
+
+-- and none where no byte of one was taken
+none_begun : (u : LinesSeen) → IsFresh u → length (lines_left u.long (u.held ++ [])) ≡ 0
+none_begun u fresh = ap (λ (b : Bool). length (lines_left b (u.held ++ []))) fresh.long ∙ ap (λ (xs : List ℕ). length (lines_of (xs ++ []))) fresh.held
+
+-- within the limits, the line that has begun is one of those that there may be
+begun_within : (u : LinesSeen) → NoNewline u.held → IsWithin u → u.answered + length (lines_left u.long (u.held ++ [])) ≤ u.most_lines
+begun_within u clear within =
+    elim (leb_tells (u.answered + 1) u.most_lines) [
+      | inl t ↦ omega (arith, t.1, one_at_most u.long u.held clear)
+      | inr t ↦
+          let last : u.answered ≡ u.most_lines = omega (arith, t.1, within.lines) in
+          omega (arith, last, none_begun u (within.last last))
+    ]
+
+open_over : (s t u : LinesSeen) (a b c : Option (List ℕ)) (ls : List ScriptLine) → IsFresh s → s.taken ≡ 0 → s.answered ≡ 0 → t.taken ≤ t.most_bytes → t.answered ≤ t.most_lines → ReadsOn s a ls t b → ReadsOver t b u c
+    → (given : List ℕ) × Consumes a c given × (length given ≡ s.most_bytes + 1) × (ls ≡ whole_lines_of (take s.most_bytes given)) × (length ls ≤ s.most_lines)
+open_over s t u a b c ls fresh zero none within few h g =
     let kept = h.0 ++ g.0 in
     let lost = g.1.0 in
     let over = g.1.2 in
@@ -83,16 +118,15 @@ open_over s t u a b c ls fresh zero within h g =
       subst (λ (xs : List ℕ). Consumes a c xs) (sym (append_assoc h.0 g.0 lost)) (Consumes-trans a b c h.0 (g.0 ++ lost) h.1 g.1.1),
       omega (arith, over.over, over.taken, over.most_bytes, h.2.most_bytes, h.2.taken, zero, all, came, length-append h.0 g.0),
       all_whole_lines s u kept ls fresh cuts over.clear ∙ ap whole_lines_of (sym front),
+      omega (arith, few, h.2.answered, none, h.2.most_lines),
     )
 
 open_many : (s u : LinesSeen) (a c : Option (List ℕ)) (ls : List ScriptLine) → IsFresh s → s.taken ≡ 0 → s.answered ≡ 0 → ReadsOn s a ls u c → BeginsTooMany u
     → (given : List ℕ) × Consumes a c given × (length given ≤ s.most_bytes) × (s.most_lines < length (lines_of given)) × (ls ≡ take s.most_lines (whole_lines_of given))
 open_many s u a c ls fresh zero none h many =
     let size : length ls ≡ s.most_lines = omega (arith, h.2.answered, none, many.lines, h.2.most_lines) in
-    let left = lines_left u.long (u.held ++ []) in
-    let some : 0 < length left = begun_left u.long u.held (λ f. many.begun (record { held = f.0; long = f.1 })) in
-    let all : lines_of h.0 ≡ ls ++ left = ap lines_of (sym (append-nil h.0)) ∙ sym (fresh_lines s h.0 [] fresh) ∙ h.2.cuts [] in
-    let more : length (lines_of h.0) ≡ length ls + length left = ap length all ∙ length-append ls left in (
+    let some : 0 < length (lines_left u.long (u.held ++ [])) = begun_left u.long u.held (λ f. many.begun (record { held = f.0; long = f.1 })) in
+    let more = answered_then_left s u h.0 ls fresh h.2.cuts in (
       h.0,
       h.1,
       omega (arith, h.2.taken, zero, many.bytes, h.2.most_bytes),
@@ -100,10 +134,10 @@ open_many s u a c ls fresh zero none h many =
       first_whole_lines s u h.0 ls fresh h.2.cuts ∙ ap (λ (n : ℕ). take n (whole_lines_of h.0)) size,
     )
 
-open_read : (s t u : LinesSeen) (a b c : Option (List ℕ)) (ls : List ScriptLine) (ending : LineAnswer) → IsFresh s → s.taken ≡ 0 → s.answered ≡ 0 → t.taken ≤ t.most_bytes → ReadsOn s a ls t b → t.ended ≡ false
+open_read : (s t u : LinesSeen) (a b c : Option (List ℕ)) (ls : List ScriptLine) (ending : LineAnswer) → IsFresh s → s.taken ≡ 0 → s.answered ≡ 0 → t.taken ≤ t.most_bytes → t.answered ≤ t.most_lines → ReadsOn s a ls t b → t.ended ≡ false
     → IsNext t b u c ending → ((l : ScriptLine) → ending ≡ Line l → ⊥) → ReadsAll s.most_bytes s.most_lines a ls ending c
-open_read s t u a b c ls (Line l) fresh zero none within h opened next unlike = unlike l refl
-open_read s t u a b c ls End fresh zero none within h opened next unlike =
+open_read s t u a b c ls (Line l) fresh zero none within few h opened next unlike = unlike l refl
+open_read s t u a b c ls End fresh zero none within few h opened next unlike =
     let r = reads_on_none s t u a b c ls h next.0 in (
       r.0,
       Consumes-whole a c r.0 (λ (xs : List ℕ). xs ≡ r.0) r.1 (next.5 opened) refl,
@@ -111,17 +145,18 @@ open_read s t u a b c ls End fresh zero none within h opened next unlike =
       omega (arith, r.2.taken, zero, next.2.bytes, r.2.most_bytes),
       omega (arith, r.2.answered, none, next.2.lines, r.2.most_lines),
     )
-open_read s t u a b c ls ReadFault fresh zero none within h opened next unlike =
+open_read s t u a b c ls ReadFault fresh zero none within few h opened next unlike =
     let r = reads_on_none s t u a b c ls h next.0 in (
       r.0,
       r.1,
       all_whole_lines s u r.0 ls fresh r.2.cuts next.1,
       omega (arith, r.2.taken, zero, next.2.bytes, r.2.most_bytes),
       omega (arith, r.2.answered, none, next.2.lines, r.2.most_lines),
+      omega (arith, answered_then_left s u r.0 ls fresh r.2.cuts, begun_within u next.1 next.2, r.2.answered, none, r.2.most_lines),
     )
-open_read s t u a b c ls InputOver fresh zero none within h opened next unlike =
+open_read s t u a b c ls InputOver fresh zero none within few h opened next unlike =
     elim next.0 [
-      | inl over ↦ let r = open_over s t u a b c ls fresh zero within h over in (r.0, r.1, inl (r.2, r.3))
+      | inl over ↦ let r = open_over s t u a b c ls fresh zero none within few h over in (r.0, r.1, inl (r.2, r.3, r.4))
       | inr many ↦ let r = open_many s u a c ls fresh zero none (reads_on_none s t u a b c ls h many.0) many.1 in (r.0, r.1, inr (r.2, r.3, r.4))
     ]
 
@@ -131,6 +166,6 @@ ended_read s t a c ls zero none within few h = (h.given, h.all, h.are, omega (ar
 -- the first answer that is no line
 pub so_far_ends : (s t u : LinesSeen) (a b c : Option (List ℕ)) (ls : List ScriptLine) (ending : LineAnswer) → IsFresh s → s.taken ≡ 0 → s.answered ≡ 0 → t.taken ≤ t.most_bytes → t.answered ≤ t.most_lines → HasAnswered s a ls t b
     → IsNext t b u c ending → (t.ended ≡ true → IsFresh t → ending ≡ End) → ((l : ScriptLine) → ending ≡ Line l → ⊥) → ReadsAll s.most_bytes s.most_lines a ls ending c
-so_far_ends s t u a b c ls ending fresh zero none within few (inl h) next stays unlike = open_read s t u a b c ls ending fresh zero none within h.0 h.1 next unlike
+so_far_ends s t u a b c ls ending fresh zero none within few (inl h) next stays unlike = open_read s t u a b c ls ending fresh zero none within few h.0 h.1 next unlike
 so_far_ends s t u a b c ls ending fresh zero none within few (inr h) next stays unlike =
     subst (λ (e : LineAnswer). ReadsAll s.most_bytes s.most_lines a ls e c) (sym (stays h.ended h.fresh)) (ended_read s t a c ls zero none within few h)

@@ -27,8 +27,8 @@ HasAnswered start a lines now b = (ReadsOn start a lines now b × (now.ended ≡
 
 -- all lines up to the first answer that is none, under limits of bytes and lines.
 -- End: they are the lines of all bytes, which are within the limits.
--- ReadFault: they are those whose newline was taken, within the limits.
--- InputOver: more bytes were taken than allowed, and they are those whose newline is within the limit; or more lines began than
+-- ReadFault: they are those whose newline was taken, and with the one that has begun they are within the limits.
+-- InputOver: one byte more was taken than allowed, and they are those whose newline is within the limit; or more lines began than
 -- allowed, and they are the first.
 abbrev pub ReadsAll : ℕ → ℕ → Option (List ℕ) → List ScriptLine → LineAnswer → Option (List ℕ) → Type 0
 ReadsAll most_bytes most_lines a lines (Line line) b = ⊥
@@ -36,7 +36,8 @@ ReadsAll most_bytes most_lines a lines End b =
     (given : List ℕ) × IfSome a (λ bytes. bytes ≡ given) × (lines_of given ≡ lines) × (length given ≤ most_bytes) × (length lines ≤ most_lines)
 ReadsAll most_bytes most_lines a lines ReadFault b =
     (given : List ℕ) × Consumes a b given × (lines ≡ whole_lines_of given) × (length given ≤ most_bytes) × (length lines ≤ most_lines)
+    × (length (lines_of given) ≤ most_lines)
 ReadsAll most_bytes most_lines a lines InputOver b =
     (given : List ℕ) × Consumes a b given
-    × (((most_bytes < length given) × (lines ≡ whole_lines_of (take most_bytes given)))
+    × (((length given ≡ most_bytes + 1) × (lines ≡ whole_lines_of (take most_bytes given)) × (length lines ≤ most_lines))
     ⊎ ((length given ≤ most_bytes) × (most_lines < length (lines_of given)) × (lines ≡ take most_lines (whole_lines_of given))))
