@@ -1,8 +1,8 @@
 -- A loop over the calls of a reader of lines, step by step.
-use Rattle.std.proofs.Common.{◌≡◌, ℕ, ◌+◌, ◌≤◌, ◌<◌, List, [], ◌∷◌, ◌++◌, length, take, refl, sym, ◌∙◌, ap, subst, arith, append-nil, append_assoc, length-append, Bool, true, false, cond, nat_eq, inl, inr}
-use Rattle.std.proofs.KnownBytes.{Consumes-trans, Consumes-whole}
+use Rattle.std.proofs.Common.{◌≡◌, ℕ, ◌+◌, ◌≤◌, ◌<◌, List, [], ◌∷◌, ◌++◌, length, take, drop, refl, sym, ◌∙◌, ap, subst, arith, append-nil, append_assoc, take-append-drop, length-append, Bool, true, false, cond, nat_eq, inl, inr}
+use Rattle.std.proofs.KnownBytes.{Consumes-trans}
 use Rattle.std.specs.declared.option.Option.{Option}
-use Rattle.std.specs.Io.KnownBytes.{Consumes}
+use Rattle.std.specs.Io.KnownBytes.{Consumes, IsAtEnd}
 use Rattle.std.proofs.Math.Seq.{take-append_seam}
 use Rattle.std.proofs.lemmas.Bool.Decides.{leb_tells}
 use Rattle.plan_io.specs.declared.lines.ScriptLine.{ScriptLine}
@@ -12,7 +12,7 @@ use Rattle.plan_io.specs.LinesSeen.{LinesSeen, IsFresh, IsWithin}
 use Rattle.plan_io.specs.LinesOf.{line_of, last_of, lines_from, lines_of, whole_lines_of, after_newline, lines_left}
 use Rattle.plan_io.specs.Newline.{NoNewline}
 use Rattle.plan_io.specs.Next.{Cuts, ReadsOn, ReadsOver, BeginsTooMany, IsNext}
-use Rattle.plan_io.specs.Reading.{HasEnded, HasAnswered, ReadsAll}
+use Rattle.plan_io.specs.Reading.{HasEnded, HasAnswered, ReadsAll, ReadsFirst}
 use Rattle.plan_io.proofs.Cuts.{after_more, last_line}
 use Rattle.plan_io.proofs.Readings.{advances_on, cuts_on}
 use Rattle.plan_io.proofs.Turns.{reads_none}
@@ -35,7 +35,8 @@ open_line s t u a b c ls l fresh h opened next =
           let ends = last.0.2 in
           inr (record {
             given = bytes;
-            all = Consumes-whole a c bytes (λ (xs : List ℕ). xs ≡ bytes) came (last.0.3 opened) refl;
+            came = came;
+            at_end = last.0.3 opened;
             are = all_with_last s t u h.0 last.0.0 ls l fresh h.2.cuts ends;
             fresh = ends.fresh;
             ended = last.1;
@@ -140,7 +141,8 @@ open_read s t u a b c ls (Line l) fresh zero none within few h opened next unlik
 open_read s t u a b c ls End fresh zero none within few h opened next unlike =
     let r = reads_on_none s t u a b c ls h next.0 in (
       r.0,
-      Consumes-whole a c r.0 (λ (xs : List ℕ). xs ≡ r.0) r.1 (next.5 opened) refl,
+      r.1,
+      next.5 opened,
       all_lines s u r.0 ls fresh r.2.cuts next.1,
       omega (arith, r.2.taken, zero, next.2.bytes, r.2.most_bytes),
       omega (arith, r.2.answered, none, next.2.lines, r.2.most_lines),
@@ -160,12 +162,54 @@ open_read s t u a b c ls InputOver fresh zero none within few h opened next unli
       | inr many ↦ let r = open_many s u a c ls fresh zero none (reads_on_none s t u a b c ls h many.0) many.1 in (r.0, r.1, inr (r.2, r.3, r.4))
     ]
 
-ended_read : (s t : LinesSeen) (a c : Option (List ℕ)) (ls : List ScriptLine) → s.taken ≡ 0 → s.answered ≡ 0 → t.taken ≤ t.most_bytes → t.answered ≤ t.most_lines → HasEnded s a ls t → ReadsAll s.most_bytes s.most_lines a ls End c
-ended_read s t a c ls zero none within few h = (h.given, h.all, h.are, omega (arith, h.taken, zero, within, h.most_bytes), omega (arith, h.answered, none, few, h.most_lines))
+ended_read : (s t : LinesSeen) (a b c : Option (List ℕ)) (ls : List ScriptLine) → s.taken ≡ 0 → s.answered ≡ 0 → t.taken ≤ t.most_bytes → t.answered ≤ t.most_lines → HasEnded s a ls t b → c ≡ b
+    → ReadsAll s.most_bytes s.most_lines a ls End c
+ended_read s t a b c ls zero none within few h same = (
+  h.given,
+  subst (λ (o : Option (List ℕ)). Consumes a o h.given) (sym same) h.came,
+  subst IsAtEnd (sym same) h.at_end,
+  h.are,
+  omega (arith, h.taken, zero, within, h.most_bytes),
+  omega (arith, h.answered, none, few, h.most_lines),
+)
 
--- the first answer that is no line
+-- the first answer that is no line; after the end nothing more is taken
 pub so_far_ends : (s t u : LinesSeen) (a b c : Option (List ℕ)) (ls : List ScriptLine) (ending : LineAnswer) → IsFresh s → s.taken ≡ 0 → s.answered ≡ 0 → t.taken ≤ t.most_bytes → t.answered ≤ t.most_lines → HasAnswered s a ls t b
-    → IsNext t b u c ending → (t.ended ≡ true → IsFresh t → ending ≡ End) → ((l : ScriptLine) → ending ≡ Line l → ⊥) → ReadsAll s.most_bytes s.most_lines a ls ending c
+    → IsNext t b u c ending → (t.ended ≡ true → IsFresh t → (c ≡ b) × (ending ≡ End)) → ((l : ScriptLine) → ending ≡ Line l → ⊥) → ReadsAll s.most_bytes s.most_lines a ls ending c
 so_far_ends s t u a b c ls ending fresh zero none within few (inl h) next stays unlike = open_read s t u a b c ls ending fresh zero none within few h.0 h.1 next unlike
 so_far_ends s t u a b c ls ending fresh zero none within few (inr h) next stays unlike =
-    subst (λ (e : LineAnswer). ReadsAll s.most_bytes s.most_lines a ls e c) (sym (stays h.ended h.fresh)) (ended_read s t a c ls zero none within few h)
+    let ended = stays h.ended h.fresh in
+    subst (λ (e : LineAnswer). ReadsAll s.most_bytes s.most_lines a ls e c) (sym ended.1) (ended_read s t a b c ls zero none within few h ended.0)
+
+-- ---- a reader that may go on
+
+open_first : (s u : LinesSeen) (a c : Option (List ℕ)) (ls : List ScriptLine) → IsFresh s → s.taken ≡ 0 → s.answered ≡ 0 → u.taken ≤ u.most_bytes → u.answered ≤ u.most_lines → ReadsOn s a ls u c
+    → ReadsFirst s.most_bytes s.most_lines a ls c
+open_first s u a c ls fresh zero none within few h =
+    let ws = whole_lines_of h.0 in
+    let n = length ls in
+    record {
+      given = h.0;
+      came = h.1;
+      first = inl (drop n ws, sym (take-append-drop n ws) ∙ ap (λ (xs : List ScriptLine). xs ++ drop n ws) (sym (first_whole_lines s u h.0 ls fresh h.2.cuts)));
+      bytes = omega (arith, h.2.taken, zero, within, h.2.most_bytes);
+      few = omega (arith, h.2.answered, none, few, h.2.most_lines);
+    }
+
+-- the lines that were answered so far
+pub so_far_first : (s t : LinesSeen) (a b : Option (List ℕ)) (ls : List ScriptLine) → IsFresh s → s.taken ≡ 0 → s.answered ≡ 0 → t.taken ≤ t.most_bytes → t.answered ≤ t.most_lines → HasAnswered s a ls t b
+    → ReadsFirst s.most_bytes s.most_lines a ls b
+so_far_first s t a b ls fresh zero none within few (inl h) = open_first s t a b ls fresh zero none within few h.0
+so_far_first s t a b ls fresh zero none within few (inr h) = record {
+  given = h.given;
+  came = h.came;
+  first = inr (h.at_end, h.are);
+  bytes = omega (arith, h.taken, zero, within, h.most_bytes);
+  few = omega (arith, h.answered, none, few, h.most_lines);
+}
+
+-- the same where memory was wanting in a call, which never is after the end
+pub so_far_cut : (s t u : LinesSeen) (a b c : Option (List ℕ)) (ls : List ScriptLine) → IsFresh s → s.taken ≡ 0 → s.answered ≡ 0 → HasAnswered s a ls t b → ReadsOn t b [] u c → IsWithin u
+    → (t.ended ≡ true → IsFresh t → ⊥) → ReadsFirst s.most_bytes s.most_lines a ls c
+so_far_cut s t u a b c ls fresh zero none (inl h) more within goes_on = open_first s u a c ls fresh zero none within.bytes within.lines (reads_on_none s t u a b c ls h.0 more)
+so_far_cut s t u a b c ls fresh zero none (inr h) more within goes_on = absurd (goes_on h.ended h.fresh)

@@ -1,6 +1,6 @@
 -- The lines that are read and done, what was written of their replies, and what is gathered.
 use Rattle.std.proofs.Common.{◌≡◌, ℕ, ◌+◌, ◌≤◌, ◌<◌, List, [], ◌∷◌, ◌++◌, length, true, false, ◌⊎◌, refl, sym}
-use Rattle.std.proofs.Common.{◌∙◌, ap, subst, arith, inl, inr, Some, None, Result, Ok, Err, OnErr, append_assoc, append-nil}
+use Rattle.std.proofs.Common.{◌∙◌, ap, subst, arith, inl, inr, Result, Ok, Err, OnErr, append_assoc, append-nil}
 use Rattle.std.specs.declared.option.Option.{Option}
 use Rattle.std.specs.declared.alloc.AllocError.{AllocError}
 use Rattle.plan_io.specs.declared.lines.ScriptLine.{ScriptLine}
@@ -9,18 +9,17 @@ use Rattle.plan_io.specs.declared.lines.LineAnswer.TheVariants as answer
 use Rattle.plan_io.specs.declared.sink.PutAnswer.{PutAnswer}
 use Rattle.plan_io.specs.declared.sink.PutAnswer.TheVariants as put
 use Rattle.plan_io.specs.declared.status.Status.{Status}
-use Rattle.plan_io.specs.LinesOf.{lines_of, lines_left}
-use Rattle.plan_io.specs.LinesSeen.{LinesSeen, IsFresh, HasLine}
-use Rattle.plan_io.specs.Next.{IsNext, IsNextCause, IsLine}
+use Rattle.plan_io.specs.LinesSeen.{LinesSeen, IsFresh, IsWithin, HasLine}
+use Rattle.plan_io.specs.Next.{ReadsOn, IsNext, IsNextCause, IsLine}
 use Rattle.plan_io.specs.Reading.{HasAnswered}
 use Rattle.plan_io.specs.Sink.{Adds, Puts, IsPutCause}
-use Rattle.plan_io.proofs.Loops.{so_far_start, so_far_line, so_far_ends}
+use Rattle.plan_io.proofs.Loops.{so_far_start, so_far_line, so_far_ends, so_far_first, so_far_cut}
 use Rattle.desk_events.specs.declared.entry.EventEntry.{EventEntry}
 use Rattle.desk_events.specs.Line.{command_of_line}
 use Rattle.desk_events.specs.Entry.{text_of_entry, text_of_history}
 use Rattle.desk_core.specs.Desk.{StateSeen, start}
 use Rattle.session.specs.Line.{DoesLine, BeginsLine, AddsLine}
-use Rattle.session.specs.Session.{AreFirst, WritesFront, Gathers, IsGathered, IsCutOff, IsEnded, IsWrittenOn}
+use Rattle.session.specs.Session.{WritesFront, Gathers, IsGathered, IsCutOff, IsEnded, IsWrittenOn}
 use Rattle.session.proofs.Done.{AreDone, done_none, one_more, are_more, does_version, sound_done, sound_begun, whole_done}
 use Rattle.session.proofs.Written.{adds_none, adds_twice, front_all, front_after, front_put}
 
@@ -106,9 +105,9 @@ most_stays : (a b : Option (List ℕ)) (lines : List ScriptLine) (reader : Lines
 most_stays a b lines reader (inl h) = h.0.2.most_lines
 most_stays a b lines reader (inr h) = h.most_lines
 
--- what the reader says once it came to the end
-abbrev pub StaysEnded : LinesSeen → LineAnswer → Type 0
-StaysEnded reader found = reader.ended ≡ true → IsFresh reader → found ≡ answer.End
+-- once the reader came to the end it says so again, and takes nothing
+abbrev pub StaysEnded : LinesSeen → Option (List ℕ) → Option (List ℕ) → LineAnswer → Type 0
+StaysEnded reader b c found = reader.ended ≡ true → IsFresh reader → (c ≡ b) × (found ≡ answer.End)
 
 first_fresh : IsFresh first_reader
 first_fresh = record { held = refl; long = refl }
@@ -122,11 +121,11 @@ pub record NextLine (a b c w w' : Option (List ℕ)) (old new : LinesSeen) (repl
   pub steady : new.failed ≡ false
 
 pub next_line : (a b c w w' : Option (List ℕ)) (old new : LinesSeen) (replies : List ℕ) (done : ℕ) (s : StateSeen) (line : ScriptLine) (found : LineAnswer)
-    → found ≡ answer.Line line → Going a b w w' old replies done s → IsNext old b new c found → StaysEnded old found → NextLine a b c w w' old new replies done s line
+    → found ≡ answer.Line line → Going a b w w' old replies done s → IsNext old b new c found → StaysEnded old b c found → NextLine a b c w w' old new replies done s line
 next_line a b c w w' old new replies done s line found is d next stays =
     let here : IsNext old b new c (answer.Line line) = subst (IsNext old b new c) is next in
     let read : HasAnswered first_reader a (d.lines ++ line ∷ []) new c =
-    so_far_line first_reader old new a b c d.lines line first_fresh d.read here (λ e f. sym is ∙ stays e f) in
+    so_far_line first_reader old new a b c d.lines line first_fresh d.read here (λ e f. sym is ∙ (stays e f).1) in
     let within : new.answered ≤ new.most_lines = here.2 in
     record {
       going = d;
@@ -170,72 +169,73 @@ going_line a b c w w' old new replies after done s t line unit n l =
 
 -- ---- endings
 
--- the lines that were answered are the first of the source's
-first_of : (a b : Option (List ℕ)) (lines : List ScriptLine) (reader : LinesSeen) → HasAnswered first_reader a lines reader b → AreFirst a lines
-first_of None b lines reader h = tt
-first_of (Some xs) None lines reader (inl h) = absurd h.0.1
-first_of (Some xs) (Some ys) lines reader (inl h) = (lines_left reader.long (reader.held ++ ys), ap lines_of h.0.1 ∙ h.0.2.cuts ys)
-first_of (Some xs) b lines reader (inr h) = ([], ap lines_of h.all ∙ h.are ∙ sym (append-nil lines))
-
 -- what is gathered of the lines that are done
-pub gathered_here : (a b w w' : Option (List ℕ)) (reader : LinesSeen) (replies : List ℕ) (done : ℕ) (s : StateSeen) → Going a b w w' reader replies done s → IsGathered a w w' replies
+pub gathered_here : (a b w w' : Option (List ℕ)) (reader : LinesSeen) (replies : List ℕ) (done : ℕ) (s : StateSeen) → Going a b w w' reader replies done s → IsGathered a b w w' replies
 gathered_here a b w w' reader replies done s d = record {
   lines = d.lines;
+  read = so_far_first first_reader reader a b d.lines first_fresh refl refl d.bytes d.within d.read;
   history = d.history;
-  first = first_of a b d.lines reader d.read;
-  few = d.few;
   sound = sound_done d.lines d.history s d.are;
   gathers = d.gathers;
 }
 
 -- before the first line
-pub gathered_none : (a w : Option (List ℕ)) (replies : List ℕ) → replies ≡ [] → IsGathered a w w replies
+pub gathered_none : (a w : Option (List ℕ)) (replies : List ℕ) → replies ≡ [] → IsGathered a a w w replies
 gathered_none a w replies none = gathered_here a a w w first_reader replies 0 start (going_start a w replies none)
+
+-- memory was wanting where the reader read on for a line
+pub gathered_read : (a b c w w' : Option (List ℕ)) (old new : LinesSeen) (replies : List ℕ) (done : ℕ) (s : StateSeen) → Going a b w w' old replies done s → ReadsOn old b [] new c → IsWithin new
+    → (old.ended ≡ true → IsFresh old → ⊥) → IsGathered a c w w' replies
+gathered_read a b c w w' old new replies done s d more within goes_on = record {
+  lines = d.lines;
+  read = so_far_cut first_reader old new a b c d.lines first_fresh refl refl d.read more within goes_on;
+  history = d.history;
+  sound = sound_done d.lines d.history s d.are;
+  gathers = d.gathers;
+}
 
 -- memory was wanting within a line
 pub gathered_line : (a b c w w' : Option (List ℕ)) (old new : LinesSeen) (replies after : List ℕ) (done : ℕ) (s t : StateSeen) (line : ScriptLine) (error : AllocError)
     → NextLine a b c w w' old new replies done s line
-    → AddsLine s t (done + 1) (command_of_line line) replies after (Err error) → IsGathered a w w' after
+    → AddsLine s t (done + 1) (command_of_line line) replies after (Err error) → IsGathered a c w w' after
 gathered_line a b c w w' old new replies after done s t line error n l =
     let d = n.going in
     let begins : BeginsLine s (length d.lines + 1) (command_of_line line) l.0 = subst (λ (k : ℕ). BeginsLine s (k + 1) (command_of_line line) l.0) (sym d.count) l.1 in
     record {
       lines = d.lines ++ line ∷ [];
+      read = so_far_first first_reader new a c (d.lines ++ line ∷ []) first_fresh refl refl n.bytes n.within n.read;
       history = d.history ++ l.0;
-      first = first_of a c (d.lines ++ line ∷ []) new n.read;
-      few = n.few;
       sound = sound_begun d.lines line d.history l.0 s d.are (room d.lines line n.few) begins;
       gathers = gathers_more w w' replies after d.history l.0 d.gathers l.2;
     }
 
 -- what was gathered was written as far as it could be
-cut_off : (a w x y : Option (List ℕ)) (replies : List ℕ) → IsGathered a w x replies → WritesFront x y replies → IsCutOff a w y
-cut_off a w x y replies g f = record {
+cut_off : (a b w x y : Option (List ℕ)) (replies : List ℕ) → IsGathered a b w x replies → WritesFront x y replies → IsCutOff a b w y
+cut_off a b w x y replies g f = record {
   lines = g.lines;
+  read = g.read;
   history = g.history;
-  first = g.first;
-  few = g.few;
   sound = g.sound;
   front = subst (λ (text : List ℕ). WritesFront w y text) (sym g.gathers.2) (front_after w x y g.gathers.0 replies g.gathers.1 f);
 }
 
-pub cut_by_fault : (a w x y : Option (List ℕ)) (replies : List ℕ) → IsGathered a w x replies → Puts x y put.WriteFault replies → IsCutOff a w y
-cut_by_fault a w x y replies g p = cut_off a w x y replies g (front_put x y replies p)
+pub cut_by_fault : (a b w x y : Option (List ℕ)) (replies : List ℕ) → IsGathered a b w x replies → Puts x y put.WriteFault replies → IsCutOff a b w y
+cut_by_fault a b w x y replies g p = cut_off a b w x y replies g (front_put x y replies p)
 
 -- where a write of what is due failed
 pub cut_by_due : (a b w x y : Option (List ℕ)) (reader : LinesSeen) (old new : List ℕ) (done : ℕ) (s : StateSeen) (found : PutAnswer) → found ≡ put.WriteFault → Going a b w x reader old done s
-    → IsWrittenOn x y found old new → IsCutOff a w y
+    → IsWrittenOn x y found old new → IsCutOff a b w y
 cut_by_due a b w x y reader old new done s found is d h =
-    cut_by_fault a w x y old (gathered_here a b w x reader old done s d) (subst (λ (f : PutAnswer). IsWrittenOn x y f old new) is h)
+    cut_by_fault a b w x y old (gathered_here a b w x reader old done s d) (subst (λ (f : PutAnswer). IsWrittenOn x y f old new) is h)
 
 -- what is gathered where memory is wanting
 pub on_err : (P : Type 0) (result : Result Status AllocError) → P → OnErr result P
 on_err P (Ok status) h = tt
 on_err P (Err error) h = h
 
-pub cut_by_memory : (a w x y : Option (List ℕ)) (replies : List ℕ) (found : PutAnswer) → IsGathered a w x replies → Puts x y found replies → IsCutOff a w y
-cut_by_memory a w x y replies put.Done g p = cut_off a w x y replies g (front_all x y replies p)
-cut_by_memory a w x y replies put.WriteFault g p = cut_by_fault a w x y replies g p
+pub cut_by_memory : (a b w x y : Option (List ℕ)) (replies : List ℕ) (found : PutAnswer) → IsGathered a b w x replies → Puts x y found replies → IsCutOff a b w y
+cut_by_memory a b w x y replies put.Done g p = cut_off a b w x y replies g (front_all x y replies p)
+cut_by_memory a b w x y replies put.WriteFault g p = cut_by_fault a b w x y replies g p
 
 is_none : (ending : LineAnswer) → ((line : ScriptLine) → ending ≡ answer.Line line → ⊥) → IsLine ending → ⊥
 is_none (answer.Line line) unlike h = unlike line refl
@@ -251,7 +251,7 @@ no_line_left reader replies found ending unlike is (inl has) at_hand = absurd (i
 
 -- the lines came to an end
 pub all_answered : (a b c w w' : Option (List ℕ)) (old new : LinesSeen) (replies : List ℕ) (done : ℕ) (s : StateSeen) (found : LineAnswer) → replies ≡ [] → Going a b w w' old replies done s
-    → IsNext old b new c found → StaysEnded old found → ((line : ScriptLine) → found ≡ answer.Line line → ⊥) → IsEnded found a c w w'
+    → IsNext old b new c found → StaysEnded old b c found → ((line : ScriptLine) → found ≡ answer.Line line → ⊥) → IsEnded found a c w w'
 all_answered a b c w w' old new replies done s found none d next stays unlike = record {
   lines = d.lines;
   read = so_far_ends first_reader old new a b c d.lines found first_fresh refl refl d.bytes d.within d.read next stays unlike;

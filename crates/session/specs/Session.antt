@@ -1,6 +1,5 @@
 -- What a session reads and writes.
 use Rattle.std.specs.Prelude.{◌≡◌, ℕ, ◌≤◌, List, [], ◌∷◌, ◌++◌, length, take}
-use Rattle.std.specs.Prelude.{IfSome}
 use Rattle.std.specs.declared.option.Option.{Option}
 use Rattle.plan_io.specs.declared.lines.ScriptLine.{ScriptLine}
 use Rattle.plan_io.specs.declared.lines.LineAnswer.{LineAnswer}
@@ -9,8 +8,7 @@ use Rattle.plan_io.specs.declared.sink.PutAnswer.{PutAnswer}
 use Rattle.plan_io.specs.declared.sink.PutAnswer.TheVariants as put
 use Rattle.plan_io.specs.declared.status.Status.{Status}
 use Rattle.plan_io.specs.declared.status.Status.TheVariants.{Done, Words, ReadFault, WriteFault, NoMemory, InputOver, NoDocument, No, NoCaller}
-use Rattle.plan_io.specs.LinesOf.{lines_of}
-use Rattle.plan_io.specs.Reading.{ReadsAll}
+use Rattle.plan_io.specs.Reading.{ReadsAll, ReadsFirst}
 use Rattle.plan_io.specs.Source.{Rose}
 use Rattle.plan_io.specs.Sink.{Adds, Puts}
 use Rattle.desk_events.specs.declared.entry.EventEntry.{EventEntry}
@@ -41,20 +39,15 @@ pub record IsEnded (ending : LineAnswer) (left left' held held' : Option (List �
   pub read : ReadsAll 67108864 65536 left lines ending left'
   pub answered : IsAnswered lines held held'
 
--- the lines are the first of those that the source had
-abbrev pub AreFirst : Option (List ℕ) → List ScriptLine → Type 0
-AreFirst left lines = IfSome left (λ bytes. (rest : List ScriptLine) × (lines_of bytes ≡ lines ++ rest))
-
 -- a front of the text was written
 abbrev pub WritesFront : Option (List ℕ) → Option (List ℕ) → List ℕ → Type 0
 WritesFront old new text = (n : ℕ) × (n ≤ length text) × Adds old new (take n text)
 
--- a front of the text of a sound history of the first lines was written
-pub record IsCutOff (left held held' : Option (List ℕ)) : Type 0 where
+-- the first lines of what was read, within the limits, were done, and a front of the text of a sound history of them was written
+pub record IsCutOff (left left' held held' : Option (List ℕ)) : Type 0 where
   pub lines : List ScriptLine
+  pub read : ReadsFirst 67108864 65536 left lines left'
   pub history : List EventEntry
-  pub first : AreFirst left lines
-  pub few : length lines ≤ 65536
   pub sound : IsSound lines history
   pub front : WritesFront held held' (text_of_history history)
 
@@ -63,8 +56,8 @@ abbrev pub IsSession : Option (List ℕ) → Option (List ℕ) → Option (List 
 IsSession left left' held held' Done = IsEnded ending.End left left' held held'
 IsSession left left' held held' ReadFault = IsEnded ending.ReadFault left left' held held'
 IsSession left left' held held' InputOver = IsEnded ending.InputOver left left' held held'
-IsSession left left' held held' WriteFault = IsCutOff left held held'
-IsSession left left' held held' NoMemory = IsCutOff left held held'
+IsSession left left' held held' WriteFault = IsCutOff left left' held held'
+IsSession left left' held held' NoMemory = IsCutOff left left' held held'
 IsSession left left' held held' Words = Unit {0}
 IsSession left left' held held' NoDocument = ⊥
 IsSession left left' held held' No = ⊥
@@ -82,12 +75,11 @@ IsSessionCause reads reads' writes writes' _ = Unit {0}
 abbrev pub Gathers : Option (List ℕ) → Option (List ℕ) → List ℕ → List ℕ → Type 0
 Gathers held held' replies text = (told : List ℕ) × Adds held held' told × (text ≡ told ++ replies)
 
--- of the text of a sound history of the first lines a front was written, and the rest is gathered
-pub record IsGathered (left held held' : Option (List ℕ)) (replies : List ℕ) : Type 0 where
+-- of the text of a sound history of the first lines of what was read a front was written, and the rest is gathered
+pub record IsGathered (left left' held held' : Option (List ℕ)) (replies : List ℕ) : Type 0 where
   pub lines : List ScriptLine
+  pub read : ReadsFirst 67108864 65536 left lines left'
   pub history : List EventEntry
-  pub first : AreFirst left lines
-  pub few : length lines ≤ 65536
   pub sound : IsSound lines history
   pub gathers : Gathers held held' replies (text_of_history history)
 

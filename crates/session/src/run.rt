@@ -71,7 +71,7 @@ fn answer_lines<R: Threads + Sync, S: Source, K: Sink>(
     ensures session { IfOk result (IsSession (S.left source.old) (S.left source.new) (K.written sink.old) (K.written sink.new)) }
     ensures words { IfOk result (λ status. status ≢ Status.Words) }
     ensures cause { IfOk result (IsSessionCause (S.faults source.old) (S.faults source.new) (K.faults sink.old) (K.faults sink.new)) }
-    ensures gathered { OnErr result (IsGathered (S.left source.old) (K.written sink.old) (K.written sink.new) replies.new.items) }
+    ensures gathered { OnErr result (IsGathered (S.left source.old) (S.left source.new) (K.written sink.old) (K.written sink.new) replies.new.items) }
 {
     let mut reader = Lines::new(alloc, MOST_BYTES, MOST_LINES)?;
     let mut done: u32 = 0;

@@ -1,4 +1,4 @@
-use Rattle.std.proofs.Common.{rules, ◌≡◌, ◌++◌, ◌∷◌, [], List, ℕ, sym, ◌∙◌, subst, true}
+use Rattle.std.proofs.Common.{rules, ◌≡◌, ◌++◌, ◌∷◌, [], List, ℕ, sym, ◌∙◌, ap, subst, true}
 use Rattle.plan_io.specs.LinesSeen.{IsFresh}
 use Rattle.plan_io.specs.declared.lines.ScriptLine.{ScriptLine}
 use Rattle.plan_io.specs.declared.lines.LineAnswer.TheVariants.{Line, End}
@@ -38,7 +38,8 @@ returns-in_default g c =
     let none : start.answered ≡ 0 = search rules in
     let bytes : start.most_bytes ≡ c.args.most_bytes = search rules in
     let lines : start.most_lines ≡ c.args.most_lines = search rules in
-    let stays : c.loop-reader.reader.ended ≡ true → IsFresh c.loop-reader.reader → ending ≡ End = λ e f. (c.in_ok-ending.ensures.stays_ended e f).1.0 in
+    let stays : c.loop-reader.reader.ended ≡ true → IsFresh c.loop-reader.reader → (after ≡ b) × (ending ≡ End) =
+    λ e f. let same = c.in_ok-ending.ensures.stays_ended e f in (ap (g.S.Source.left) same.0, same.1.0) in
     let read : ReadsAll start.most_bytes start.most_lines a c.loop-reader.lines.items ending after =
     so_far_ends start c.loop-reader.reader c.next.new.self a b after c.loop-reader.lines.items ending fresh zero none was.bytes was.lines was.so_far c.in_ok-ending.ensures.next stays c.in_default.not-Line in
     subst (λ (n : ℕ). ReadsAll n c.args.most_lines a c.loop-reader.lines.items ending after) bytes

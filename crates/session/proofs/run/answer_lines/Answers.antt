@@ -3,7 +3,7 @@ use Rattle.plan_io.specs.LinesSeen.{LinesSeen}
 use Rattle.plan_io.specs.declared.lines.LineAnswer.TheVariants as answer
 use Rattle.plan_io.specs.Next.{IsNext}
 use Rattle.session.proofs.Going.{going_first, going_due, going_line, later_read, later_written, next_line, few_done}
-use Rattle.session.proofs.Going.{gathered_none, gathered_here, gathered_line, cut_by_due, all_answered, no_line_left, on_err}
+use Rattle.session.proofs.Going.{gathered_none, gathered_read, gathered_line, cut_by_due, all_answered, no_line_left, on_err}
 use Rattle.session.proofs.run.answer_lines.Goals as goal
 
 pub loop-reader-init : goal.loop-reader-init
@@ -30,7 +30,7 @@ do_line-requires-clause-version g c κs sub =
     let after = g.S.Source.left c.next.new.source in
     let due = going_due a b w x y r old now n s c.write_due.result c.in-Done.is was.going c.write_due.ensures.bytes in
     let line = c.in-Line.line in
-    let next = next_line a b after w y r c.next.new.self now n s line c.in_ok-line.field-0 c.in-Line.is due c.in_ok-line.ensures.next (λ e f. (c.in_ok-line.ensures.stays_ended e f).1.0) in
+    let next = next_line a b after w y r c.next.new.self now n s line c.in_ok-line.field-0 c.in-Line.is due c.in_ok-line.ensures.next (λ e f. let same = c.in_ok-line.ensures.stays_ended e f in (ap (g.S.Source.left) same.0, same.1.0)) in
     omega (arith, few_done a b after w y r c.next.new.self now n s line next, was.going.version)
 
 pub loop-reader-preserved : goal.loop-reader-preserved
@@ -49,7 +49,7 @@ loop-reader-preserved g c =
     let after = g.S.Source.left c.next.new.source in
     let due = going_due a b w x y r old now n s c.write_due.result c.in-Done.is was.going c.write_due.ensures.bytes in
     let line = c.in-Line.line in
-    let next = next_line a b after w y r c.next.new.self now n s line c.in_ok-line.field-0 c.in-Line.is due c.in_ok-line.ensures.next (λ e f. (c.in_ok-line.ensures.stays_ended e f).1.0) in
+    let next = next_line a b after w y r c.next.new.self now n s line c.in_ok-line.field-0 c.in-Line.is due c.in_ok-line.ensures.next (λ e f. let same = c.in_ok-line.ensures.stays_ended e f in (ap (g.S.Source.left) same.0, same.1.0)) in
     record {
       going = going_line a b after w y r c.next.new.self now c.do_line.new.replies.items n s c.do_line.new.state line c.in_ok-do_line-in-Line.field-0 next c.in_ok-do_line-in-Line.ensures;
       steady = next.steady;
@@ -73,7 +73,7 @@ loop-reader-preserved-in_ok-do_line-in-Line g c =
     let after = g.S.Source.left c.next.new.source in
     let due = going_due a b w x y r old now n s c.write_due.result c.in-Done.is was.going c.write_due.ensures.bytes in
     let line = c.in-Line.line in
-    let next = next_line a b after w y r c.next.new.self now n s line c.in_ok-line.field-0 c.in-Line.is due c.in_ok-line.ensures.next (λ e f. (c.in_ok-line.ensures.stays_ended e f).1.0) in
+    let next = next_line a b after w y r c.next.new.self now n s line c.in_ok-line.field-0 c.in-Line.is due c.in_ok-line.ensures.next (λ e f. let same = c.in_ok-line.ensures.stays_ended e f in (ap (g.S.Source.left) same.0, same.1.0)) in
     record {
       going = going_line a b after w y r c.next.new.self now c.do_line.new.replies.items n s c.do_line.new.state line c.in_ok-do_line-in-Line.field-0 next c.in_ok-do_line-in-Line.ensures;
       steady = next.steady;
@@ -114,7 +114,9 @@ returns-in_err-line-clause-gathered g c =
     let now = c.write_due.new.replies.items in
     let was = c.loop-reader.invariant in
     let due = going_due a b w x y r old now n s c.write_due.result c.in-Done.is was.going c.write_due.ensures.bytes in
-    on_err _ c.from_residual-in_err-line.result (gathered_here a b w y r now n s due)
+    let after = g.S.Source.left c.next.new.source in
+    on_err _ c.from_residual-in_err-line.result
+    (gathered_read a b after w y r c.next.new.self now n s due c.in_err-line.ensures.err c.in_err-line.ensures.err_state.1 (λ e f. (c.in_err-line.ensures.stays_ended e f).1))
 
 pub returns-in_err-do_line-in-Line-clause-gathered : goal.returns-in_err-do_line-in-Line-clause-gathered
 returns-in_err-do_line-in-Line-clause-gathered g c =
@@ -132,7 +134,7 @@ returns-in_err-do_line-in-Line-clause-gathered g c =
     let after = g.S.Source.left c.next.new.source in
     let due = going_due a b w x y r old now n s c.write_due.result c.in-Done.is was.going c.write_due.ensures.bytes in
     let line = c.in-Line.line in
-    let next = next_line a b after w y r c.next.new.self now n s line c.in_ok-line.field-0 c.in-Line.is due c.in_ok-line.ensures.next (λ e f. (c.in_ok-line.ensures.stays_ended e f).1.0) in
+    let next = next_line a b after w y r c.next.new.self now n s line c.in_ok-line.field-0 c.in-Line.is due c.in_ok-line.ensures.next (λ e f. let same = c.in_ok-line.ensures.stays_ended e f in (ap (g.S.Source.left) same.0, same.1.0)) in
     on_err _ c.from_residual-in_err-do_line-in-Line.result
     (gathered_line a b after w y r c.next.new.self now c.do_line.new.replies.items n s c.do_line.new.state line c.in_err-do_line-in-Line.field-0.0 next c.in_err-do_line-in-Line.ensures)
 
@@ -152,7 +154,7 @@ returns-in-End-clause-session g c =
     let after = g.S.Source.left c.next.new.source in
     let due = going_due a b w x y r old now n s c.write_due.result c.in-Done.is was.going c.write_due.ensures.bytes in
     let none : now ≡ [] = no_line_left r now c.in_ok-line.field-0 answer.End (λ line e. cc) c.in-End.is c.write_due.ensures.due (λ has. (c.in_ok-line.ensures.at_hand has).1) in
-    all_answered a b after w y r c.next.new.self now n s answer.End none due (subst (IsNext r b c.next.new.self after) c.in-End.is c.in_ok-line.ensures.next) (λ e f. sym c.in-End.is ∙ (c.in_ok-line.ensures.stays_ended e f).1.0) (λ line e. cc)
+    all_answered a b after w y r c.next.new.self now n s answer.End none due (subst (IsNext r b c.next.new.self after) c.in-End.is c.in_ok-line.ensures.next) (λ e f. let same = c.in_ok-line.ensures.stays_ended e f in (ap (g.S.Source.left) same.0, sym c.in-End.is ∙ same.1.0)) (λ line e. cc)
 
 pub returns-in-ReadFault-clause-session : goal.returns-in-ReadFault-clause-session
 returns-in-ReadFault-clause-session g c =
@@ -170,7 +172,7 @@ returns-in-ReadFault-clause-session g c =
     let after = g.S.Source.left c.next.new.source in
     let due = going_due a b w x y r old now n s c.write_due.result c.in-Done.is was.going c.write_due.ensures.bytes in
     let none : now ≡ [] = no_line_left r now c.in_ok-line.field-0 answer.ReadFault (λ line e. cc) c.in-ReadFault.is c.write_due.ensures.due (λ has. (c.in_ok-line.ensures.at_hand has).1) in
-    all_answered a b after w y r c.next.new.self now n s answer.ReadFault none due (subst (IsNext r b c.next.new.self after) c.in-ReadFault.is c.in_ok-line.ensures.next) (λ e f. sym c.in-ReadFault.is ∙ (c.in_ok-line.ensures.stays_ended e f).1.0) (λ line e. cc)
+    all_answered a b after w y r c.next.new.self now n s answer.ReadFault none due (subst (IsNext r b c.next.new.self after) c.in-ReadFault.is c.in_ok-line.ensures.next) (λ e f. let same = c.in_ok-line.ensures.stays_ended e f in (ap (g.S.Source.left) same.0, sym c.in-ReadFault.is ∙ same.1.0)) (λ line e. cc)
 
 pub returns-in-InputOver-clause-session : goal.returns-in-InputOver-clause-session
 returns-in-InputOver-clause-session g c =
@@ -188,4 +190,4 @@ returns-in-InputOver-clause-session g c =
     let after = g.S.Source.left c.next.new.source in
     let due = going_due a b w x y r old now n s c.write_due.result c.in-Done.is was.going c.write_due.ensures.bytes in
     let none : now ≡ [] = no_line_left r now c.in_ok-line.field-0 answer.InputOver (λ line e. cc) c.in-InputOver.is c.write_due.ensures.due (λ has. (c.in_ok-line.ensures.at_hand has).1) in
-    all_answered a b after w y r c.next.new.self now n s answer.InputOver none due (subst (IsNext r b c.next.new.self after) c.in-InputOver.is c.in_ok-line.ensures.next) (λ e f. sym c.in-InputOver.is ∙ (c.in_ok-line.ensures.stays_ended e f).1.0) (λ line e. cc)
+    all_answered a b after w y r c.next.new.self now n s answer.InputOver none due (subst (IsNext r b c.next.new.self after) c.in-InputOver.is c.in_ok-line.ensures.next) (λ e f. let same = c.in_ok-line.ensures.stays_ended e f in (ap (g.S.Source.left) same.0, sym c.in-InputOver.is ∙ same.1.0)) (λ line e. cc)
