@@ -30,6 +30,7 @@ pub enum Said {
 pub struct Answer {
     /// Whole lines, each with its newline.
     pub text: Vec<u8>,
+    /// What the text says of the document.
     pub said: Said,
 }
 

@@ -25,7 +25,7 @@ pub use document::{Answer, Answers, Said, run_document};
 pub use gate::{Gate, NoGate, Point};
 pub use lines::{LineAnswer, Lines, ScriptLine};
 pub use memory::{MemSink, MemSource};
-pub use program::{exit_code, is_word, program_words};
+pub use program::{exit_code, program_words};
 pub use sink::{PutAnswer, Sink, WriteAnswer, put};
 pub use source::{ReadAnswer, Source};
 pub use status::Status;

@@ -29,7 +29,7 @@ pub fn program_words<R: Env + AllocGlobal>(rt: &R) -> Result<Vec<String>, Status
 }
 
 /// Whether the words are that one word.
-pub fn is_word(words: &[String], word: &str) -> bool
+pub(crate) fn is_word(words: &[String], word: &str) -> bool
     ensures { IsTrue result ↔ IsOneWord word.now words.now }
 {
     match words {

@@ -61,6 +61,7 @@ fn take(state: &State) -> Result<Taken, AllocError>
     ensures taken { IfOk result (IsTakenOf state.now) }
     ensures range { IfOk result (λ taken. IsInRange taken.settings) }
 {
+    // The call tells what holds of every state, so that the settings are known to be in their ranges.
     let _ = state.version();
     take_for(CALLER, state)
 }

@@ -1,5 +1,5 @@
 //! What was replied to the lines of a workload, in one line.
-ghost use Rattle.std.specs.Prelude.{◌≡◌, ◌+◌, ◌++◌, [], ◌∷◌, IfOk};
+ghost use Rattle.std.specs.Prelude.{◌≡◌, ◌+◌, IfOk};
 ghost use Rattle.plan_json.specs.Adds.{text_of};
 ghost use Rattle.session.specs.Summary.{summary_data, summary_text, with_reply, with_line};
 
