@@ -55,7 +55,7 @@ pub record IsWithdrawable (number : GroupNo) (s : Progress) : Type 0 where
   pub there : group_at s.groups number ≡ Some group
   pub idle : IsIdle s.running group
 
--- the same request, at the same state or at a later one
+-- the same request, pending only where it was
 pub record IsLaterRequest (q r : Request) : Type 0 where
   pub number : r.number ≡ q.number
   pub seconds : r.seconds ≡ q.seconds

@@ -4,13 +4,16 @@ use crate::group::Group;
 use crate::observation::Observation;
 use plan_base::{ListOf, RequestNo, Sec};
 
-/// What is other once a change is made: the moment, the groups of which a request is in another state, by rising numbers,
-/// and the observations that haven't started and those that are running.
+/// What is other once a change is made.
 #[derive(Debug, Drop)]
 pub struct Change {
+    /// The moment.
     pub now: Sec,
+    /// The groups that it touches, as they then are, by rising numbers.
     pub groups: ListOf<Group>,
+    /// The published observations that haven't started, all of them.
     pub kept: ListOf<Observation>,
+    /// The observations that are running, all of them.
     pub running: ListOf<Observation>,
 }
 
@@ -23,6 +26,7 @@ pub struct Moved {
     pub failed: ListOf<RequestNo>,
     /// Those that became window expired.
     pub expired: ListOf<RequestNo>,
+    /// What it leaves, once it is made.
     pub change: Change,
 }
 
@@ -33,5 +37,6 @@ pub struct Reported {
     pub canceled: ListOf<RequestNo>,
     /// Those that became window expired.
     pub expired: ListOf<RequestNo>,
+    /// What it leaves, once it is made.
     pub change: Change,
 }

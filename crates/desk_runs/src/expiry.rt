@@ -1,13 +1,14 @@
 // Requests whose windows have passed, in the groups that are open.
 
-ghost use Rattle.std.specs.Prelude.{◌≡◌, ℕ, ◌+◌, ◌-◌, ◌≤◌, ◌++◌, ◌∷◌, [], ◌&&◌, if◌then◌else◌, IfOk, OnOk, All, length, map, filter};
+ghost use Rattle.std.specs.Prelude.{◌≡◌, ◌+◌, ◌-◌, ◌≤◌, ◌++◌, ◌∷◌, [], ◌&&◌, if◌then◌else◌, IfOk, OnOk, All, length, map, filter};
 ghost use Rattle.std.specs.List.{flat_map, list_any};
 ghost use Rattle.plan_base.specs.States.{is_pending, is_in, is_over};
 ghost use Rattle.desk_runs.specs.Clock.{became, is_past, is_waiting};
 ghost use Rattle.desk_runs.specs.Turning.{turned, is_touched, groups_of};
 
 use crate::by_number::group_of;
-use crate::group::{Group, Request, with_lost, with_past};
+use crate::changing::{with_lost, with_past};
+use crate::group::{Group, Request};
 use crate::observation::Observation;
 use plan_base::{GroupNo, RequestNo, RequestState, Sec};
 use std::alloc::{AllocError, Global};

@@ -4,6 +4,7 @@
 
 mod by_number;
 mod change;
+mod changing;
 mod expiry;
 mod group;
 mod laws;

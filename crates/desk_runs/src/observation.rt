@@ -9,9 +9,13 @@ use plan_base::{RequestNo, Sec, SliceNo, TelescopeNo};
 /// A request that is to be observed on a telescope for so many seconds from the start of a slice on.
 #[derive(Clone, Copy, Debug, PartialEq, Eq)]
 pub struct Observation {
+    /// Which request is observed.
     pub request: RequestNo,
+    /// Which telescope observes it.
     pub telescope: TelescopeNo,
+    /// The slice at whose start it begins, of the desk's slice length.
     pub slice: SliceNo,
+    /// How long it takes, 1 to 86,400 seconds.
     pub seconds: u32,
 }
 

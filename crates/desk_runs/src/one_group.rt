@@ -9,8 +9,9 @@ ghost use Rattle.desk_runs.specs.Reports.{completed};
 ghost use Rattle.desk_runs.specs.Sound.{IsLater};
 
 use crate::change::Change;
+use crate::changing::completed;
 use crate::expiry::{extend_became, extend_over, turned};
-use crate::group::{Group, completed};
+use crate::group::Group;
 use crate::observation::Observation;
 use crate::turn::without;
 use plan_base::{ListOf, RequestNo, RequestState, Sec};

@@ -18,8 +18,9 @@ ghost use Rattle.desk_runs.specs.Reports.{withdrawn, reported};
 
 use crate::by_number::{at_place, count_pending, group_of, keep_open, put_groups};
 use crate::change::{Change, Moved, Reported};
+use crate::changing::canceled;
 use crate::expiry::expire;
-use crate::group::{Ask, Group, canceled};
+use crate::group::{Ask, Group};
 use crate::new_group::{pending_requests, push_owners};
 use crate::observation::{Observation, is_placed};
 use crate::one_group::{became_of, change_one, over_of, settled_group};
@@ -29,9 +30,9 @@ use std::alloc::{AllocError, Global};
 use std::marker::Model;
 
 /// The groups of a desk with the states of their requests, and the published observations that haven't started and those
-/// that are running, at a moment. A call costs what it touches: groups and requests are found by number at once, and only
-/// a moment goes over all groups that are open. What changes is first looked for, by calls that may find no memory, and
-/// then made by `make`, which takes none.
+/// that are running, at a moment. Groups and requests are found by number at once, and closed groups aren't looked at again;
+/// a moment, and `make`, go over all groups that are open, and each change copies the observations. What changes is first
+/// looked for, by calls that may find no memory, and then made by `make`, which takes none.
 #[derive(Debug, Drop)]
 pub struct Runs {
     len: u32,

@@ -1,6 +1,6 @@
 // Observations that begin and end.
 
-ghost use Rattle.std.specs.Prelude.{◌≡◌, ◌++◌, [], IfOk, filter, map, not, ◌==◌};
+ghost use Rattle.std.specs.Prelude.{◌≡◌, ◌++◌, IfOk, filter, map, not, ◌==◌};
 ghost use Rattle.std.specs.List.{list_any};
 ghost use Rattle.desk_runs.specs.Clock.{has_begun, has_ended, numbers_in, requests_in};
 
