@@ -2,7 +2,6 @@
 
 ghost use Rattle.std.specs.Prelude.{◌≡◌, ◌<◌, ◌≤◌, ◌+◌, ◌^◌, [], true, All, OnOk, OnErr, None, Some, IfOk, MatchOption, length, map, filter, slice_index_or};
 ghost use Rattle.std.specs.Option.{option_copied};
-ghost use Rattle.desk_runs.specs.declared.group.Group.{Group};
 ghost use Rattle.plan_base.specs.declared.state.RequestState.TheVariants.{WindowExpired, Canceled};
 ghost use Rattle.plan_base.specs.States.{is_over, is_in};
 ghost use Rattle.desk_runs.specs.States.{is_open};
@@ -211,17 +210,6 @@ impl Runs {
         })
     }
 
-    // The group with a number, which is there.
-    fn known_group(&self, number: GroupNo) -> &Group
-        requires { (g : Group) × (group_at self.now.groups number ≡ Some g) }
-        ensures { group_at self.now.groups number ≡ Some result.now }
-    {
-        match self.group(number) {
-            Some(group) => group,
-            None => unreachable!(),
-        }
-    }
-
     // The group of a request that is running.
     fn group_of_running(&self, number: RequestNo) -> &Group
         requires { is_placed self.now.running number ≡ true }
@@ -241,7 +229,8 @@ impl Runs {
         ensures withdrawn { IfOk result (λ change. changed self.now change ≡ withdrawn number self.now) }
         ensures can { IfOk result (λ change. CanChange self.now change) }
     {
-        let group = self.known_group(number);
+        let _ = self.now();
+        let group = self.known(number);
         let after = canceled(self.alloc, group)?;
         let over = over_of(self.alloc, group, &after)?;
         let running = Vec::from_slice(self.alloc, self.running.as_slice())?;
