@@ -16,4 +16,5 @@ pub mod Known
 pub mod Adding
 pub mod Forgetting
 pub mod GoingOn
+pub mod Over
 pub mod Commuting

@@ -92,7 +92,7 @@ touched_groups running now gs = filter_within is_open (is_touched running now) g
 abbrev pub is_among : RequestNo → List RequestNo → Bool
 is_among number numbers = list_any (λ r. r.0 == number.0) numbers
 
-number_beyond : (b : ℕ) (number : RequestNo) (xs : List Request) → IsCountedFrom b (map (λ q. q.number.0) xs) → number.0 ≤ b → (test : Request → Bool) → list_any (λ q. is_request number q && test q) xs ≡ false
+pub number_beyond : (b : ℕ) (number : RequestNo) (xs : List Request) → IsCountedFrom b (map (λ q. q.number.0) xs) → number.0 ≤ b → (test : Request → Bool) → list_any (λ q. is_request number q && test q) xs ≡ false
 number_beyond b number [] h e test = refl
 number_beyond b number (x ∷ xs) h e test =
     let first : x.number.0 ≡ b + 1 = counted_head b x.number.0 (map (λ q. q.number.0) xs) h in

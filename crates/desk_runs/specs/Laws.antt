@@ -1,13 +1,15 @@
 -- What is so of every state.
-use Rattle.std.specs.Prelude.{◌≡◌, ◌≤◌, ◌<◌, Bool, true, List, ◌++◌, length, All}
+use Rattle.std.specs.Prelude.{◌≡◌, ◌≤◌, ◌<◌, Bool, true, false, List, ◌++◌, length, All}
 use Rattle.std.specs.List.{AllZip}
 use Rattle.plan_base.specs.declared.number.GroupNo.{GroupNo}
 use Rattle.plan_base.specs.declared.number.RequestNo.{RequestNo}
 use Rattle.plan_base.specs.declared.number.Sec.{Sec}
 use Rattle.plan_base.specs.declared.parts.Op.{Op}
+use Rattle.plan_base.specs.States.{is_pending}
 use Rattle.desk_runs.specs.declared.group.Ask.{Ask}
+use Rattle.desk_runs.specs.declared.group.Request.{Request}
 use Rattle.desk_runs.specs.declared.observation.Observation.{Observation}
-use Rattle.desk_runs.specs.Numbers.{is_placed}
+use Rattle.desk_runs.specs.Numbers.{requests_of, is_placed}
 use Rattle.desk_runs.specs.Owners.{pending_count}
 use Rattle.desk_runs.specs.Progress.{Progress}
 use Rattle.desk_runs.specs.Clock.{IsSettled, settle, at_moment}
@@ -59,6 +61,26 @@ ReportGoesOn = (s : Progress) (number : RequestNo) (completes : Bool) → GoesOn
 
 abbrev pub WithdrawalGoesOn : Type 0
 WithdrawalGoesOn = (s : Progress) (number : GroupNo) → GoesOn s (withdrawn number s)
+
+-- ---- what is over
+
+-- a request that isn't pending is in the same state later
+abbrev pub IsOverStill : Request → Request → Type 0
+IsOverStill q r = is_pending q.state ≡ false → r.state ≡ q.state
+
+-- so are all
+abbrev pub StaysOver : Progress → Progress → Type 0
+StaysOver before after = AllZip IsOverStill (requests_of before.groups) (requests_of after.groups)
+
+abbrev pub MomentLeavesOver : Type 0
+MomentLeavesOver = (s : Progress) (now : Sec) → StaysOver s (settle (at_moment now s))
+
+-- a report on a running request, which is pending
+abbrev pub ReportLeavesOver : Type 0
+ReportLeavesOver = (s : Progress) (number : RequestNo) (completes : Bool) → IsSound s → is_placed s.running number ≡ true → StaysOver s (reported number completes s)
+
+abbrev pub WithdrawalLeavesOver : Type 0
+WithdrawalLeavesOver = (s : Progress) (number : GroupNo) → StaysOver s (withdrawn number s)
 
 -- ---- a group in place of another
 

@@ -2,7 +2,7 @@
 
 ghost use Rattle.desk_runs.specs.Laws.{Settles, KeepsSound, ReportKeepsSound, WithdrawalKeepsSound, NewGroupKeepsSound};
 ghost use Rattle.desk_runs.specs.Laws.{PublicationKeepsSound, MomentGoesOn, ReportGoesOn, WithdrawalGoesOn};
-ghost use Rattle.desk_runs.specs.Laws.{WithdrawalCommutes};
+ghost use Rattle.desk_runs.specs.Laws.{MomentLeavesOver, ReportLeavesOver, WithdrawalLeavesOver, WithdrawalCommutes};
 
 /// What a moment leaves is settled: the same moment would change nothing more.
 pub fn a_moment_settles()
@@ -28,6 +28,14 @@ pub fn groups_only_go_on()
     ensures moment { MomentGoesOn }
     ensures report { ReportGoesOn }
     ensures withdrawal { WithdrawalGoesOn }
+{}
+
+/// After a moment, a report on a running request or a withdrawal each request that isn't pending is in the state that it
+/// was in.
+pub fn what_is_over_stays()
+    ensures moment { MomentLeavesOver }
+    ensures report { ReportLeavesOver }
+    ensures withdrawal { WithdrawalLeavesOver }
 {}
 
 /// A group that is there may be withdrawn before another is added, or after.

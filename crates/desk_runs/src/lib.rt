@@ -18,7 +18,7 @@ pub use change::{Change, Moved, Reported};
 pub use group::{Ask, Group, Request};
 pub use laws::{
     a_moment_keeps_sound, a_moment_settles, a_withdrawal_commutes, changes_keep_sound,
-    groups_only_go_on,
+    groups_only_go_on, what_is_over_stays,
 };
 pub use observation::Observation;
 pub use runs::Runs;
