@@ -13,4 +13,3 @@ pub mod Granted
 pub mod Changed
 pub mod Lower
 pub mod Released
-pub mod InUse

@@ -13,4 +13,3 @@ pub mod Booking
 pub mod Ledger
 pub mod LedgerInside
 pub mod Lowered
-pub mod InUse

@@ -1,7 +1,6 @@
 // Where holds are to be booked, or why they are refused.
 
-ghost use Rattle.std.specs.Prelude.{◌≡◌, ◌≢◌, ◌++◌, ◌∷◌, [], ◌<◌, ◌≤◌, Some, None, All, IfSome, IsSomeAnd, Ok, IfOk, IfErr, OnOk, length, map};
-ghost use Rattle.std.specs.Option.{option_to_list};
+ghost use Rattle.std.specs.Prelude.{◌≡◌, ◌≢◌, ◌<◌, ◌≤◌, Some, None, All, IfSome, IsSomeAnd, Ok, IfOk, IfErr, OnOk, length, map};
 ghost use Rattle.allocations.specs.declared.fault.LedgerFault.TheVariants.{NoMemory};
 ghost use Rattle.allocations.specs.Books.{total_seconds};
 ghost use Rattle.allocations.specs.Raw.{hold_of};
@@ -12,13 +11,11 @@ ghost use Rattle.allocations.specs.Store.{freed_books, left_after, IsGranted, St
 use crate::entry::Hold;
 use crate::fault::LedgerFault;
 use crate::key::Key;
+use crate::ledger::MOST_SECONDS_IN_ALL;
 use crate::store::Store;
 use crate::sums::Amount;
 use plan_base::{ListOf, Name};
 use std::alloc::Global;
-
-/// The most seconds of all entries and holds.
-pub const MOST_SECONDS: u64 = 1_000_000_000_000_000_000;
 
 /// The amount of an account for a need, tested against what is left once the group at `old` is freed.
 pub fn amount_for(
@@ -29,7 +26,7 @@ pub fn amount_for(
 ) -> Result<Amount, LedgerFault>
     requires old { IfSome old (λ j. j < length store.now.groups) }
     requires granted { IsGranted store.now }
-    requires bound { total_seconds (freed_books store.now old) ≤ MOST_SECONDS }
+    requires bound { total_seconds (freed_books store.now old) ≤ MOST_SECONDS_IN_ALL }
     ensures stands { IfOk result (λ m. StandsFor store.now m record { key = key.now; seconds = needed }) }
     ensures fits { IfOk result (λ m. m.seconds ≤ left_after store.now old m.account) }
     ensures given { OnOk result (refusal_at (freed_books store.now old) record { key = key.now; seconds = needed } ≡ None) }
@@ -62,7 +59,7 @@ pub fn amounts_for(
 ) -> Result<ListOf<Amount>, LedgerFault>
     requires old { IfSome old (λ j. j < length store.now.groups) }
     requires granted { IsGranted store.now }
-    requires bound { total_seconds (freed_books store.now old) ≤ MOST_SECONDS }
+    requires bound { total_seconds (freed_books store.now old) ≤ MOST_SECONDS_IN_ALL }
     ensures places { IfOk result (All (λ m. m.account < length store.now.keys)) }
     ensures stand { IfOk result (λ ms. map (hold_of store.now.keys) ms ≡ holds.now) }
     ensures fit { IfOk result (All (λ m. m.seconds ≤ left_after store.now old m.account)) }
@@ -94,7 +91,7 @@ fn ipp_amount_for(
 ) -> Result<Option<Amount>, LedgerFault>
     requires old { IfSome old (λ j. j < length store.now.groups) }
     requires granted { IsGranted store.now }
-    requires bound { total_seconds (freed_books store.now old) ≤ MOST_SECONDS }
+    requires bound { total_seconds (freed_books store.now old) ≤ MOST_SECONDS_IN_ALL }
     ensures none { OnOk result (0 ≡ ipp → result ≡ Ok None) }
     ensures stands { IfOk result (λ o. 0 < ipp → IsSomeAnd o (λ m. StandsFor store.now m record { key = ipp_key proposal.now; seconds = ipp })) }
     ensures fits { IfOk result (λ o. IfSome o (λ m. m.seconds ≤ left_after store.now old m.account)) }
@@ -122,7 +119,7 @@ pub fn booking_for(
     requires some { 0 < length holds.now }
     requires old { IfSome old (λ j. j < length store.now.groups) }
     requires granted { IsGranted store.now }
-    requires bound { total_seconds (freed_books store.now old) ≤ MOST_SECONDS }
+    requires bound { total_seconds (freed_books store.now old) ≤ MOST_SECONDS_IN_ALL }
     ensures booking { IfOk result (IsBookingFor store.now old holds.now ipp) }
     ensures given { OnOk result (refusal_of (freed_books store.now old) holds.now ipp ≡ None) }
     ensures refused { IfErr result (λ fault. fault ≢ NoMemory → refusal_of (freed_books store.now old) holds.now ipp ≡ Some fault) }

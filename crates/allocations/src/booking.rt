@@ -16,9 +16,10 @@ ghost use Rattle.allocations.specs.Refusals.{refusal_of};
 ghost use Rattle.allocations.specs.Store.{group_at, given_at, amount_keys, CanHold, IsSound, IsGranted, freed_store, freed_books, store_books};
 ghost use Rattle.allocations.specs.Booking.{state_cmp, HoldsNothing, standing_of, charges_of, booked_groups};
 
-use crate::asking::{Booking, MOST_SECONDS, booking_for};
+use crate::asking::{Booking, booking_for};
 use crate::entry::{EntryKind, Hold};
 use crate::fault::LedgerFault;
+use crate::ledger::MOST_SECONDS_IN_ALL;
 use crate::posting::Posting;
 use crate::store::Store;
 use plan_base::{GroupNo, RequestNo};
@@ -81,7 +82,7 @@ fn free_old(store: &mut Store, alloc: Global, old: Option<usize>)
     requires sound { IsSound store.old }
     requires old { IfSome old (λ j. j < length store.old.groups) }
     requires spare { 0 < store.old.spare }
-    requires bound { total_seconds (freed_books store.old old) ≤ MOST_SECONDS }
+    requires bound { total_seconds (freed_books store.old old) ≤ MOST_SECONDS_IN_ALL }
     ensures freed { store.new ≡ record (freed_store store.old old) { spare = store.new.spare } }
     ensures spare { store.old.spare ≤ store.new.spare + 1 }
     ensures sound { IsSound store.new }
@@ -107,7 +108,7 @@ pub fn settle(
     requires old { IfSome old (λ j. j < length store.old.groups) }
     requires nothing { HoldsNothing group store.old.groups }
     requires granted { IsGranted store.old }
-    requires bound { total_seconds (freed_books store.old old) ≤ MOST_SECONDS }
+    requires bound { total_seconds (freed_books store.old old) ≤ MOST_SECONDS_IN_ALL }
     ensures booked { OnOk result (store_books store.new ≡ booked group holds.now ipp (freed_books store.old old)) }
     ensures accounts { OnOk result ((store.new.keys ≡ store.old.keys) × (store.new.listed ≡ store.old.listed)) }
     ensures given { OnOk result (refusal_of (freed_books store.old old) holds.now ipp ≡ None) }

@@ -17,8 +17,11 @@ pub enum EntryKind {
 /// An entry of the ledger. A number that doesn't apply is 0.
 #[derive(Debug, Drop, PartialEq, Eq)]
 pub struct Entry {
+    /// Whose account it is.
     pub key: Key,
+    /// Whether the account gains or loses the seconds.
     pub kind: EntryKind,
+    /// How many seconds the account gains or loses.
     pub seconds: u64,
     /// The group that is charged or refunded.
     pub group: GroupNo,
@@ -29,6 +32,8 @@ pub struct Entry {
 /// Seconds of an account that a group holds for its pending requests.
 #[derive(Debug, Drop, PartialEq, Eq)]
 pub struct Hold {
+    /// The account.
     pub key: Key,
+    /// How many of its seconds are held.
     pub seconds: u64,
 }

@@ -10,6 +10,7 @@ use thiserror::Error;
 /// What a ledger has a most of.
 #[derive(Clone, Copy, Debug, PartialEq, Eq)]
 pub enum FullOf {
+    /// The accounts of all proposals, at most 1,024.
     Accounts,
 }
 

@@ -9,10 +9,10 @@ ghost use Rattle.allocations.specs.Books.{has_grant, balance_of, accounts_of, to
 ghost use Rattle.allocations.specs.Changes.{grant_entry, with_entry};
 ghost use Rattle.allocations.specs.Store.{IsSound, IsGranted, store_books};
 
-use crate::asking::MOST_SECONDS;
 use crate::entry::EntryKind;
 use crate::fault::{FullOf, LedgerFault};
 use crate::key::Key;
+use crate::ledger::MOST_SECONDS_IN_ALL;
 use crate::posting::Posting;
 use crate::store::Store;
 use plan_base::{GroupNo, RequestNo};
@@ -52,7 +52,7 @@ fn account_for(store: &mut Store, key: &Key) -> Result<usize, LedgerFault>
 pub fn grant(store: &mut Store, key: &Key, seconds: u64) -> Result<u64, LedgerFault>
     requires granted { IsGranted store.old }
     requires listed { store.old.listed ≡ accounts_of (store_books store.old).entries }
-    requires bound { total_seconds (store_books store.old) + seconds ≤ MOST_SECONDS }
+    requires bound { total_seconds (store_books store.old) + seconds ≤ MOST_SECONDS_IN_ALL }
     ensures books { OnOk result (store_books store.new ≡ with_entry (grant_entry key.now seconds) (store_books store.old)) }
     ensures granted { OnOk result (IsGranted store.new) }
     ensures listed { OnOk result (store.new.listed ≡ accounts_of (store_books store.new).entries) }

@@ -1,6 +1,6 @@
 // The ledger on which proposals are charged.
 
-ghost use Rattle.std.specs.Prelude.{◌≡◌, ◌≢◌, ◌+◌, ◌-◌, ◌<◌, ◌≤◌, ◌∷◌, ◌++◌, ◌↔◌, [], if◌then◌else◌, true, Some, None};
+ghost use Rattle.std.specs.Prelude.{◌≡◌, ◌≢◌, ◌+◌, ◌-◌, ◌<◌, ◌≤◌, ◌∷◌, ◌++◌, ◌↔◌, [], if◌then◌else◌, Some, None};
 ghost use Rattle.std.specs.Prelude.{Contains, IsTrue, IfSome, IfOk, IfErr, OnOk, OnErr, map, slice_get, option_copied};
 ghost use Rattle.allocations.specs.declared.entry.EntryKind.TheVariants.{Grant, Charge, Refund};
 ghost use Rattle.allocations.specs.declared.fault.LedgerFault.TheVariants.{Full, NoMemory};
@@ -12,7 +12,6 @@ ghost use Rattle.allocations.specs.Changes.{grant_entry, request_entry, refund_e
 ghost use Rattle.allocations.specs.Refusals.{refusal_of};
 ghost use Rattle.allocations.specs.Ledger.{IsFull, IsHoldList, IsFree, IsAtMost, seconds_of_holds};
 
-use crate::asking::MOST_SECONDS;
 use crate::booking::settle;
 use crate::entry::{EntryKind, Hold};
 use crate::fault::LedgerFault;
@@ -25,9 +24,12 @@ use plan_base::{GroupNo, RequestNo};
 use std::alloc::{AllocError, Global};
 use std::marker::Model;
 
+/// The most seconds of all entries and holds together. The specs of the desk write `10 ^ 18` for it.
+pub const MOST_SECONDS_IN_ALL: u64 = 1_000_000_000_000_000_000;
+
 /// Grants, charges and refunds of the accounts of proposals, and what groups hold of them. A call costs what it touches,
 /// however many entries there are. The seconds of all entries and holds, with those that a call adds, add up to at most
-/// `MOST_SECONDS`.
+/// `MOST_SECONDS_IN_ALL`.
 #[derive(Debug, Drop)]
 pub struct Ledger {
     store: Store,
@@ -60,7 +62,7 @@ impl Ledger {
     /// Grants seconds to an account, and answers its balance. `Full` comes where the account is new and there are
     /// `MOST_ACCOUNTS`.
     pub fn grant(&mut self, key: &Key, seconds: u64) -> Result<u64, LedgerFault>
-        requires { total_seconds self.old.books + seconds ≤ MOST_SECONDS }
+        requires { total_seconds self.old.books + seconds ≤ MOST_SECONDS_IN_ALL }
         ensures books { OnOk result (self.new.books ≡ with_entry (grant_entry key.now seconds) self.old.books) }
         ensures balance { IfOk result (λ balance. balance ≡ balance_of self.new.books.entries key.now) }
         ensures fits { OnOk result (¬ (IsFull MOST_ACCOUNTS self.old.books.entries key.now)) }
@@ -113,7 +115,7 @@ impl Ledger {
     pub fn hold(&mut self, group: GroupNo, holds: &[Hold], ipp: u64) -> Result<(), LedgerFault>
         requires holds { IsHoldList holds.now }
         requires free { IsFree group self.old.books.holds }
-        requires bound { total_seconds self.old.books + seconds_of_holds holds.now + ipp ≤ MOST_SECONDS }
+        requires bound { total_seconds self.old.books + seconds_of_holds holds.now + ipp ≤ MOST_SECONDS_IN_ALL }
         ensures booked { OnOk result (self.new.books ≡ booked group holds.now ipp self.old.books) }
         ensures given { OnOk result (refusal_of self.old.books holds.now ipp ≡ None) }
         ensures refused { IfErr result (λ fault. fault ≢ NoMemory → refusal_of self.old.books holds.now ipp ≡ Some fault) }
@@ -133,7 +135,7 @@ impl Ledger {
     ) -> Result<(), LedgerFault>
         requires holds { IsHoldList holds.now }
         requires free { IsFree group self.old.books.holds }
-        requires bound { total_seconds (freed old self.old.books) + seconds_of_holds holds.now + ipp ≤ MOST_SECONDS }
+        requires bound { total_seconds (freed old self.old.books) + seconds_of_holds holds.now + ipp ≤ MOST_SECONDS_IN_ALL }
         ensures booked { OnOk result (self.new.books ≡ booked group holds.now ipp (freed old self.old.books)) }
         ensures given { OnOk result (refusal_of (freed old self.old.books) holds.now ipp ≡ None) }
         ensures refused { IfErr result (λ fault. fault ≢ NoMemory → refusal_of (freed old self.old.books) holds.now ipp ≡ Some fault) }
@@ -157,7 +159,7 @@ impl Ledger {
         requires granted { IsTrue (has_grant self.old.books.entries key.now) }
         requires available { seconds ≤ available_of self.old.books key.now }
         requires spare { 0 < self.old.spare }
-        requires bound { total_seconds self.old.books + seconds ≤ MOST_SECONDS }
+        requires bound { total_seconds self.old.books + seconds ≤ MOST_SECONDS_IN_ALL }
         ensures books { self.new.books ≡ with_entry (request_entry key.now seconds group request) self.old.books }
         ensures spare { self.new.spare + 1 ≡ self.old.spare }
     {
@@ -174,7 +176,8 @@ impl Ledger {
         });
     }
 
-    /// What the group holds from now on, at most what it held of each account. It takes no memory.
+    /// Lowers what the group holds to these seconds, by rising keys, each at most what it held of that account; of the
+    /// others it holds nothing more. It takes no memory.
     pub fn release(&mut self, group: GroupNo, holds: &[Hold])
         requires rising { Rises key_cmp (map (λ h. h.key) holds.now) }
         requires at_most { IsAtMost group self.old.books.holds holds.now }
@@ -192,7 +195,7 @@ impl Ledger {
     pub fn refund(&mut self, key: &Key, seconds: u64, group: GroupNo)
         requires stands { ipp_of group self.old.books.holds ≡ Some record { key = key.now; seconds = seconds } }
         requires spare { 0 < self.old.spare }
-        requires bound { total_seconds self.old.books + seconds ≤ MOST_SECONDS }
+        requires bound { total_seconds self.old.books + seconds ≤ MOST_SECONDS_IN_ALL }
         ensures books { self.new.books ≡ refunded group self.old.books }
         ensures entry { self.new.books.entries ≡ self.old.books.entries ++ refund_entry group record { key = key.now; seconds = seconds } ∷ [] }
         ensures once { ipp_of group self.new.books.holds ≡ None }

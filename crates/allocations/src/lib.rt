@@ -14,9 +14,8 @@ mod register;
 mod store;
 mod sums;
 
-pub use asking::MOST_SECONDS;
 pub use entry::{Entry, EntryKind, Hold};
 pub use fault::{FullOf, LedgerFault};
 pub use granting::MOST_ACCOUNTS;
 pub use key::{Account, Key};
-pub use ledger::Ledger;
+pub use ledger::{Ledger, MOST_SECONDS_IN_ALL};

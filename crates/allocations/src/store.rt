@@ -1,7 +1,7 @@
 // The books as they are kept: accounts, entries and holds by place, with sums beside them.
 
 ghost use Rattle.std.specs.Prelude.{◌≡◌, ◌+◌, ◌-◌, ◌^◌, ◌<◌, ◌≤◌, ◌++◌, ◌∷◌, [], ◌↔◌, Some, IsTrue, All, Any, Contains};
-ghost use Rattle.std.specs.Prelude.{IfSome, MatchOption, IfOk, IfErr, OnOk, OnErr, length, slice_get, slice_set, option_copied, vec_len, vec_capacity};
+ghost use Rattle.std.specs.Prelude.{IfSome, MatchOption, IfOk, IfErr, OnOk, OnErr, length, slice_get, option_copied, vec_len, vec_capacity};
 ghost use Rattle.std.specs.List.{insert};
 ghost use Rattle.std.specs.Ordering.{nat_cmp};
 ghost use Rattle.std.specs.BTreeSet.{insert_key};
@@ -10,7 +10,7 @@ ghost use Rattle.allocations.specs.Key.{key_cmp};
 ghost use Rattle.allocations.specs.Rising.{Rises, IsGap, IsFoundAt};
 ghost use Rattle.allocations.specs.Raw.{key_at, posted, held_at};
 ghost use Rattle.allocations.specs.Store.{group_at, given_at, left_after, with_posting, with_group, numbers_of, empty_group};
-ghost use Rattle.allocations.specs.Store.{amount_keys, refunds_of, freed_postings, freed_groups, freed_store, refunded_store, CanHold, CanPost, IsSound};
+ghost use Rattle.allocations.specs.Store.{amount_keys, refunds_of, freed_postings, freed_store, refunded_store, CanHold, CanPost, IsSound};
 
 use crate::entry::EntryKind;
 use crate::key::Key;
@@ -184,14 +184,6 @@ impl Store {
             Ok(index) => Some(index),
             Err(_) => None,
         }
-    }
-
-    /// The ipp charge of a group that stands.
-    pub fn ipp(&self, index: usize) -> Option<Amount>
-        requires { index < length self.now.groups }
-        ensures { result ≡ (group_at self.now.groups index).ipp }
-    {
-        self.groups[index].ipp
     }
 
     /// Makes room for a group. Fails only for want of memory.
