@@ -21,7 +21,7 @@ pub struct Location {
 pub struct Cadence {
     pub start: Sec,
     pub end: Sec,
-    /// The seconds from one centre to the next, 0 to 15,552,000; there are no centres to speak of where it is 0.
+    /// The seconds from one centre to the next, 0 to 15,552,000; 0 makes the cadence a bad one.
     pub period: u64,
     /// The seconds that the window round a centre has, 0 to 15,552,000, half of them before the centre.
     pub jitter: u64,

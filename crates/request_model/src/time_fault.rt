@@ -13,7 +13,7 @@ pub enum TimeFault {
     #[error("the cadence has no windows")]
     BadCadence,
     /// The cadence has more than 256 centres.
-    #[error("the cadence has {count} windows, more than 256")]
+    #[error("the cadence has {count} centres, more than 256")]
     TooManyWindows { count: u64 },
     /// Memory ran out.
     #[error("out of memory")]

@@ -14,7 +14,7 @@ use plan_json::{Doc, DocList, JsonFault, Member};
 use std::alloc::Global;
 
 /// The longest period and jitter, in seconds: half a year.
-const MOST_SECONDS: u32 = 15_552_000;
+const MOST_PERIOD: u32 = 15_552_000;
 
 /// The most windows of a request.
 const MOST_WINDOWS: u32 = 32;
@@ -24,8 +24,8 @@ fn read_cadence(doc: &Doc) -> Result<Cadence, JsonFault>
 {
     let start = doc.moment(Member::Start)?;
     let end = doc.moment(Member::End)?;
-    let period = u64::from(doc.number(Member::Period, 0, MOST_SECONDS)?);
-    let jitter = u64::from(doc.number(Member::Jitter, 0, MOST_SECONDS)?);
+    let period = u64::from(doc.number(Member::Period, 0, MOST_PERIOD)?);
+    let jitter = u64::from(doc.number(Member::Jitter, 0, MOST_PERIOD)?);
     Ok(Cadence {
         start,
         end,
