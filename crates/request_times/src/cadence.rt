@@ -15,10 +15,10 @@ use std::alloc::{AllocError, Global};
 const MOST_CENTRES: u64 = 256;
 
 /// The windows of the cadence, in order, for a request of so many seconds, 1 to 86,400: one round each centre, half of
-/// the jitter before it, cut at start and end, and dropped where what is left is shorter than the request. Fails with
-/// [`TimeFault::BadCadence`] where period or jitter is 0 or the start isn't before the end; then with
-/// [`TimeFault::TooManyWindows`] where there are more than 256 centres; then with [`TimeFault::BadCadence`] where no
-/// window is left; and for want of memory, where there are windows to make.
+/// the jitter before it, rounded down, and the rest from it on, cut at start and end, and dropped where what is left is
+/// shorter than the request. Fails with [`TimeFault::BadCadence`] where period or jitter is 0 or the start isn't before
+/// the end; then with [`TimeFault::TooManyWindows`] where there are more than 256 centres; then with
+/// [`TimeFault::BadCadence`] where no window is left; and for want of memory, where there are windows to make.
 pub fn expand_cadence(alloc: Global, cadence: Cadence, seconds: u32) -> Result<Vec<Span>, TimeFault>
     requires range { IsCadence cadence }
     requires seconds { seconds ≤ most_seconds }

@@ -6,10 +6,8 @@ ghost use Rattle.request_model.specs.Ranges.{IsExposure, AreConfigurations};
 ghost use Rattle.request_times.specs.Duration.{exposure_ms, configuration_ms, request_ms, duration, IsOverhead};
 
 use crate::instrument::Instrument;
+use plan_base::MOST_SECONDS;
 use request_model::{ConfigDoc, Exposure, RequestDoc, TimeFault};
-
-/// The longest that a request may take, in seconds: a day.
-const MOST_SECONDS: u64 = 86_400;
 
 /// How many seconds the request takes on its instrument: the front padding and, for each configuration, its padding
 /// and its exposures with their readouts and changes. The milliseconds of all of it are rounded up once. Fails with
@@ -22,7 +20,7 @@ pub fn seconds_of(request: &RequestDoc, instrument: Instrument) -> Result<u32, T
 {
     let configurations = request.configurations.as_slice();
     let seconds = request_ms(instrument, configurations).div_ceil(1000);
-    if seconds <= MOST_SECONDS {
+    if seconds <= u64::from(MOST_SECONDS) {
         Ok(seconds as u32)
     } else {
         Err(TimeFault::TooLong { seconds })
