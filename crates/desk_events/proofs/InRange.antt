@@ -194,13 +194,13 @@ close_there : (ms : Members) → Gives (close_of ms) IsCommand
 close_there ms =
     after _ (scope_there ms) (λ scope is_scope.
     after _ (spans_found ms) (λ spans are.
-    record { ok = record { place = is_scope; times = are } }))
+    record { ok = record { scope = is_scope; times = are } }))
 
 reopen_there : (ms : Members) → Gives (reopen_of ms) IsCommand
 reopen_there ms =
     after _ (scope_there ms) (λ scope is_scope.
     after _ (spans_found ms) (λ spans are.
-    record { ok = record { place = is_scope; times = are } }))
+    record { ok = record { scope = is_scope; times = are } }))
 
 -- ---- accounts and groups
 
@@ -254,7 +254,7 @@ publish_there ms =
     after _ (number_member 0 524288 ms key.Version) (λ version is_version.
     after _ (any (member_of object_in ms key.Claim)) (λ inner _.
     after _ (claim_there inner (claim_of inner) refl) (λ claim is_claim.
-    record { ok = record { least = is_version.high; what = is_claim } })))
+    record { ok = record { newest = is_version.high; what = is_claim } })))
 
 -- ---- lines
 

@@ -1,5 +1,5 @@
 -- Which accounts are granted seconds.
-use Rattle.std.specs.Prelude.{ℕ, List, [], bytes_eq, codes, if◌then◌else◌, Option, Some, None, ok_or, Result, Ok, Err}
+use Rattle.std.specs.Prelude.{ℕ, List, [], bytes_eq, codes, if◌then◌else◌, Option, Some, None, ok_or, Result, Ok}
 use Rattle.serde_json.specs.Data.{Members}
 use Rattle.plan_json.specs.declared.member.Member.TheVariants as member
 use Rattle.plan_json.specs.declared.fault.JsonFault.{JsonFault}

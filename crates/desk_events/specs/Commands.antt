@@ -1,8 +1,7 @@
 -- The commands: for each the members after `do`, in the order in which they are read, with their kinds and ranges.
-use Rattle.std.specs.Prelude.{ℕ, List, is_some, if◌then◌else◌, Result, Ok, Err}
+use Rattle.std.specs.Prelude.{is_some, if◌then◌else◌, Result, Ok}
 use Rattle.serde_json.specs.Data.{Members}
 use Rattle.plan_base.specs.declared.number.GroupNo.{GroupNo}
-use Rattle.plan_base.specs.declared.number.RequestNo.{RequestNo}
 use Rattle.plan_json.specs.declared.member.Member.TheVariants as member
 use Rattle.plan_json.specs.declared.fault.JsonFault.{JsonFault}
 use Rattle.plan_json.specs.List.{list_in}

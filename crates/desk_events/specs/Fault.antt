@@ -1,6 +1,5 @@
 -- The faults of the parts, as the desk's refusals. Want of memory stays what it is.
 use Rattle.std.specs.Prelude.{ℕ, Result, Ok, Err}
-use Rattle.plan_base.specs.declared.verdict.Reason.{Reason}
 use Rattle.plan_json.specs.declared.fault.JsonFault.{JsonFault}
 use Rattle.plan_json.specs.declared.fault.JsonFault.TheVariants as json
 use Rattle.request_model.specs.declared.fault.GroupFault.{GroupFault}

@@ -63,8 +63,8 @@ abbrev pub IsScope : Scope → Type 0
 IsScope (scope.Telescope code) = IsCode code.site code.enclosure code.telescope
 IsScope (scope.Site site) = IsText site
 
-pub record IsClosure (where_ : Scope) (spans : List Span) : Type 0 where
-  pub place : IsScope where_
+pub record IsClosure (place : Scope) (spans : List Span) : Type 0 where
+  pub scope : IsScope place
   pub times : AreSpans spans
 
 -- the account `ipp` is on no instrument type, the others each on one
@@ -87,7 +87,7 @@ pub record IsReport (percent used : ℕ) : Type 0 where
   pub time : used ≤ 86400
 
 pub record IsPublication (version : ℕ) (claim : Claim) : Type 0 where
-  pub least : version ≤ 524288
+  pub newest : version ≤ 524288
   pub what : IsClaim claim
 
 abbrev pub IsCommand : Command → Type 0
@@ -96,8 +96,8 @@ IsCommand (command.Instrument name front config readout change) = IsInstrument n
 IsCommand (command.Telescope site enclosure telescope class instruments) = IsTelescope site enclosure telescope class instruments
 IsCommand (command.Night site spans) = IsNight site spans
 IsCommand (command.Visibility target site spans) = IsSky target site spans
-IsCommand (command.Close where_ spans) = IsClosure where_ spans
-IsCommand (command.Reopen where_ spans) = IsClosure where_ spans
+IsCommand (command.Close place spans) = IsClosure place spans
+IsCommand (command.Reopen place spans) = IsClosure place spans
 IsCommand (command.Grant key seconds) = IsGrant key seconds
 IsCommand (command.Submit group) = IsGroup group
 IsCommand (command.Amend old group) = IsGroup group

@@ -95,7 +95,7 @@ pub enum Command {
     Withdraw {
         group_number: GroupNo,
     },
-    /// `clock`: time has come so far.
+    /// `clock`: the desk's time moves on to `at`.
     Clock {
         at: Sec,
     },

@@ -49,7 +49,7 @@ pub enum Refusal {
     BadWindow { index: u32, window: u32 },
     /// 10: the cadence of this request has no windows, or its group isn't a `SINGLE`.
     BadCadence { index: u32 },
-    /// 11: the cadence of this request has more than 256 windows.
+    /// 11: the cadence of this request has more than 256 centres.
     TooManyWindows { count: u64, index: u32 },
     /// 12: this request takes more than a day.
     TooLong { index: u32, seconds: u64 },

@@ -13,7 +13,7 @@ use plan_json::{Doc, JsonFault, Member};
 use std::alloc::{AllocError, Global};
 
 /// The most seconds of a grant.
-const MOST_SECONDS: u32 = 1_000_000_000;
+const MOST_GRANT: u32 = 1_000_000_000;
 
 fn account_named(word: &str) -> Option<Account>
     ensures { result ≡ account_named word.now }
@@ -78,7 +78,7 @@ pub(crate) fn read_grant(alloc: Global, doc: &Doc) -> Result<Command, JsonFault>
     ensures fault { IfErr result (λ e. e ≢ NoMemory → grant_of (members_of doc.now) ≡ Err e) }
 {
     let key = read_key(alloc, doc)?;
-    let seconds = doc.number(Member::Seconds, 1, MOST_SECONDS)?;
+    let seconds = doc.number(Member::Seconds, 1, MOST_GRANT)?;
     Ok(Command::Grant {
         key,
         seconds: u64::from(seconds),

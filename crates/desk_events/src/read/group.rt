@@ -3,7 +3,6 @@
 ghost use Rattle.std.specs.Prelude.{◌≡◌, ◌≢◌, IfOk, IfErr, Ok, Err};
 ghost use Rattle.plan_json.specs.Shown.{members_of};
 ghost use Rattle.request_model.specs.declared.fault.GroupFault.TheVariants.{NoMemory};
-ghost use Rattle.request_model.specs.Ranges.{IsGroup};
 ghost use Rattle.desk_events.specs.Commands.{document_in, group_number_of, submit_of, amend_of, withdraw_of, show_of};
 
 use crate::command::Command;

@@ -1,6 +1,6 @@
 // The commands that open the desk, move its clock and report to it.
 
-ghost use Rattle.std.specs.Prelude.{◌≡◌, ◌≤◌, IfOk, IfSome};
+ghost use Rattle.std.specs.Prelude.{◌≡◌};
 ghost use Rattle.plan_json.specs.Object.{if_there};
 ghost use Rattle.plan_json.specs.Shown.{members_of};
 ghost use Rattle.plan_json.specs.Whole.{number_in};
@@ -8,7 +8,7 @@ ghost use Rattle.plan_json.specs.declared.member.Member.TheVariants.{Quota};
 ghost use Rattle.desk_events.specs.Commands.{open_of, clock_of, report_of};
 
 use crate::command::Command;
-use plan_base::RequestNo;
+use plan_base::{MOST_SECONDS, RequestNo};
 use plan_json::{Doc, JsonFault, Member};
 
 /// The most seconds of one proposal in a plan, where it is given.
@@ -58,7 +58,7 @@ pub(crate) fn read_report(doc: &Doc) -> Result<Command, JsonFault>
 {
     let request = doc.number(Member::Request, 0, u32::MAX)?;
     let percent = doc.number(Member::Percent, 0, 100)?;
-    let used = doc.number(Member::Used, 0, 86_400)?;
+    let used = doc.number(Member::Used, 0, MOST_SECONDS)?;
     Ok(Command::Report {
         request: RequestNo(request),
         percent: percent as u8,
