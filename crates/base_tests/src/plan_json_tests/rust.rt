@@ -103,15 +103,20 @@ fn bytes_are_as_in_rust(rt: HostRuntime) {
     }
 }
 
+/// Adds a byte so many times.
+fn push_times(text: &mut Vec<u8>, byte: u8, times: usize) -> Result<(), Fail> {
+    for _ in 0..times {
+        text.push(byte)?;
+    }
+    Ok(())
+}
+
 /// Whether a document that nests so many levels deep, itself one, has this answer.
 fn has_levels(alloc: Global, levels: usize, wanted: &str) -> Result<bool, Fail> {
+    let lists = levels.saturating_sub(1);
     let mut text = Vec::from_slice(alloc, b"{\"at\":")?;
-    for _ in 1..levels {
-        text.push(b'[')?;
-    }
-    for _ in 1..levels {
-        text.push(b']')?;
-    }
+    push_times(&mut text, b'[', lists)?;
+    push_times(&mut text, b']', lists)?;
     text.push(b'}')?;
     Ok(is_answer(whole(alloc, &text, 0, 9), wanted))
 }

@@ -1,6 +1,6 @@
 // Which windows cadences have.
 
-ghost use Rattle.std.specs.Prelude.{◌≤◌, IsTrue};
+ghost use Rattle.std.specs.Prelude.{IsTrue};
 ghost use Rattle.request_model.specs.Ranges.{IsCadence};
 
 use plan_base::{Sec, Span};
@@ -40,7 +40,7 @@ const ROWS: [Row; 23] = [
         10,
         2_560,
         2_560,
-        "the cadence has 257 windows, more than 256",
+        "the cadence has 257 centres, more than 256",
     ),
     (
         0,
@@ -48,7 +48,7 @@ const ROWS: [Row; 23] = [
         10,
         2_560,
         2_560,
-        "the cadence has 25340230080 windows, more than 256",
+        "the cadence has 25340230080 centres, more than 256",
     ),
     // Period, jitter and order are tested first.
     (0, 10_000, 0, 1_200, 1, NONE),

@@ -1,7 +1,7 @@
 // How long requests take.
 
-ghost use Rattle.std.specs.Prelude.{◌↔◌, length, IsTrue, All, IfOk};
-ghost use Rattle.plan_json.specs.Ranges.{IsBetween, IsText};
+ghost use Rattle.std.specs.Prelude.{◌↔◌, IsTrue, All, IfOk};
+ghost use Rattle.plan_json.specs.Ranges.{IsText};
 ghost use Rattle.request_model.specs.Ranges.{IsExposure, IsConfiguration, AreConfigurations};
 ghost use Rattle.request_times.specs.Duration.{IsOverhead};
 
