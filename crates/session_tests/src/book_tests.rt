@@ -1,0 +1,206 @@
+//! Two callers of one book: what is answered while a Take is open, once a change came between it and its Publish, to what was
+//! found for another Take, and where none is open.
+use desk_book::{Book, BookStep, PublishStep};
+use desk_events::write_entry;
+use lanes::solve_plan;
+use plan_base::{Settings, Solved, Taken};
+use plan_io::{ByteList, NoGate, ScriptLine};
+use std::alloc::{AllocError, Global};
+use std::test::Fail;
+use std::thread::Threads;
+
+/// What is done with a book.
+#[derive(Clone, Copy)]
+enum Act<'a> {
+    /// A caller sends a line, and its next line is done.
+    Send(u8, &'a str),
+    /// A caller's next line is done.
+    Perform(u8),
+    /// What is found for the Take with this place, counted from 0, is published.
+    Publish(usize),
+}
+
+const OPEN: &str =
+    r#"{"do":"open","now":0,"slice":300,"horizon":12,"semester":[0,15552000],"lanes":1,"rounds":8,"workers":1}"#;
+
+const INSTRUMENT: &str =
+    r#"{"do":"instrument","type":"1M0-SCICAM-SINISTRO","front_ms":0,"config_ms":0,"readout_ms":0,"change_ms":0}"#;
+
+const TELESCOPE: &str =
+    r#"{"do":"telescope","site":"coj","enclosure":"doma","telescope":"1m0a","class":"1m0","instruments":["1M0-SCICAM-SINISTRO"]}"#;
+
+const NIGHT: &str = r#"{"do":"night","site":"coj","spans":[[0,3600]]}"#;
+
+const SKY: &str = r#"{"do":"visibility","target":"M51","site":"coj","spans":[[0,3600]]}"#;
+
+const GRANT: &str =
+    r#"{"do":"grant","proposal":"P1","account":"standard","instrument_type":"1M0-SCICAM-SINISTRO","seconds":1000}"#;
+
+const SUBMIT: &str =
+    r#"{"do":"submit","group":{"name":"g","proposal":"P1","operator":"SINGLE","observation_type":"NORMAL","requests":[{"location":{"telescope_class":"1m0"},"windows":[{"start":0,"end":3600}],"configurations":[{"instrument_type":"1M0-SCICAM-SINISTRO","target":{"name":"M51"},"instrument_configs":[{"exposure_time_ms":300000,"exposure_count":1}]}]}]}}"#;
+
+const PLAN: &str = r#"{"do":"plan"}"#;
+
+/// What the desk is opened with.
+const SETTINGS: Settings = Settings {
+    lanes: 1,
+    rounds: 8,
+    workers: 1,
+};
+
+/// A text of its own.
+fn text_of(alloc: Global, text: &str) -> Result<Vec<u8>, AllocError> {
+    Vec::from_slice(alloc, text.as_bytes())
+}
+
+/// The text of the entry that was added last.
+fn last_text(alloc: Global, book: &Book) -> Result<Vec<u8>, AllocError> {
+    let mut text = Vec::new(alloc);
+    if let Some(entry) = book.last() {
+        write_entry(entry, &mut text)?;
+    }
+    Ok(text)
+}
+
+/// Adds a line to the script of a caller, where there is one with room.
+fn push(alloc: Global, book: &mut Book, caller: u8, line: &str) -> Result<(), AllocError> {
+    if caller >= book.callers() {
+        return Ok(());
+    }
+    if book.line(caller, 65_535).is_some() {
+        return Ok(());
+    }
+    let bytes = text_of(alloc, line)?;
+    book.push(caller, ScriptLine::Bytes(ByteList::from(bytes)))
+}
+
+/// Does the next line of a caller, where there is one, and says what was done: the text of the entry, or why there is none.
+fn perform(
+    alloc: Global,
+    book: &mut Book,
+    takes: &mut Vec<Taken>,
+    caller: u8,
+) -> Result<Vec<u8>, AllocError> {
+    if caller >= book.callers() {
+        return text_of(alloc, "no such caller");
+    }
+    match book.perform(caller)? {
+        BookStep::Replied => last_text(alloc, book),
+        BookStep::Taken(taken) => {
+            takes.push(taken)?;
+            last_text(alloc, book)
+        }
+        BookStep::TakeOpen => text_of(alloc, "open"),
+        BookStep::Over => text_of(alloc, "over"),
+    }
+}
+
+/// What is found for a Take.
+fn solve<R: Threads + Sync>(rt: &R, alloc: Global, taken: &Taken) -> Result<Solved, AllocError> {
+    let taken = Taken {
+        caller: taken.caller,
+        settings: SETTINGS,
+        snapshot: taken.snapshot.clone()?,
+    };
+    solve_plan(rt, alloc, taken, &NoGate)
+}
+
+/// Publishes what was found, and says what was done: the text of the entry, or why there is none.
+fn publish(alloc: Global, book: &mut Book, solved: Solved) -> Result<Vec<u8>, AllocError> {
+    match book.publish(solved)? {
+        PublishStep::Replied(entry) => {
+            let mut text = Vec::new(alloc);
+            write_entry(&entry, &mut text)?;
+            Ok(text)
+        }
+        PublishStep::NotTaken => text_of(alloc, "not taken"),
+        PublishStep::OtherTake => text_of(alloc, "other take"),
+    }
+}
+
+/// Does an act, and says what was done.
+fn act_on<R: Threads + Sync>(
+    rt: &R,
+    alloc: Global,
+    book: &mut Book,
+    takes: &mut Vec<Taken>,
+    act: Act,
+) -> Result<Vec<u8>, AllocError> {
+    match act {
+        Act::Send(caller, line) => {
+            push(alloc, book, caller, line)?;
+            perform(alloc, book, takes, caller)
+        }
+        Act::Perform(caller) => perform(alloc, book, takes, caller),
+        Act::Publish(place) => match takes.get(place) {
+            Some(taken) => publish(alloc, book, solve(rt, alloc, taken)?),
+            None => text_of(alloc, "no such Take"),
+        },
+    }
+}
+
+#[test]
+fn a_take_is_published_once(rt: HostRuntime) -> Result<(), Fail> {
+    let mut book = Box::new(rt.alloc(), Book::new(rt.alloc(), 2)?)?;
+    let mut takes = Vec::new(rt.alloc());
+    for (act, wanted) in [
+        (Act::Perform(0), "over"),
+        (
+            Act::Send(0, OPEN),
+            "{\"caller\":0,\"line\":1,\"ok\":\"opened\",\"version\":0}\n",
+        ),
+        (
+            Act::Send(0, INSTRUMENT),
+            "{\"caller\":0,\"line\":2,\"ok\":\"instrument\",\"version\":1}\n",
+        ),
+        (
+            Act::Send(0, TELESCOPE),
+            "{\"caller\":0,\"line\":3,\"ok\":\"telescope\",\"telescope\":0,\"version\":2}\n",
+        ),
+        (
+            Act::Send(0, NIGHT),
+            "{\"caller\":0,\"line\":4,\"ok\":\"night\",\"version\":3}\n",
+        ),
+        (
+            Act::Send(0, SKY),
+            "{\"caller\":0,\"line\":5,\"ok\":\"visibility\",\"version\":4}\n",
+        ),
+        (
+            Act::Send(0, GRANT),
+            "{\"balance\":1000,\"caller\":0,\"line\":6,\"ok\":\"granted\",\"version\":5}\n",
+        ),
+        (
+            Act::Send(0, SUBMIT),
+            "{\"caller\":0,\"group\":1,\"ipp_charged\":0,\"line\":7,\"ok\":\"submitted\",\"requests\":[1],\"version\":6}\n",
+        ),
+        (
+            Act::Send(0, PLAN),
+            "{\"caller\":0,\"line\":8,\"ok\":\"taken\",\"version\":7}\n",
+        ),
+        (Act::Perform(0), "open"),
+        (
+            Act::Send(1, SUBMIT),
+            "{\"caller\":1,\"group\":2,\"ipp_charged\":0,\"line\":1,\"ok\":\"submitted\",\"requests\":[2],\"version\":7}\n",
+        ),
+        (
+            Act::Publish(0),
+            "{\"asked\":7,\"caller\":0,\"line\":8,\"newer\":8,\"no\":31,\"refused\":\"Stale\",\"version\":8}\n",
+        ),
+        (Act::Publish(0), "not taken"),
+        (
+            Act::Send(0, PLAN),
+            "{\"caller\":0,\"line\":9,\"ok\":\"taken\",\"version\":8}\n",
+        ),
+        (Act::Publish(0), "other take"),
+        (
+            Act::Publish(1),
+            "{\"caller\":0,\"claim\":{\"bound\":350000,\"placements\":[[1,0,0],[2,0,1]],\"prices\":[25000,25000],\"value\":100000},\"line\":9,\"ok\":\"published\",\"version\":8}\n",
+        ),
+        (Act::Perform(0), "over"),
+        (Act::Perform(1), "over"),
+    ] {
+        let found = act_on(&rt, rt.alloc(), &mut book, &mut takes, act)?;
+        assert!(rt; found.as_slice() == wanted.as_bytes(), "wanted {wanted}");
+    }
+    Ok(())
+}
