@@ -1,4 +1,7 @@
 // What one line does to a state, and what a plan that was found does.
+//
+// Great values are dropped by calls of `drop`: a way out that leaves one behind would drop it piece by piece, which the proof would
+// have to follow.
 
 ghost use Rattle.std.specs.Prelude.{◌≡◌, ◌<◌, ◌↔◌, Ok, IfOk, OnErr, IsTrue, IsSome};
 ghost use Rattle.plan_base.specs.declared.claim.Claim.{Claim};
@@ -66,7 +69,6 @@ pub fn apply_read(
     match read {
         Ok(command) => {
             let reply = apply(state, &command);
-            // A call drops the command. Else it would be dropped here, piece by piece, which the proof would have to follow.
             drop(command);
             reply
         }
@@ -95,38 +97,29 @@ pub fn take_for(caller: u8, state: &State) -> Result<Taken, AllocError>
     })
 }
 
-/// Publishes what was found for a Take, where no change was accepted since, and says twice what is replied. Fails only
-/// for want of memory, and then changes nothing.
-pub fn publish_found(
-    state: &mut State,
-    taken: Taken,
-    outcome: Outcome,
-) -> Result<(Reply, Reply), AllocError>
+/// Publishes what was found for a Take, where no change was accepted since, and says what is replied. Fails only for want of
+/// memory, and then changes nothing.
+pub fn publish_found(state: &mut State, taken: Taken, outcome: Outcome) -> Result<Reply, AllocError>
     requires version { state.old.version < 524288 }
     requires behind { IsBehind state.old taken }
     requires found { IsOutcome taken.snapshot taken.settings outcome }
-    ensures reply { IfOk result (λ r. r.0 ≡ publish_reply state.old record { taken = taken; outcome = outcome }) }
-    ensures told { IfOk result (λ r. r.1 ≡ r.0) }
-    ensures left { IfOk result (λ r. state.new ≡ after_publish state.old r.0) }
-    ensures publication { IfOk result (λ r. IsPublication state.old taken.snapshot.version r.0) }
-    ensures claims { IfOk result (λ r. (claim : Claim) → r.0 ≡ reply.Published claim → IsDeskClaim state.old claim) }
+    ensures reply { IfOk result (λ r. r ≡ publish_reply state.old record { taken = taken; outcome = outcome }) }
+    ensures left { IfOk result (λ r. state.new ≡ after_publish state.old r) }
+    ensures publication { IfOk result (λ r. IsPublication state.old taken.snapshot.version r) }
+    ensures claims { IfOk result (λ r. (claim : Claim) → r ≡ reply.Published claim → IsDeskClaim state.old claim) }
     ensures unchanged { OnErr result (state.new ≡ state.old) }
 {
     let asked = taken.snapshot.parts().version;
     let newer = state.version();
     if newer != asked {
-        let refusal = Refusal::Stale { asked, newer };
-        return Ok((Reply::Refused(refusal), Reply::Refused(refusal)));
+        return Ok(Reply::Refused(Refusal::Stale { asked, newer }));
     }
     match outcome {
         Outcome::Plan(claim) => {
             taken.snapshot.recall_valid();
-            let reply = state.publish_planned(taken.snapshot, &claim)?;
-            Ok((reply, Reply::Published { claim }))
+            state.publish_certified(taken.snapshot, &claim)?;
+            Ok(Reply::Published { claim })
         }
-        Outcome::TooManyStarts(count) => {
-            let refusal = Refusal::TooManyStarts { count };
-            Ok((Reply::Refused(refusal), Reply::Refused(refusal)))
-        }
+        Outcome::TooManyStarts(count) => Ok(Reply::Refused(Refusal::TooManyStarts { count })),
     }
 }

@@ -1,6 +1,6 @@
 // `publish`: a claim that was made elsewhere, or one that a plan was sought for.
 
-ghost use Rattle.std.specs.Prelude.{◌≡◌, ◌≤◌, IfOk, OnErr, map, find};
+ghost use Rattle.std.specs.Prelude.{◌≡◌, ◌≤◌, IfOk, OnOk, OnErr, map, find};
 ghost use Rattle.std.specs.Option.{option_map, option_map_or};
 ghost use Rattle.plan_base.specs.Verdict.{IsCertified};
 ghost use Rattle.desk_runs.specs.Numbers.{requests_of, is_request};
@@ -17,6 +17,15 @@ use desk_runs::{Observation, Request};
 use plan_base::{Claim, ListOf, Placement, RequestNo, Snapshot, Verdict};
 use std::alloc::{AllocError, Global};
 use std::mem::replace;
+
+/// What a desk keeps of a claim that it publishes.
+#[derive(Debug, Drop)]
+struct Copies {
+    /// Its placements, with the seconds of their requests.
+    observations: ListOf<Observation>,
+    /// The claim itself.
+    kept: Claim,
+}
 
 impl Desk {
     /// `publish`: a claim for a version, where the desk has this one.
@@ -40,7 +49,7 @@ impl Desk {
         }
         let snapshot = self.snapshot(alloc, version)?;
         match check(alloc, &snapshot, claim) {
-            Ok(Verdict::Yes { .. }) => Ok(self.publish_planned(alloc, snapshot, claim)?),
+            Ok(Verdict::Yes { .. }) => Ok(self.publish_told(alloc, snapshot, claim)?),
             Ok(Verdict::No(reason)) => {
                 drop(snapshot);
                 Err(Refusal::Rejected { reason }.into())
@@ -52,9 +61,9 @@ impl Desk {
         }
     }
 
-    /// Publishes a claim that is certified for the desk's snapshot: its placements replace those that haven't started, and
-    /// it is kept with the snapshot. Fails only for want of memory, and then changes nothing.
-    pub(crate) fn publish_planned(
+    // Publishes a claim that is certified for the desk's snapshot, and says so. Fails only for want of memory, and then changes
+    // nothing.
+    fn publish_told(
         &mut self,
         alloc: Global,
         snapshot: Snapshot,
@@ -64,11 +73,36 @@ impl Desk {
         requires snapshot { snapshot ≡ snapshot_of snapshot.version (seen self.old) }
         requires certified { IsCertified snapshot claim.now }
         ensures reply { IfOk result (λ told. told ≡ reply.Published claim.now) }
-        ensures desk { IfOk result (λ _. seen self.new ≡ with_publication snapshot.version claim.now (seen self.old)) }
+        ensures desk { OnOk result (seen self.new ≡ with_publication snapshot.version claim.now (seen self.old)) }
         ensures unchanged { OnErr result (seen self.new ≡ seen self.old) }
     {
-        let (observations, kept, told) = match self.taken_from(alloc, claim) {
-            Ok(taken) => taken,
+        let told = match claim.copy() {
+            Ok(told) => told,
+            Err(no_memory) => {
+                drop(snapshot);
+                return Err(no_memory);
+            }
+        };
+        self.publish_certified(alloc, snapshot, claim)?;
+        Ok(Reply::Published { claim: told })
+    }
+
+    /// Publishes a claim that is certified for the desk's snapshot: its placements replace those that haven't started, and
+    /// it is kept with the snapshot. Fails only for want of memory, and then changes nothing.
+    pub(crate) fn publish_certified(
+        &mut self,
+        alloc: Global,
+        snapshot: Snapshot,
+        claim: &Claim,
+    ) -> Result<(), AllocError>
+        requires desk { IsDesk (seen self.old) }
+        requires snapshot { snapshot ≡ snapshot_of snapshot.version (seen self.old) }
+        requires certified { IsCertified snapshot claim.now }
+        ensures desk { OnOk result (seen self.new ≡ with_publication snapshot.version claim.now (seen self.old)) }
+        ensures unchanged { OnErr result (seen self.new ≡ seen self.old) }
+    {
+        let Copies { observations, kept } = match self.copies_for(alloc, claim) {
+            Ok(copies) => copies,
             Err(no_memory) => {
                 drop(snapshot);
                 return Err(no_memory);
@@ -79,25 +113,19 @@ impl Desk {
             snapshot,
             claim: kept,
         };
-        // A call drops the one before. An assignment would drop it here, piece by piece, which the proof would have to follow.
         drop(replace(&mut self.published, Some(publication)));
-        Ok(Reply::Published { claim: told })
+        Ok(())
     }
 
-    // What is observed by a claim, and the claim twice. Fails only for want of memory.
-    fn taken_from(
-        &self,
-        alloc: Global,
-        claim: &Claim,
-    ) -> Result<(ListOf<Observation>, Claim, Claim), AllocError>
-        ensures observations { IfOk result (λ taken. taken.0 ≡ map (observed (seen self.now)) claim.now.placements) }
-        ensures kept { IfOk result (λ taken. taken.1 ≡ claim.now) }
-        ensures told { IfOk result (λ taken. taken.2 ≡ claim.now) }
+    // What is kept of a claim. Fails only for want of memory.
+    fn copies_for(&self, alloc: Global, claim: &Claim) -> Result<Copies, AllocError>
+        ensures observations { IfOk result (λ copies. copies.observations ≡ map (observed (seen self.now)) claim.now.placements) }
+        ensures kept { IfOk result (λ copies. copies.kept ≡ claim.now) }
     {
-        let observations = self.observations(alloc, claim.placements.as_slice())?;
-        let kept = claim.copy()?;
-        let told = claim.copy()?;
-        Ok((observations, kept, told))
+        Ok(Copies {
+            observations: self.observations(alloc, claim.placements.as_slice())?,
+            kept: claim.copy()?,
+        })
     }
 
     // How long a request takes; nothing where there is none with the number.

@@ -10,7 +10,6 @@ ghost use Rattle.desk_core.specs.Kept.{IsOpenedWith, IsState};
 ghost use Rattle.desk_core.specs.DeskSnapshot.{snapshot_of};
 ghost use Rattle.desk_core.specs.Step.{Answers, IsStep, IsSnapshotOf, new_desk, balance_in};
 ghost use Rattle.desk_core.specs.History.{IsPlanning, with_published};
-ghost use Rattle.desk_events.specs.declared.reply.Reply.TheVariants as reply;
 ghost use Rattle.desk_events.specs.Ranges.{IsCommand};
 
 use crate::answering::changes;
@@ -71,7 +70,8 @@ impl State {
         self.desk.is_some()
     }
 
-    /// What an account has, none where it has no grant or the desk isn't opened.
+    /// The seconds of an account: those granted, less those charged, and those refunded. None where it has no grant or the desk
+    /// isn't opened.
     pub fn balance(&self, key: &Key) -> Option<u64>
         ensures { result ≡ option_and_then (λ d. balance_in d key.now) self.now.desk }
     {
@@ -98,26 +98,21 @@ impl State {
         Ok(Some(snapshot))
     }
 
-    /// Publishes a claim that was planned for the snapshot of the desk as it is, and counts the change. Fails only for
-    /// want of memory, and then changes nothing.
-    pub fn publish_planned(
-        &mut self,
-        snapshot: Snapshot,
-        claim: &Claim,
-    ) -> Result<Reply, AllocError>
+    /// Publishes a claim that is certified for the snapshot of the desk as it is, and counts the change. Fails only for want of
+    /// memory, and then changes nothing.
+    pub fn publish_certified(&mut self, snapshot: Snapshot, claim: &Claim) -> Result<(), AllocError>
         requires version { self.old.version < 524288 }
         requires snapshot { IsSnapshotOf self.old snapshot }
         requires certified { IsCertified snapshot claim.now }
-        ensures reply { IfOk result (λ told. told ≡ reply.Published claim.now) }
         ensures published { OnOk result (self.new ≡ with_published self.old self.old.desk claim.now) }
         ensures unchanged { OnErr result (self.new ≡ self.old) }
     {
         let Some(desk) = &mut self.desk else {
             unreachable!();
         };
-        let reply = desk.publish_planned(self.alloc, snapshot, claim)?;
+        desk.publish_certified(self.alloc, snapshot, claim)?;
         self.version += 1;
-        Ok(reply)
+        Ok(())
     }
 
     /// Recalls that the snapshot of the last publication has its parts in order. It does nothing.
@@ -207,7 +202,6 @@ impl State {
         ensures unchanged { OnErr result (self.new ≡ self.old) }
     {
         let desk = new_desk(self.alloc, opening, now)?;
-        // A call drops what stood there. An assignment would drop it here, piece by piece, which the proof would have to follow.
         drop(replace(&mut self.desk, Some(desk)));
         self.version += 1;
         Ok(())

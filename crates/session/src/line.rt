@@ -74,8 +74,7 @@ fn publish_solved(state: &mut State, solved: Solved) -> Result<Reply, AllocError
     ensures left { IfOk result (λ reply. state.new ≡ after_publish state.old reply) }
 {
     let (taken, outcome) = solved.into_parts();
-    let (reply, told) = publish_found(state, taken, outcome)?;
-    drop(told);
+    let reply = publish_found(state, taken, outcome)?;
     Ok(reply)
 }
 

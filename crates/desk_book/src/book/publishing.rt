@@ -2,15 +2,35 @@
 
 ghost use Rattle.std.specs.Prelude.{◌≡◌, Some, IfOk, OnErr};
 ghost use Rattle.desk_book.specs.Seen.{take_of};
-ghost use Rattle.desk_book.specs.Doing.{IsPublished, IsAnswered};
+ghost use Rattle.desk_book.specs.Doing.{IsPublished, IsAnswered, publish_reply};
 
 use super::Book;
 use crate::doing::publish_found;
 use crate::same::is_same;
 use crate::step::PublishStep;
-use desk_events::{EventEntry, What};
-use plan_base::Solved;
+use desk_core::State;
+use desk_events::{EventEntry, Refusal, Reply, What};
+use plan_base::{Outcome, Solved, Taken};
 use std::alloc::AllocError;
+
+// What is going to be replied to what was found for a Take.
+fn publish_reply(state: &State, taken: &Taken, outcome: &Outcome) -> Result<Reply, AllocError>
+    ensures { IfOk result (λ reply. reply ≡ publish_reply state.now record { taken = taken.now; outcome = outcome.now }) }
+{
+    let asked = taken.snapshot.parts().version;
+    let newer = state.version();
+    if newer != asked {
+        return Ok(Reply::Refused(Refusal::Stale { asked, newer }));
+    }
+    match outcome {
+        Outcome::Plan(claim) => Ok(Reply::Published {
+            claim: claim.copy()?,
+        }),
+        Outcome::TooManyStarts(count) => {
+            Ok(Reply::Refused(Refusal::TooManyStarts { count: *count }))
+        }
+    }
+}
 
 impl Book {
     // Adds the entry of what was found for the caller's open Take.
@@ -24,14 +44,16 @@ impl Book {
         let place = usize::from(caller);
         let line = self.done[place] + 1;
         let version = self.state.version();
+        // The entry that is answered gets its reply before anything changes.
+        let told = publish_reply(&self.state, &taken, &outcome)?;
         self.history.reserve(1)?;
-        let (kept, told) = publish_found(&mut self.state, taken, outcome)?;
+        let reply = publish_found(&mut self.state, taken, outcome)?;
         let entry = EventEntry {
             caller,
             line,
             what: What::Publish,
             version,
-            reply: kept,
+            reply,
         };
         self.history.push(entry).unwrap();
         self.done[place] = line;

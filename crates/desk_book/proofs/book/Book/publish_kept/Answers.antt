@@ -56,8 +56,8 @@ invariant_of-self-2 c =
     let place : c.from-place.result ≡ taken.caller = c.from-place.ensures in
     let at : c.index.result.now ≡ get_or c.self.inside.done.items taken.caller c.index.result.now =
     subst (λ (k : ℕ). c.index.result.now ≡ get_or c.self.inside.done.items k c.index.result.now) place c.index.ensures in
-    let x = publish_fields b c.self.inside.done.items taken c.index.result.now c.version-version.result c.in_ok-kept.kept c.publish_found.new.state c.push.new.self.items
-    c.self.invariant.sound c.self.invariant.counted low at opens c.in_ok-kept.ensures.publication c.in_ok-kept.ensures.claims c.in_ok-kept.ensures.left c.version-version.ensures.version
+    let x = publish_fields b c.self.inside.done.items taken c.index.result.now c.version-version.result c.in_ok-reply.reply c.publish_found.new.state c.push.new.self.items
+    c.self.invariant.sound c.self.invariant.counted low at opens c.in_ok-reply.ensures.publication c.in_ok-reply.ensures.claims c.in_ok-reply.ensures.left c.version-version.ensures.version
     (pushed c.push.result c.unwrap.result c.self.inside.history.items c.reserve.new.self.items c.push.new.self.items _ c.unwrap.ensures c.push.ensures.items c.reserve.ensures.items) in
     let now : ℕ → BookSeen = λ k. book_with b c.push.new.self.items c.publish_found.new.state (set b.takes k None) in
     record {
@@ -75,15 +75,15 @@ returns-clause-ok c =
     let at : c.index.result.now ≡ get_or c.self.inside.done.items taken.caller c.index.result.now =
     subst (λ (k : ℕ). c.index.result.now ≡ get_or c.self.inside.done.items k c.index.result.now) place c.index.ensures in
     let x =
-    published_fields b c.self.inside.done.items taken c.into_parts-taken.result.1 c.index.result.now c.version-version.result c.in_ok-kept.kept c.in_ok-kept.told
+    published_fields b c.self.inside.done.items taken c.into_parts-taken.result.1 c.index.result.now c.version-version.result c.in_ok-reply.reply c.in_ok-told.told
     c.publish_found.new.state c.push.new.self.items
-    c.self.invariant.counted low at opens c.in_ok-kept.ensures.reply c.in_ok-kept.ensures.told c.in_ok-kept.ensures.left c.version-version.ensures.version
+    c.self.invariant.counted low at opens c.in_ok-reply.ensures.reply (c.in_ok-told.ensures ∙ sym c.in_ok-reply.ensures.reply) c.in_ok-reply.ensures.left c.version-version.ensures.version
     (pushed c.push.result c.unwrap.result c.self.inside.history.items c.reserve.new.self.items c.push.new.self.items _ c.unwrap.ensures c.push.ensures.items c.reserve.ensures.items) in
     let make : Taken → Outcome → SolvedTake = λ t o. record { taken = t; outcome = o } in
     let whole : make taken c.into_parts-taken.result.1 ≡ c.args.solved =
     ap (λ (t : Taken). make t c.into_parts-taken.result.1) c.into_parts-taken.ensures.same_taken ∙ ap (λ (o : Outcome). make c.args.solved.taken o) c.into_parts-taken.ensures.same_outcome in
     let now : ℕ → BookSeen = λ k. book_with b c.push.new.self.items c.publish_found.new.state (set b.takes k None) in
-    let e : EventEntry = record { caller = taken.caller; line = c.index.result.now + 1; what = Publish; version = c.version-version.result; reply = c.in_ok-kept.told } in
+    let e : EventEntry = record { caller = taken.caller; line = c.index.result.now + 1; what = Publish; version = c.version-version.result; reply = c.in_ok-told.told } in
     let mine : IsPublished b c.args.solved e (now taken.caller) = subst (λ (p : SolvedTake). IsPublished b p e (now taken.caller)) whole x in
     let there : IsPublished b c.args.solved e (now c.from-place.result) = subst (λ (k : ℕ). IsPublished b c.args.solved e (now k)) (sym place) mine in
     subst (λ (v : BookSeen). IsPublished v c.args.solved e (now c.from-place.result)) c.self.view_is there

@@ -28,13 +28,13 @@ returns-in-Ok-No c =
 pub returns-in-Err : goal.returns-in-Err
 returns-in-Err c = no_memory_from c.args.version (seen c.args.self.now) c.args.asked c.args.claim.now (Err c.into-in-Err.result) c.into-in-Err.ensures
 
-pub returns-in_ok-publish_planned-in-Ok-Yes : goal.returns-in_ok-publish_planned-in-Ok-Yes
-returns-in_ok-publish_planned-in-Ok-Yes c =
+pub returns-in_ok-publish_told-in-Ok-Yes : goal.returns-in_ok-publish_told-in-Ok-Yes
+returns-in_ok-publish_told-in-Ok-Yes c =
     let d = seen c.args.self.now in
     let found = subst (λ (s : Parts). IsVerdict s c.args.claim.now c.in-Ok-Yes.field-0) c.in_ok-snapshot.ensures c.in-Ok-Yes.ensures.verdict in
     let yes = subst (IsVerdict _ c.args.claim.now) c.in-Ok-Yes.field-0-is found in
     let version : c.in_ok-snapshot.snapshot.version ≡ c.args.version = ap (λ (s : Parts). s.version) c.in_ok-snapshot.ensures in
-    let published = c.in_ok-publish_planned-in-Ok-Yes.ensures in
-    subst (λ (r : Reply). DecidesByVerdict c.args.version d c.args.asked c.args.claim.now (seen c.publish_planned.new.self) (Ok r)) (sym published.reply)
-    (published_is c.args.version d (seen c.publish_planned.new.self) c.args.asked c.args.claim.now c.in-Ok-Yes.field-0-0 c.in-Ok-Yes.field-0-1 c.if-asked-version.false yes
+    let published = c.in_ok-publish_told-in-Ok-Yes.ensures in
+    subst (λ (r : Reply). DecidesByVerdict c.args.version d c.args.asked c.args.claim.now (seen c.publish_told.new.self) (Ok r)) (sym published.reply)
+    (published_is c.args.version d (seen c.publish_told.new.self) c.args.asked c.args.claim.now c.in-Ok-Yes.field-0-0 c.in-Ok-Yes.field-0-1 c.if-asked-version.false yes
     (published.desk ∙ ap (λ v. with_publication v c.args.claim.now d) version))

@@ -5,7 +5,7 @@ use Rattle.desk_runs.specs.declared.observation.Observation.{Observation}
 use Rattle.desk_runs.specs.Adding.{CanPublish}
 use Rattle.desk_core.specs.Desk.{seen}
 use Rattle.desk_core.proofs.Publications.{can_publish}
-use Rattle.desk_core.proofs.desk.Desk.publish_planned.Goals as goal
+use Rattle.desk_core.proofs.desk.Desk.publish_certified.Goals as goal
 
 pub publish-requires : goal.publish-requires
 publish-requires c =
