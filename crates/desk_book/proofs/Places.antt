@@ -3,7 +3,7 @@ use Rattle.std.proofs.Common.{◌≡◌, ℕ, ◌+◌, ◌≤◌, ◌<◌, List,
 use Rattle.plan_io.specs.declared.lines.ScriptLine.{ScriptLine}
 use Rattle.desk_events.specs.declared.entry.What.{What}
 use Rattle.desk_events.specs.declared.entry.What.TheVariants.{Line, Take, Publish}
-use Rattle.desk_core.specs.History.{Answers, AnswersPrefix}
+use Rattle.desk_core.specs.History.{AreTurnsOf, AnswersPrefix}
 use Rattle.desk_book.specs.Kept.{IsPlace}
 use Rattle.desk_book.proofs.Turns.{answers_more}
 
@@ -24,7 +24,7 @@ place_publish script turns n p =
     let whole : turns ++ last ≡ before ++ (n + 1, Take) ∷ last = ap (λ (ts : List (ℕ × What)). ts ++ last) p.1.1 ∙ append_assoc before ((n + 1, Take) ∷ []) last in
     let below : n < length script = p.0 in (
       omega arith,
-      subst (λ (ts : List (ℕ × What)). Answers 1 ts (n + 1 + 1)) (sym whole) (answers_more 1 (n + 1) (n + 1 + 1) before ((n + 1, Take) ∷ last) p.1.2 (refl, refl, refl)),
+      subst (λ (ts : List (ℕ × What)). AreTurnsOf 1 ts (n + 1 + 1)) (sym whole) (answers_more 1 (n + 1) (n + 1 + 1) before ((n + 1, Take) ∷ last) p.1.2 (refl, refl, refl)),
     )
 
 pub place_longer : (script rest : List ScriptLine) (turns : List (ℕ × What)) (n : ℕ) (b : Bool) → IsPlace script turns n b → IsPlace (script ++ rest) turns n b

@@ -106,9 +106,6 @@ decided_publishes : (s : StateSeen) (refusal : Option Refusal) (r : Reply) (e : 
 decided_publishes s None r e h = h
 decided_publishes s (Some refusal) r e h = refl
 
-told_publishes : (s : StateSeen) (r : Reply) → publishes r ≡ false → publishes (told s (Ok r)).reply ≡ false
-told_publishes s r h = h
-
 -- no other step does
 other : {X : Type 0} (now stepped : Stepped) (claim : Claim) → publishes now.reply ≡ false → Some now ≡ Some stepped → stepped.reply ≡ reply.Published claim → X
 other now stepped claim plain is e =

@@ -11,7 +11,7 @@ use Rattle.desk_events.specs.declared.entry.What.TheVariants.{Line, Take, Publis
 use Rattle.desk_events.specs.declared.reply.Reply.{Reply}
 use Rattle.desk_events.specs.Laws.{told}
 use Rattle.desk_events.proofs.OneText.{one_history}
-use Rattle.desk_core.specs.History.{IsPlanning, script_of, entries_of, turns_of, read_at, replay, Answers, AnswersPrefix, HasTaken, IsReply, IsEntry, IsLegal}
+use Rattle.desk_core.specs.History.{IsPlanning, script_of, entries_of, turns_of, read_at, replay, AreTurnsOf, AnswersPrefix, HasTaken, IsReply, IsEntry, IsLegal}
 use Rattle.desk_book.specs.Laws.{TextTellsHistory}
 use Rattle.desk_book.proofs.Turns.{answers_more}
 
@@ -24,7 +24,7 @@ StartsPublish ((k, Line) ∷ turns) = ⊥
 StartsPublish ((k, Take) ∷ turns) = ⊥
 StartsPublish ((k, Publish) ∷ turns) = Unit {0}
 
-take_then : (n m l : ℕ) (xs ys : List (ℕ × What)) → Answers n (xs ++ (l, Take) ∷ ys) m → StartsPublish ys
+take_then : (n m l : ℕ) (xs ys : List (ℕ × What)) → AreTurnsOf n (xs ++ (l, Take) ∷ ys) m → StartsPublish ys
 take_then n m l [] [] h = absurd h
 take_then n m l [] ((k, Line) ∷ ys) h = absurd h
 take_then n m l [] ((k, Take) ∷ ys) h = absurd h
@@ -47,10 +47,10 @@ prefix_then script l k w xs ys (done, inl p) = starts_publish k w ys (take_then 
 prefix_then script l k w xs ys (done, inr p) =
     let before : List (ℕ × What) = p.0 in
     let last : List (ℕ × What) = (done + 1, Publish) ∷ [] in
-    let whole : Answers 1 (before ++ (done + 1, Take) ∷ last) (done + 1 + 1) = answers_more 1 (done + 1) (done + 1 + 1) before ((done + 1, Take) ∷ last) p.3 (refl, refl, refl) in
+    let whole : AreTurnsOf 1 (before ++ (done + 1, Take) ∷ last) (done + 1 + 1) = answers_more 1 (done + 1) (done + 1 + 1) before ((done + 1, Take) ∷ last) p.3 (refl, refl, refl) in
     let same : before ++ (done + 1, Take) ∷ last ≡ xs ++ (l, Take) ∷ (k, w) ∷ (ys ++ last) =
     sym (append_assoc before ((done + 1, Take) ∷ []) last) ∙ ap (λ (ts : List (ℕ × What)). ts ++ last) (sym p.2) ∙ append_assoc xs ((l, Take) ∷ (k, w) ∷ ys) last in
-    starts_publish k w (ys ++ last) (take_then 1 (done + 1 + 1) l xs ((k, w) ∷ (ys ++ last)) (subst (λ (ts : List (ℕ × What)). Answers 1 ts (done + 1 + 1)) same whole))
+    starts_publish k w (ys ++ last) (take_then 1 (done + 1 + 1) l xs ((k, w) ∷ (ys ++ last)) (subst (λ (ts : List (ℕ × What)). AreTurnsOf 1 ts (done + 1 + 1)) same whole))
 
 -- a list that has a last entry ends with it
 last_by : (x : EventEntry) (xs : List EventEntry) (t : EventEntry) → last_or (Some x) xs ≡ Some t → (front : List EventEntry) × (x ∷ xs ≡ front ++ t ∷ [])

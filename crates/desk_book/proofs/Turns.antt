@@ -9,7 +9,7 @@ use Rattle.std.proofs.lemmas.List.Sums.{sum_by-append}
 use Rattle.desk_events.specs.declared.entry.EventEntry.{EventEntry}
 use Rattle.desk_events.specs.declared.entry.What.{What}
 use Rattle.desk_events.specs.declared.entry.What.TheVariants.{Line, Take, Publish}
-use Rattle.desk_core.specs.History.{entries_of, turns_of, Answers}
+use Rattle.desk_core.specs.History.{entries_of, turns_of, AreTurnsOf}
 use Rattle.desk_book.specs.Seen.{ends_line, done_of}
 
 -- the entry alone, where it is the caller's
@@ -65,8 +65,8 @@ pub done_other : (caller : ℕ) (h : List EventEntry) (e : EventEntry) → e.cal
 done_other caller h e is = ap ends (entries_other caller h e is)
 
 -- the lines from n up to the one before m, and then those from m up to the one before k
-pub answers_more : (n m k : ℕ) (xs ys : List (ℕ × What)) → Answers n xs m → Answers m ys k → Answers n (xs ++ ys) k
-answers_more n m k [] ys h g = subst (λ (i : ℕ). Answers i ys k) (sym h) g
+pub answers_more : (n m k : ℕ) (xs ys : List (ℕ × What)) → AreTurnsOf n xs m → AreTurnsOf m ys k → AreTurnsOf n (xs ++ ys) k
+answers_more n m k [] ys h g = subst (λ (i : ℕ). AreTurnsOf i ys k) (sym h) g
 answers_more n m k ((l, Line) ∷ xs) ys h g = (h.0, answers_more (n + 1) m k xs ys h.1 g)
 answers_more n m k ((l, Take) ∷ []) ys h g = absurd h
 answers_more n m k ((l, Take) ∷ (j, Publish) ∷ xs) ys h g = (h.0, h.1, answers_more (n + 1) m k xs ys h.2 g)

@@ -3,10 +3,10 @@ use Rattle.std.proofs.Common.{◌≡◌, ℕ, zero, suc, ◌+◌, ◌≤◌, Lis
 use Rattle.std.specs.Option.{is_some}
 use Rattle.plan_io.specs.declared.lines.ScriptLine.{ScriptLine}
 use Rattle.desk_events.specs.declared.entry.What.{What}
-use Rattle.desk_core.specs.History.{script_of, turns_of, Answers}
-use Rattle.desk_book.specs.Kept.{IsPlace, IsBook}
+use Rattle.desk_core.specs.History.{script_of, turns_of, AreTurnsOf}
+use Rattle.desk_book.specs.Kept.{IsPlace}
 use Rattle.desk_book.specs.Laws.{OverIsWhole}
-use Rattle.desk_book.specs.Seen.{BookSeen, take_of, done_of, IsOver}
+use Rattle.desk_book.specs.Seen.{take_of, done_of}
 use Rattle.desk_book.proofs.Places.{place_as}
 
 none_left : {A : Type 0} (xs : List A) (n : ℕ) → slice_get xs n ≡ None → length xs ≤ n
@@ -14,11 +14,11 @@ none_left [] n h = omega arith
 none_left (x ∷ xs) zero h = cc
 none_left (x ∷ xs) (suc n) h = let less : length xs ≤ n = none_left xs n h in omega arith
 
-all_done : (script : List ScriptLine) (turns : List (ℕ × What)) (n : ℕ) → IsPlace script turns n false → slice_get script n ≡ None → Answers 1 turns (length script + 1)
+all_done : (script : List ScriptLine) (turns : List (ℕ × What)) (n : ℕ) → IsPlace script turns n false → slice_get script n ≡ None → AreTurnsOf 1 turns (length script + 1)
 all_done script turns n p h =
     let low : n ≤ length script = p.0 in
     let same : n + 1 ≡ length script + 1 = omega (arith, none_left script n h) in
-    subst (λ (k : ℕ). Answers 1 turns k) same p.1
+    subst (λ (k : ℕ). AreTurnsOf 1 turns k) same p.1
 
 pub over_is_whole : OverIsWhole
 over_is_whole b k over caller =

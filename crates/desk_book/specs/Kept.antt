@@ -8,7 +8,7 @@ use Rattle.desk_events.specs.declared.entry.EventEntry.{EventEntry}
 use Rattle.desk_events.specs.declared.entry.What.{What}
 use Rattle.desk_events.specs.declared.entry.What.TheVariants.{Take}
 use Rattle.desk_core.specs.Desk.{StateSeen}
-use Rattle.desk_core.specs.History.{script_of, entries_of, turns_of, Answers, IsEntry, EachAfter, IsLegal, replay}
+use Rattle.desk_core.specs.History.{script_of, entries_of, turns_of, AreTurnsOf, IsEntry, EachAfter, IsLegal, replay}
 use Rattle.desk_book.specs.Claims.{IsClaimEntry}
 use Rattle.desk_book.specs.Doing.{IsTakenOf}
 use Rattle.desk_book.specs.Seen.{BookSeen, take_of, done_of}
@@ -16,9 +16,9 @@ use Rattle.desk_book.specs.Seen.{BookSeen, take_of, done_of}
 -- a caller's turns are those of the first lines of its script, so many, in order and each once; where its Take is open, then
 -- comes that of the next line
 abbrev pub IsPlace : List ScriptLine → List (ℕ × What) → ℕ → Bool → Type 0
-IsPlace script turns done false = (done ≤ length script) × Answers 1 turns (done + 1)
+IsPlace script turns done false = (done ≤ length script) × AreTurnsOf 1 turns (done + 1)
 IsPlace script turns done true =
-    (done < length script) × ((before : List (ℕ × What)) × (turns ≡ before ++ (done + 1, Take) ∷ []) × Answers 1 before (done + 1))
+    (done < length script) × ((before : List (ℕ × What)) × (turns ≡ before ++ (done + 1, Take) ∷ []) × AreTurnsOf 1 before (done + 1))
 
 -- the caller's last entry is a Take, and this is what was taken: it names the caller, and has the snapshot and the settings of
 -- the state at that entry

@@ -20,8 +20,8 @@ use plan_io::ScriptLine;
 use std::alloc::{AllocError, Global};
 use std::marker::Model;
 
-/// What the callers of a desk send, what was done of it in which order, and the state that this leaves. Callers are
-/// counted from 0, and so are their lines.
+/// What the callers of a desk send, what was done of it in which order, and the state that this leaves. Callers are counted
+/// from 0. `line` takes a line's place from 0; an entry names it from 1.
 ///
 /// Each call fails only for want of memory, and then the book is as before.
 #[derive(Debug, Drop)]

@@ -279,7 +279,7 @@ is_freed d n h a few =
     let ending : ending_of (p.0, (g, canceled g)) ≡ record { group = n; holds = []; refund = standing p.0.document.proposal p.0.charged } = ending_is p.0 g n same_number a.opened a.none in
     let stands : g ≡ group_of s.groups g.number = sym (get_or_from_slice_get s.groups (g.number.0 - 1) g no_group (ap (λ (k : ℕ). slice_get s.groups (k - 1)) number ∙ at.there)) in
     let endings : endings_of ps ≡ ending_of (p.0, (g, canceled g)) ∷ [] =
-    ap endings_of list ∙ one_ends d p p.0 g (canceled g) one.told (sym (get_or_from_slice_get d.groups (g.number.0 - 1) p.0 p.0 one.told.submitted)) stands a.opened in
+    ap endings_of list ∙ one_ends d p p.0 g (canceled g) one.told one.told.submitted stands a.opened in
     let all = ends_of d (changed s c) (canceled g ∷ []) h w.can.later w.can.told few in
     let books : fold after_group d.books (groups_along d (changed s c)) ≡ freed n d.books =
     all.same ∙ ap (fold ended d.books) endings ∙ ap (ended d.books) ending

@@ -1,5 +1,5 @@
 -- `amend` keeps the desk.
-use Rattle.std.proofs.Common.{◌≡◌, ℕ, ◌+◌, ◌<◌, ◌≤◌, ◌^◌, Bool, true, false, cond, ◌||◌, List, [], ◌∷◌, length, get_or, All, refl, sym, ◌∙◌, ap, arith, Option, Some, None}
+use Rattle.std.proofs.Common.{◌≡◌, ◌+◌, ◌≤◌, ◌^◌, Bool, true, false, cond, ◌||◌, List, [], ◌∷◌, length, get_or, All, refl, arith, Option, Some, None}
 use Rattle.std.specs.List.{find}
 use Rattle.std.specs.Option.{option_map, option_or}
 use Rattle.std.proofs.lemmas.Bool.{or_parts}
@@ -9,7 +9,7 @@ use Rattle.plan_base.specs.States.{is_completed}
 use Rattle.request_model.specs.Ranges.{IsGroup}
 use Rattle.request_model.specs.declared.group.GroupDoc.{GroupDoc}
 use Rattle.desk_events.specs.declared.refusal.Refusal.{Refusal}
-use Rattle.desk_events.specs.declared.refusal.Refusal.TheVariants.{NoSuchGroup, GroupClosed, GroupStarted}
+use Rattle.desk_events.specs.declared.refusal.Refusal.TheVariants.{GroupClosed, GroupStarted}
 use Rattle.desk_runs.specs.declared.group.Group.{Group}
 use Rattle.desk_runs.specs.declared.group.Request.{Request}
 use Rattle.desk_runs.specs.Numbers.{group_at, is_placed}

@@ -44,6 +44,7 @@ pub mod PublicationCalls
 pub mod KeptPublishing
 pub mod FoundAt
 pub mod Charged
+pub mod Pends
 pub mod Chargeable
 pub mod Reportable
 pub mod Reports

@@ -27,14 +27,15 @@ use Rattle.desk_core.specs.declared.desk.Submitted.{Submitted}
 use Rattle.desk_core.specs.declared.timing.Place.{Place}
 use Rattle.desk_core.specs.Desk.{DeskSeen}
 use Rattle.desk_core.specs.Holds.{key_of, needs_of, keys_in, held_by, is_refunded, after_group, groups_along, with_progress}
-use Rattle.desk_core.specs.Kept.{IsAsked, IsAlong, IsHeldFor, IsDesk}
+use Rattle.desk_core.specs.Kept.{LastsADay, IsAlong, IsHeldFor, IsDesk}
 use Rattle.desk_core.specs.Timing.{IsFoundAt, CanCharge}
 use Rattle.desk_core.proofs.Along.{refunded_self, AreAlong}
 use Rattle.desk_core.proofs.ToldAlong.{AreAfter, after_all}
-use Rattle.desk_core.proofs.Chargeable.{Pends, pend_in, pend_first, on_need, group_no_more, group_less_by, IsDone, settled_done}
+use Rattle.desk_core.proofs.Chargeable.{on_need, group_no_more, group_less_by, IsDone, settled_done}
 use Rattle.desk_core.proofs.Fewer.{hold_of}
 use Rattle.desk_core.proofs.FoundAt.{passes}
 use Rattle.desk_core.proofs.KeySets.{on_from}
+use Rattle.desk_core.proofs.Pends.{Pends, pend_in, pend_first}
 use Rattle.desk_core.proofs.WentOn.{are_along}
 
 -- ---- at a place
@@ -201,7 +202,7 @@ pub can_charge : (d : DeskSeen) (number : RequestNo) (place : Place) (used : ℕ
 can_charge d number place used key h f placed few e =
     let pending : is_pending f.request.state ≡ true = found_pending d number place h f placed in
     let along : IsAlong (length d.network.registry.targets) f.submitted f.group = both_at (IsAlong (length d.network.registry.targets)) d.groups d.progress.groups (place.group.0 - 1) f.submitted f.group h.along f.submitted_at f.group_at in
-    let asked : IsAsked f.request = at_place IsAsked f.group.requests place.member f.request along.asked f.request_at in
+    let asked : LastsADay f.request = at_place LastsADay f.group.requests place.member f.request along.asked f.request_at in
     let made : CanCharge d number used (key_of f.submitted.document f.wanted) = record {
       short = omega (arith, asked, few);
       none = subst (λ (l : List Group). All (λ p. is_refunded p.1.0 p.1.1 ≡ false) (zip d.groups (zip d.progress.groups l))) (sym (changed_groups d number h)) (none_all number d.progress d.groups d.progress.groups);

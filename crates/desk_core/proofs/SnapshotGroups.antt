@@ -27,7 +27,7 @@ use Rattle.desk_runs.specs.Sound.{IsCounted}
 use Rattle.desk_core.specs.declared.desk.Submitted.{Submitted}
 use Rattle.desk_core.specs.declared.desk.Wanted.{Wanted}
 use Rattle.desk_core.specs.Desk.{DeskSeen}
-use Rattle.desk_core.specs.Kept.{IsDesk, IsAlong, IsAsked, IsWanted}
+use Rattle.desk_core.specs.Kept.{IsDesk, IsAlong, LastsADay, IsWanted}
 use Rattle.desk_core.specs.DeskSnapshot.{both_of, request_part, waiting_of, has_running, is_listed, listed_groups, group_part, snapshot_of}
 use Rattle.plan_base.proofs.Lists.{all_flat}
 use Rattle.desk_core.proofs.SnapshotLists.{all_zip, all_seconds, all_firsts, pairs_firsts, pairs_seconds, pairs_append, across, all_left, all_right}
@@ -37,7 +37,7 @@ use Rattle.desk_core.proofs.SnapshotLists.{length_zip, less_filtered, less_each,
 
 -- a request with what is wanted of it, where so many targets are numbered
 pub record IsMember (targets : ℕ) (m : Request × Wanted) : Type 0 where
-  pub asked : IsAsked m.0
+  pub asked : LastsADay m.0
   pub wanted : IsWanted targets m.1
 
 abbrev pub target_count : DeskSeen → ℕ
@@ -54,7 +54,7 @@ listed_along d h = All-filter (is_listed d) (λ p. IsAlong (target_count d) p.0 
 pub members : (d : DeskSeen) (p : Submitted × Group) → IsAlong (target_count d) p.0 p.1 → All (IsMember (target_count d)) (waiting_of d p)
 members d p h =
     All-filter (λ m. is_waiting d.progress.running m.0) (IsMember (target_count d)) (zip p.1.requests p.0.requests) (λ k e lt. record {
-      asked = all_firsts IsAsked p.1.requests p.0.requests h.asked k e lt;
+      asked = all_firsts LastsADay p.1.requests p.0.requests h.asked k e lt;
       wanted = all_seconds (IsWanted (target_count d)) p.1.requests p.0.requests h.wanted k e lt;
     })
 

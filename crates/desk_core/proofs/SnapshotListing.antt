@@ -7,7 +7,7 @@ use Rattle.std.proofs.lemmas.Bool.{and_parts}
 use Rattle.std.proofs.lemmas.Bool.Decides.{nat_tests}
 use Rattle.std.proofs.lemmas.List.{length-map, get_or-map, map-append}
 use Rattle.std.proofs.lemmas.List.Elements.{All-filter, filter_more}
-use Rattle.std.proofs.lemmas.Option.{get_or_from_slice_get, slice_get-get_or}
+use Rattle.std.proofs.lemmas.Option.{get_or_from_slice_get, slice_get-get_or, same_Some}
 use Rattle.std.proofs.lemmas.List.FromFn.{get_or-enumerate_from}
 use Rattle.std.proofs.lemmas.Slice.Zip.{AllZip-long}
 use Rattle.plan_base.specs.declared.number.GroupNo.{GroupNo}
@@ -39,8 +39,8 @@ zip_parts (x ∷ xs) (y ∷ ys) zero p e = let same : (x, y) ≡ p = cc in (ap (
 zip_parts (x ∷ xs) (y ∷ ys) (suc i) p e = zip_parts xs ys i p e
 
 -- the group with a number, as it was submitted
-pub submitted_at : (d : DeskSeen) (number : GroupNo) (p : Submitted × Group) (none : Submitted) → both_at d number ≡ Some p → get_or d.groups (number.0 - 1) none ≡ p.0
-submitted_at d number p none e = get_or_from_slice_get d.groups (number.0 - 1) p.0 none (zip_parts d.groups d.progress.groups (number.0 - 1) p e).0
+pub submission_is : (d : DeskSeen) (number : GroupNo) (p : Submitted × Group) (w : Submitted) → both_at d number ≡ Some p → slice_get d.groups (number.0 - 1) ≡ Some w → w ≡ p.0
+submission_is d number p w e is = same_Some w p.0 (sym is ∙ (zip_parts d.groups d.progress.groups (number.0 - 1) p e).0)
 
 -- .. and as it is
 pub group_at : (d : DeskSeen) (number : GroupNo) (p : Submitted × Group) → both_at d number ≡ Some p → group_of d.progress.groups number ≡ p.1

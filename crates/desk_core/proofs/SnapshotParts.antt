@@ -20,7 +20,7 @@ use Rattle.desk_core.specs.declared.desk.Submitted.{Submitted}
 use Rattle.desk_core.specs.Desk.{DeskSeen}
 use Rattle.desk_core.specs.Kept.{IsDesk}
 use Rattle.desk_core.specs.DeskSnapshot.{first_slice, telescope_parts, request_part, waiting_of, listed_groups, group_part, quota_place, quotas_of}
-use Rattle.desk_core.specs.DeskSnapshot.{with_targets, part_targets, targets_listed, skies_at, skies_of, snapshot_of}
+use Rattle.desk_core.specs.DeskSnapshot.{with_numbers_of, part_targets, targets_listed, skies_at, skies_of, snapshot_of}
 use Rattle.desk_core.proofs.SnapshotGroups.{target_count}
 use Rattle.desk_core.proofs.SnapshotSkies.{targets_known}
 
@@ -53,12 +53,12 @@ folded_more f a xs i x lt stands old new so_far is =
 
 -- ---- targets
 
-pub targets_more : (keys old new : List ℕ) (targets : List TargetNo) (i : ℕ) (t : TargetNo) → i < length targets → get_or targets i t ≡ t → old ≡ with_targets keys (take i targets)
-    → new ≡ insert_key nat_cmp old t.0 → new ≡ with_targets keys (take (i + 1) targets)
+pub targets_more : (keys old new : List ℕ) (targets : List TargetNo) (i : ℕ) (t : TargetNo) → i < length targets → get_or targets i t ≡ t → old ≡ with_numbers_of keys (take i targets)
+    → new ≡ insert_key nat_cmp old t.0 → new ≡ with_numbers_of keys (take (i + 1) targets)
 targets_more keys old new targets i t lt stands so_far is =
     let more : take (i + 1) targets ≡ take i targets ++ t ∷ [] = take_more targets i t lt ∙ ap (λ z. take i targets ++ z ∷ []) stands in
     is ∙ ap (λ b. insert_key nat_cmp b t.0) so_far ∙ sym (fold_push (insert_key nat_cmp) keys (map (λ u. u.0) (take i targets)) t.0)
-    ∙ ap (fold (insert_key nat_cmp) keys) (sym (map_push (λ u. u.0) (take i targets) t)) ∙ ap (with_targets keys) (sym more)
+    ∙ ap (fold (insert_key nat_cmp) keys) (sym (map_push (λ u. u.0) (take i targets) t)) ∙ ap (with_numbers_of keys) (sym more)
 
 flat_same : {X Y : Type 0} (f g : X → List Y) → ((x : X) → f x ≡ g x) → (xs : List X) → flat_map f xs ≡ flat_map g xs
 flat_same f g same [] = refl
@@ -66,7 +66,7 @@ flat_same f g same (x ∷ xs) = ap (λ l. l ++ flat_map f xs) (same x) ∙ ap (�
 
 -- the targets of the parts are those of the listed groups
 pub parts_targets : (d : DeskSeen) (groups : List GroupPart) → groups ≡ map (group_part d) (listed_groups d)
-    → with_targets [] (part_targets groups) ≡ targets_listed d
+    → with_numbers_of [] (part_targets groups) ≡ targets_listed d
 parts_targets d groups is =
     let outer : flat_map (λ x. flat_map (λ q. q.targets) x.requests) (map (group_part d) (listed_groups d))
     ≡ flat_map (λ p. flat_map (λ q. q.targets) (map (request_part d) (waiting_of d p))) (listed_groups d)
@@ -76,7 +76,7 @@ parts_targets d groups is =
     ≡ flat_map (λ p. flat_map (λ m. m.1.targets) (waiting_of d p)) (listed_groups d)
     = flat_same (λ p. flat_map (λ q. q.targets) (map (request_part d) (waiting_of d p))) (λ p. flat_map (λ m. m.1.targets) (waiting_of d p))
     (λ p. flat_map-map (λ (q : RequestPart). q.targets) (request_part d) (waiting_of d p)) (listed_groups d)
-    in ap (λ l. with_targets [] (part_targets l)) is ∙ ap (with_targets []) (outer ∙ inner)
+    in ap (λ l. with_numbers_of [] (part_targets l)) is ∙ ap (with_numbers_of []) (outer ∙ inner)
 
 -- the targets are known ..
 pub each_known : (d : DeskSeen) → IsDesk d → (targets : List TargetNo) → targets ≡ map (λ n. record { 0 = n }) (targets_listed d)

@@ -4,7 +4,7 @@ use Rattle.std.specs.List.{AllZip, zip, slice_get}
 use Rattle.std.proofs.Math.Seq.{drop-cons}
 use Rattle.std.proofs.lemmas.List.{length-map, get_or-map}
 use Rattle.std.proofs.lemmas.List.Elements.{All-nil, All-cons, All-weaker, All-filter}
-use Rattle.std.proofs.lemmas.Option.{slice_get_cases, slice_get_within, get_or_from_slice_get}
+use Rattle.std.proofs.lemmas.Option.{slice_get_cases, slice_get_within, get_or_from_slice_get, same_Some}
 use Rattle.plan_base.specs.declared.number.GroupNo.{GroupNo}
 use Rattle.plan_base.specs.declared.parts.Op.{Op}
 use Rattle.plan_base.specs.declared.parts.Op.TheVariants.{Single, Many, OneOf, And}
@@ -19,7 +19,7 @@ use Rattle.desk_runs.proofs.Places.{IsCountedFrom, counted_from, counted_head, c
 use Rattle.desk_core.specs.declared.desk.Submitted.{Submitted}
 use Rattle.desk_core.specs.Desk.{DeskSeen}
 use Rattle.desk_core.specs.Holds.{groups_along}
-use Rattle.desk_core.specs.Kept.{IsAsked, IsAlong, IsDesk}
+use Rattle.desk_core.specs.Kept.{LastsADay, IsAlong, IsDesk}
 use Rattle.desk_core.specs.Endings.{IsToldAt, ending_of, endings_of, told_along}
 use Rattle.desk_core.proofs.WentOn.{as_submitted, along_then}
 
@@ -44,7 +44,7 @@ told_one d b w g h number at before along later =
       is = refl;
       count = then.count;
       few = omega (arith, then.shape, most);
-      short = All-weaker IsAsked (λ q. q.seconds ≤ 86400) (λ q a. omega (arith, a)) h.requests then.asked;
+      short = All-weaker LastsADay (λ q. q.seconds ≤ 86400) (λ q a. omega (arith, a)) h.requests then.asked;
     }
 
 -- of each of these groups, which stand from place b on
@@ -132,8 +132,8 @@ endings_cons p ps = by (is_open p.1.0)
 pub before_is : (d : DeskSeen) (p : Submitted × (Group × Group)) (after : Group) → IsToldAt d p after → group_of d.progress.groups after.number ≡ p.1.0
 before_is d p after h = get_or_from_slice_get d.progress.groups (after.number.0 - 1) p.1.0 no_group h.before
 
-pub submitted_is : (d : DeskSeen) (p : Submitted × (Group × Group)) (after : Group) (w : Submitted) → IsToldAt d p after → w ≡ get_or d.groups (after.number.0 - 1) w → w ≡ p.0
-submitted_is d p after w h e = e ∙ get_or_from_slice_get d.groups (after.number.0 - 1) p.0 w h.submitted
+pub submitted_is : (d : DeskSeen) (p : Submitted × (Group × Group)) (after : Group) (w : Submitted) → IsToldAt d p after → slice_get d.groups (after.number.0 - 1) ≡ Some w → w ≡ p.0
+submitted_is d p after w h e = same_Some w p.0 (sym e ∙ h.submitted)
 
 pub within_groups : (d : DeskSeen) (p : Submitted × (Group × Group)) (after : Group) → IsToldAt d p after → after.number.0 ≤ length d.progress.groups
 within_groups d p after h = let l : after.number.0 - 1 < length d.progress.groups = slice_get_within d.progress.groups (after.number.0 - 1) p.1.0 h.before in omega (arith, l)
@@ -143,7 +143,7 @@ pub none_ends : (d : DeskSeen) (p : Submitted × (Group × Group)) (before after
 none_ends d p before after h e closed =
     ap (λ (b : Bool). map ending_of (cond b (p ∷ []) [])) (ap is_open (sym (e ∙ before_is d p after h)) ∙ closed)
 
-pub one_ends : (d : DeskSeen) (p : Submitted × (Group × Group)) (w : Submitted) (before after : Group) → IsToldAt d p after → w ≡ get_or d.groups (after.number.0 - 1) w
+pub one_ends : (d : DeskSeen) (p : Submitted × (Group × Group)) (w : Submitted) (before after : Group) → IsToldAt d p after → slice_get d.groups (after.number.0 - 1) ≡ Some w
     → before ≡ group_of d.progress.groups after.number → is_open before ≡ true
     → endings_of (p ∷ []) ≡ ending_of (w, (before, after)) ∷ []
 one_ends d p w before after h s e opened =

@@ -24,7 +24,7 @@ use Rattle.desk_runs.specs.Adding.{requests_from}
 use Rattle.desk_core.specs.declared.desk.Submitted.{Submitted}
 use Rattle.desk_core.specs.declared.desk.Wanted.{Wanted}
 use Rattle.desk_core.specs.Desk.{DeskSeen}
-use Rattle.desk_core.specs.Kept.{IsWanted, IsAsked, IsAlong}
+use Rattle.desk_core.specs.Kept.{IsWanted, LastsADay, IsAlong}
 use Rattle.desk_core.specs.Targets.{numbers_of, targets_of}
 use Rattle.desk_core.specs.Asking.{MadeSeen}
 use Rattle.desk_core.specs.Submitting.{targets_with, value_of, wanted_of, asks_of, op_of, group_of, submitted_of}
@@ -120,9 +120,9 @@ is_wanted now targets document m g h =
 all_wanted : (now : Sec) (targets : List (List ℕ)) (document : GroupDoc) (made : List MadeSeen) → IsGroup document → All (IsMade now) made → All (IsWanted (length targets)) (map (wanted_of targets document) made)
 all_wanted now targets document made g h = All-map (IsWanted (length targets)) (wanted_of targets document) made (λ i m l. is_wanted now targets document (get_or made i m) g (h i m l))
 
-all_asked : (n : ℕ) (now : Sec) (made : List MadeSeen) → All (IsMade now) made → All IsAsked (requests_from n (asks_of made))
-all_asked n now [] h = All-nil IsAsked
-all_asked n now (m ∷ ms) h = All-cons IsAsked _ (requests_from (n + 1) (asks_of ms)) (All-head (IsMade now) m ms h).seconds (all_asked (n + 1) now ms (All-tail (IsMade now) m ms h))
+all_asked : (n : ℕ) (now : Sec) (made : List MadeSeen) → All (IsMade now) made → All LastsADay (requests_from n (asks_of made))
+all_asked n now [] h = All-nil LastsADay
+all_asked n now (m ∷ ms) h = All-cons LastsADay _ (requests_from (n + 1) (asks_of ms)) (All-head (IsMade now) m ms h).seconds (all_asked (n + 1) now ms (All-tail (IsMade now) m ms h))
 
 pub more_targets : (a b : ℕ) (w : Submitted) (g : Group) → a ≤ b → IsAlong a w g → IsAlong b w g
 more_targets a b w g most h = record {

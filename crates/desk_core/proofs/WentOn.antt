@@ -26,7 +26,7 @@ use Rattle.desk_runs.proofs.Counts.{pending_sum}
 use Rattle.desk_core.specs.declared.desk.Submitted.{Submitted}
 use Rattle.desk_core.specs.Desk.{DeskSeen}
 use Rattle.desk_core.specs.Holds.{after_group, groups_along, refund_of, refunds_of, with_progress}
-use Rattle.desk_core.specs.Kept.{IsAsked, IsAlong, IsHeldFor, IsDesk}
+use Rattle.desk_core.specs.Kept.{LastsADay, IsAlong, IsHeldFor, IsDesk}
 use Rattle.desk_core.specs.Endings.{endings_of, refunds_in, told_along}
 use Rattle.desk_core.proofs.Along.{all_seconds, AreAlong, EndsAll, ends_all}
 use Rattle.desk_core.proofs.ToldAlong.{refunds_all, few_endings, IsKeyed, AreAfter, after_all}
@@ -126,11 +126,11 @@ few_of d after cs h =
 
 -- ---- the desk then
 
-asked_then : (qs rs : List Request) → AllZip IsLaterRequest qs rs → All IsAsked qs → All IsAsked rs
-asked_then [] [] z h = All-nil IsAsked
+asked_then : (qs rs : List Request) → AllZip IsLaterRequest qs rs → All LastsADay qs → All LastsADay rs
+asked_then [] [] z h = All-nil LastsADay
 asked_then [] (r ∷ rs) z h = absurd z
 asked_then (q ∷ qs) [] z h = absurd z
-asked_then (q ∷ qs) (r ∷ rs) z h = All-cons IsAsked r rs (subst (λ (n : ℕ). IsBetween 1 86400 n) (sym z.0.seconds) (All-head IsAsked q qs h)) (asked_then qs rs z.1 (All-tail IsAsked q qs h))
+asked_then (q ∷ qs) (r ∷ rs) z h = All-cons LastsADay r rs (subst (λ (n : ℕ). IsBetween 1 86400 n) (sym z.0.seconds) (All-head LastsADay q qs h)) (asked_then qs rs z.1 (All-tail LastsADay q qs h))
 
 pub along_then : (targets : ℕ) (w : Submitted) (g h : Group) → IsAlong targets w g → IsLater g h → IsAlong targets w h
 along_then targets w g h a later =

@@ -1,5 +1,5 @@
 -- What a document asks for: its requests, tested one after another.
-use Rattle.std.specs.Prelude.{ℕ, max, nat_le, nat_lt, Bool, true, false, not, ◌&&◌, List, [], ◌∷◌, ◌++◌, map, fold, Result, Ok, Err, if◌then◌else◌}
+use Rattle.std.specs.Prelude.{ℕ, max, nat_le, Bool, true, false, not, ◌&&◌, List, [], ◌∷◌, ◌++◌, map, fold, Result, Ok, Err, if◌then◌else◌}
 use Rattle.std.specs.List.{list_any, list_all, enumerate_from}
 use Rattle.std.specs.Option.{ok_or, unwrap_or}
 use Rattle.plan_base.specs.declared.number.Sec.{Sec}
@@ -7,6 +7,7 @@ use Rattle.plan_base.specs.declared.parts.Op.{Op}
 use Rattle.plan_base.specs.declared.parts.Op.TheVariants.{Single, Many, OneOf, And}
 use Rattle.plan_base.specs.declared.span.Span.{Span}
 use Rattle.request_model.specs.declared.group.GroupDoc.{GroupDoc}
+use Rattle.request_model.specs.declared.request.Location.{Location}
 use Rattle.request_model.specs.declared.request.RequestDoc.{RequestDoc}
 use Rattle.request_model.specs.declared.request.When.{When}
 use Rattle.request_model.specs.declared.request.When.TheVariants.{Windows, Cadence}
@@ -15,7 +16,7 @@ use Rattle.request_times.specs.declared.instrument.Instrument.{Instrument}
 use Rattle.request_times.specs.Duration.{duration}
 use Rattle.request_times.specs.Cadence.{expansion}
 use Rattle.site_model.specs.declared.code.InstrumentTimes.{InstrumentTimes}
-use Rattle.site_model.specs.Registry.{RegistrySeen, times_of, fits}
+use Rattle.site_model.specs.Registry.{RegistrySeen, TelescopeSeen, times_of, fits}
 use Rattle.desk_events.specs.declared.refusal.Refusal.{Refusal}
 use Rattle.desk_events.specs.declared.refusal.Refusal.TheVariants.{NoSuchInstrument, BadCadence, OutsideSemester, WindowPast, NoTelescope}
 use Rattle.desk_core.specs.declared.asking.Made.{Made}
@@ -83,9 +84,13 @@ is_outside semester lists = list_any (λ windows. list_any (λ w. not (is_inside
 abbrev pub is_past : Sec → List Span → Bool
 is_past now windows = list_all (λ w. nat_le w.to.0 now.0) windows
 
+-- whether a telescope fits a request for this location and instrument type
+abbrev pub is_fit : Location → List ℕ → TelescopeSeen → Bool
+is_fit place instrument t = fits t place.class place.site place.enclosure place.telescope instrument
+
 -- whether a telescope that is registered so far fits the request
 abbrev pub is_fitted : RegistrySeen → RequestDoc → Bool
-is_fitted r q = list_any (λ t. fits t q.location.class q.location.site q.location.enclosure q.location.telescope q.instrument) r.telescopes
+is_fitted r q = list_any (is_fit q.location q.instrument) r.telescopes
 
 -- ---- the requests of a document
 

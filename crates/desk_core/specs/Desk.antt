@@ -1,5 +1,5 @@
 -- The state of a desk, and what a line leaves of it.
-use Rattle.std.specs.Prelude.{ℕ, ◌+◌, ◌≡◌, ◌≢◌, List, [], Option, Some, None, Result, Ok, Err, IfOk, IfErr, OnErr}
+use Rattle.std.specs.Prelude.{ℕ, ◌+◌, ◌≡◌, ◌≢◌, List, Option, Some, None, Result, Ok, Err, IfOk, IfErr, OnErr}
 use Rattle.site_model.specs.Network.{NetworkSeen}
 use Rattle.allocations.specs.Books.{Books}
 use Rattle.desk_runs.specs.Progress.{Progress}

@@ -17,7 +17,7 @@ use Rattle.plan_base.specs.declared.span.Span.{Span}
 use Rattle.plan_base.specs.Starts.{slices_for}
 use Rattle.interval_set.specs.Spans.{has, IsSetOf}
 use Rattle.site_model.specs.Names.{number_of, numbered}
-use Rattle.site_model.specs.Registry.{TelescopeSeen, fits}
+use Rattle.site_model.specs.Registry.{TelescopeSeen}
 use Rattle.site_model.specs.Calendar.{set_at, sky_of, IsWithinLimits}
 use Rattle.site_model.specs.Network.{NetworkSeen}
 use Rattle.site_model.specs.Limits.{most_telescopes, most_sites, most_targets}
@@ -29,6 +29,7 @@ use Rattle.desk_runs.specs.Numbers.{is_placed}
 use Rattle.desk_runs.specs.Clock.{start_of, end_of, is_waiting}
 use Rattle.desk_core.specs.declared.desk.Submitted.{Submitted}
 use Rattle.desk_core.specs.declared.desk.Wanted.{Wanted}
+use Rattle.desk_core.specs.Asking.{is_fit}
 use Rattle.desk_core.specs.Desk.{DeskSeen}
 use Rattle.desk_core.specs.Seconds.{spans_below}
 
@@ -97,13 +98,9 @@ both_at d number = slice_get (both_of d) (number.0 - 1)
 abbrev pub IsGroupNo : DeskSeen → GroupNo → Type 0
 IsGroupNo d number = (1 ≤ number.0) × (number.0 ≤ length d.progress.groups)
 
--- whether a telescope fits a request
-abbrev pub is_fit : Wanted → TelescopeSeen → Bool
-is_fit w t = fits t w.location.class w.location.site w.location.enclosure w.location.telescope w.instrument
-
 -- the telescopes that fit, among all that are registered so far
 abbrev pub telescopes_for : DeskSeen → Wanted → List TelescopeNo
-telescopes_for d w = map (λ p. record { 0 = p.0 }) (filter (λ p. is_fit w p.1) (enumerate_from 0 d.network.registry.telescopes))
+telescopes_for d w = map (λ p. record { 0 = p.0 }) (filter (λ p. is_fit w.location w.instrument p.1) (enumerate_from 0 d.network.registry.telescopes))
 
 abbrev pub request_part : DeskSeen → Request × Wanted → RequestPart
 request_part d p = record {
@@ -157,8 +154,8 @@ quotas_of d (Some quota) = map (λ name. quota) (proposals_of d)
 -- ---- skies
 
 -- a set of numbers with those of targets, rising
-abbrev pub with_targets : List ℕ → List TargetNo → List ℕ
-with_targets numbers targets = fold (insert_key nat_cmp) numbers (map (λ t. t.0) targets)
+abbrev pub with_numbers_of : List ℕ → List TargetNo → List ℕ
+with_numbers_of numbers targets = fold (insert_key nat_cmp) numbers (map (λ t. t.0) targets)
 
 -- the targets of the requests of a group, and of all groups
 abbrev pub group_targets : GroupPart → List TargetNo
@@ -169,7 +166,7 @@ part_targets groups = flat_map group_targets groups
 
 -- the targets of listed requests, each once, rising
 abbrev pub targets_listed : DeskSeen → List ℕ
-targets_listed d = with_targets [] (flat_map (λ p. flat_map (λ m. m.1.targets) (waiting_of d p)) (listed_groups d))
+targets_listed d = with_numbers_of [] (flat_map (λ p. flat_map (λ m. m.1.targets) (waiting_of d p)) (listed_groups d))
 
 -- the sky of a target at a site inside the horizon, where it has a second
 abbrev pub sky_part : DeskSeen → ℕ → ℕ → Option Sky

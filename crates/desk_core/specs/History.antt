@@ -99,17 +99,17 @@ turns_of caller history = map (λ e. (e.line, e.what)) (entries_of caller histor
 
 -- the turns are those of the lines from n up to the one before m, in order and each once: one Line, or a Take and right after
 -- it a Publish
-abbrev pub Answers : ℕ → List (ℕ × What) → ℕ → Type 0
-Answers n [] m = n ≡ m
-Answers n ((k, Line) ∷ turns) m = (k ≡ n) × Answers (n + 1) turns m
-Answers n ((k, Take) ∷ (l, Publish) ∷ turns) m = (k ≡ n) × (l ≡ n) × Answers (n + 1) turns m
-Answers n _ m = ⊥
+abbrev pub AreTurnsOf : ℕ → List (ℕ × What) → ℕ → Type 0
+AreTurnsOf n [] m = n ≡ m
+AreTurnsOf n ((k, Line) ∷ turns) m = (k ≡ n) × AreTurnsOf (n + 1) turns m
+AreTurnsOf n ((k, Take) ∷ (l, Publish) ∷ turns) m = (k ≡ n) × (l ≡ n) × AreTurnsOf (n + 1) turns m
+AreTurnsOf n _ m = ⊥
 
 -- the turns are those of a prefix of the script; of its last line the Publish may be missing
 abbrev pub AnswersPrefix : List ScriptLine → List (ℕ × What) → Type 0
 AnswersPrefix script turns =
-    (done : ℕ) × (((done ≤ length script) × Answers 1 turns (done + 1))
-    ⊎ ((before : List (ℕ × What)) × (done < length script) × (turns ≡ before ++ (done + 1, Take) ∷ []) × Answers 1 before (done + 1)))
+    (done : ℕ) × (((done ≤ length script) × AreTurnsOf 1 turns (done + 1))
+    ⊎ ((before : List (ℕ × What)) × (done < length script) × (turns ≡ before ++ (done + 1, Take) ∷ []) × AreTurnsOf 1 before (done + 1)))
 
 -- each caller's entries are those of a prefix of its script
 abbrev pub IsInterleaving : List (List ScriptLine) → List EventEntry → Type 0
@@ -117,7 +117,7 @@ IsInterleaving scripts history = (caller : ℕ) → AnswersPrefix (script_of scr
 
 -- each script is used up, and each Take has its Publish
 abbrev pub IsWhole : List (List ScriptLine) → List EventEntry → Type 0
-IsWhole scripts history = (caller : ℕ) → Answers 1 (turns_of caller history) (length (script_of scripts caller) + 1)
+IsWhole scripts history = (caller : ℕ) → AreTurnsOf 1 (turns_of caller history) (length (script_of scripts caller) + 1)
 
 -- ---- what each entry replies
 

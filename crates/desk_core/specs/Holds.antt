@@ -1,10 +1,9 @@
 -- What groups hold and are charged, as a function of their pending requests.
-use Rattle.std.specs.Prelude.{ℕ, ◌-◌, ◌*◌, max, nat_lt, Bool, not, ◌&&◌, List, [], map, filter, filter_map, fold, Option, Some, None, if◌then◌else◌}
+use Rattle.std.specs.Prelude.{ℕ, ◌-◌, ◌*◌, max, nat_lt, Bool, not, ◌&&◌, List, [], map, filter, filter_map, fold, Option, None, if◌then◌else◌}
 use Rattle.std.specs.Int.{div_ceil}
 use Rattle.std.specs.List.{zip}
 use Rattle.std.specs.Option.{option_map}
 use Rattle.std.specs.BTreeSet.{insert_key}
-use Rattle.plan_base.specs.declared.number.GroupNo.{GroupNo}
 use Rattle.plan_base.specs.declared.parts.Op.{Op}
 use Rattle.request_model.specs.declared.group.GroupDoc.{GroupDoc}
 use Rattle.request_model.specs.declared.group.ObsKind.{ObsKind}

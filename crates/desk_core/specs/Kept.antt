@@ -51,8 +51,8 @@ pub record IsWanted (targets : ℕ) (q : Wanted) : Type 0 where
   pub known : All (λ t. t.0 < targets) q.targets
 
 -- a request lasts a second to a day
-abbrev pub IsAsked : Request → Type 0
-IsAsked q = IsBetween 1 86400 q.seconds
+abbrev pub LastsADay : Request → Type 0
+LastsADay q = IsBetween 1 86400 q.seconds
 
 -- a group as it was submitted, and how far it has come: the same requests, of as many as its kind may have
 pub record IsAlong (targets : ℕ) (w : Submitted) (g : Group) : Type 0 where
@@ -60,7 +60,7 @@ pub record IsAlong (targets : ℕ) (w : Submitted) (g : Group) : Type 0 where
   pub count : length w.requests ≡ length g.requests
   pub shape : IsBetween 1 (most_requests g.op) (length g.requests)
   pub wanted : All (IsWanted targets) w.requests
-  pub asked : All IsAsked g.requests
+  pub asked : All LastsADay g.requests
 
 -- ---- accounts
 

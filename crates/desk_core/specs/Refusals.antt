@@ -1,5 +1,5 @@
 -- The refusals of the desk's parts, as lines have them; want of memory is none.
-use Rattle.std.specs.Prelude.{ℕ, ◌≡◌, ◌≢◌, Option, Some, None, Result, Ok, Err, IfOk, IfErr}
+use Rattle.std.specs.Prelude.{ℕ, ◌≡◌, ◌≢◌, Option, Some, None, Result, Ok, IfOk, IfErr}
 use Rattle.std.specs.Result.{result_err}
 use Rattle.site_model.specs.declared.fault.SiteFault.{SiteFault}
 use Rattle.allocations.specs.declared.fault.LedgerFault.{LedgerFault}

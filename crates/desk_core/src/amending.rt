@@ -11,7 +11,7 @@ ghost use Rattle.allocations.specs.Ledger.{IsHoldList, IsFree, seconds_of_holds}
 ghost use Rattle.allocations.specs.Refusals.{refusal_of};
 ghost use Rattle.desk_runs.specs.Numbers.{group_at, is_placed};
 ghost use Rattle.desk_runs.specs.Reports.{withdrawn};
-ghost use Rattle.desk_runs.specs.Sound.{IsSound, IsWithdrawable};
+ghost use Rattle.desk_runs.specs.Sound.{IsWithdrawable};
 ghost use Rattle.desk_events.specs.declared.fault.CommandFault.TheVariants.{NoMemory};
 ghost use Rattle.desk_core.specs.declared.desk.Submitted.{Submitted};
 ghost use Rattle.desk_core.specs.Desk.{seen, Decides};
@@ -23,7 +23,7 @@ ghost use Rattle.desk_core.specs.Closing.{begun_member, ending_refusal, on_freed
 
 use crate::asking::Made;
 use crate::desk::Desk;
-use crate::submitting::{NewGroup, has_room};
+use crate::submitting::{Booked, NewGroup, has_room};
 use desk_events::{CommandFault, GroupRefund, Refusal, Reply};
 use desk_runs::{Request, Runs};
 use plan_base::{GroupNo, ListOf, RequestNo};
@@ -65,14 +65,7 @@ impl Desk {
         ensures may { OnOk result (IsAmendable number self.now.runs) }
         ensures refused { IfErr result (λ refusal. ending_refusal (begun_member (seen self.now)) (group_at self.now.runs.groups number) ≡ Some refusal) }
     {
-        let Some(group) = self.runs.group(number) else {
-            return Err(Refusal::NoSuchGroup);
-        };
-        if !group.is_open() {
-            return Err(Refusal::GroupClosed {
-                state: group.state(),
-            });
-        }
+        let group = self.open_group(number)?;
         match first_begun(&self.runs, group.requests.as_slice()) {
             Some(request) => Err(Refusal::GroupStarted { request }),
             None => Ok(()),
@@ -85,8 +78,7 @@ impl Desk {
         ensures { (w : Submitted) → slice_get self.now.submitted.items (number.0 - 1) ≡ Some w
             → IfOk result (λ refunded. refunded ≡ refund_for number w.charged) }
     {
-        let place = (number.0 - 1) as usize;
-        refund_for(alloc, number, self.submitted.as_slice()[place].charged)
+        refund_for(alloc, number, self.submission(number).charged)
     }
 
     // Withdraws a group, and books a new one in its place, which was entered. The refusals are those of the ledger, once what
@@ -139,16 +131,13 @@ impl Desk {
             self.forget(known);
             return Err(fault);
         }
-        let NewGroup {
-            number,
-            holds: _,
+        let Booked {
+            group,
+            ipp_charged,
             requests,
-            submitted,
-        } = new;
-        let ipp_charged = submitted.charged;
-        self.keep(submitted);
+        } = self.keep(new);
         Ok(Reply::Amended {
-            group: number,
+            group,
             ipp_charged,
             refunded,
             replaces: old,

@@ -1,6 +1,6 @@
 // What a document asks for: its requests, tested one after another.
 
-ghost use Rattle.std.specs.Prelude.{◌≡◌, ◌≤◌, ◌++◌, ◌∷◌, [], map, not, IfOk};
+ghost use Rattle.std.specs.Prelude.{◌≡◌, ◌≤◌, ◌∷◌, [], map, not, IfOk};
 ghost use Rattle.std.specs.List.{list_any};
 ghost use Rattle.plan_base.specs.Limits.{most_seconds};
 ghost use Rattle.request_model.specs.Ranges.{AreConfigurations, IsCadence, IsWhen, IsRequest, IsGroup};
@@ -12,6 +12,7 @@ ghost use Rattle.desk_core.specs.Asking.{at_index, turned_into, overheads, secon
 ghost use Rattle.desk_core.specs.Asking.{windows_for, is_inside, is_outside, is_past, is_fitted, made_with, tested, made_from, made_of, seen_made};
 
 use crate::desk::Desk;
+use crate::fitting::fits;
 use desk_events::{CommandFault, Refusal};
 use plan_base::{ListOf, Op, Sec, Span, TelescopeNo};
 use request_model::{Cadence, GroupDoc, RequestDoc, When};
@@ -136,14 +137,14 @@ fn is_inside(semester: Span, window: Span) -> bool
     semester.from <= window.from && window.to <= semester.to
 }
 
-// Whether a window isn't.
+// Whether a window lies outside the semester, in part or whole.
 fn has_outside(semester: Span, windows: &[Span]) -> bool
     ensures { result ≡ list_any (λ w. not (is_inside semester w)) windows.now }
 {
     windows.iter().any(|w| !is_inside(semester, *w))
 }
 
-// Whether a window of one of the requests isn't.
+// Whether a request has such a window.
 fn is_outside(semester: Span, lists: &[ListOf<Span>]) -> bool
     ensures { result ≡ is_outside semester lists.now }
 {
@@ -157,7 +158,7 @@ fn is_past(now: Sec, windows: &[Span]) -> bool
     windows.iter().all(|w| w.to <= now)
 }
 
-// Whether those of one of the requests do.
+// Whether all windows of one of the requests have ended.
 fn has_past(now: Sec, lists: &[ListOf<Span>]) -> bool
     ensures { result ≡ list_any (is_past now) lists.now }
 {
@@ -168,14 +169,11 @@ fn has_past(now: Sec, lists: &[ListOf<Span>]) -> bool
 fn is_fitted(network: &Network, request: &RequestDoc) -> bool
     ensures { result ≡ is_fitted network.now.registry request.now }
 {
-    let place = &request.location;
     for telescope in 0..network.telescopes() {
-        if network.fits(
+        if fits(
+            network,
             TelescopeNo(telescope),
-            &place.class,
-            place.site.as_ref(),
-            place.enclosure.as_ref(),
-            place.telescope.as_ref(),
+            &request.location,
             &request.instrument,
         ) {
             return true;

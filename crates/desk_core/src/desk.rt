@@ -1,8 +1,13 @@
 // What an opened desk keeps.
+//
+// Great values are dropped by calls of `drop`: an assignment over one, or a way out that leaves one behind, would drop it piece by
+// piece, which the proof would have to follow.
+
+ghost use Rattle.std.specs.Prelude.{◌≡◌, ◌≤◌, ◌-◌, Some, length, slice_get};
 
 use allocations::Ledger;
 use desk_runs::Runs;
-use plan_base::{Claim, ListOf, Name, Settings, Snapshot, Span, TargetNo};
+use plan_base::{Claim, GroupNo, ListOf, Name, Settings, Snapshot, Span, TargetNo};
 use request_model::{GroupDoc, Location};
 use site_model::Network;
 
@@ -43,6 +48,7 @@ pub struct Wanted {
 /// A group as it was submitted.
 #[derive(Debug, Drop)]
 pub struct Submitted {
+    /// What it was submitted with.
     pub document: GroupDoc,
     /// The seconds that its proposal's ipp account was charged when it was submitted.
     pub charged: u64,
@@ -53,7 +59,9 @@ pub struct Submitted {
 /// A claim that was published, and the snapshot that it was published for.
 #[derive(Debug, Drop)]
 pub struct Publication {
+    /// What the desk had to plan then.
     pub snapshot: Snapshot,
+    /// Certified for that snapshot.
     pub claim: Claim,
 }
 
@@ -66,4 +74,14 @@ pub struct Desk {
     pub(crate) submitted: Vec<Submitted>,
     pub(crate) runs: Runs,
     pub(crate) published: Option<Publication>,
+}
+
+impl Desk {
+    /// The group with a number, as it was submitted.
+    pub(crate) fn submission(&self, number: GroupNo) -> &Submitted
+        requires { (1 ≤ number.0) × (number.0 ≤ length self.now.submitted.items) }
+        ensures { slice_get self.now.submitted.items (number.0 - 1) ≡ Some result.now }
+    {
+        &self.submitted.as_slice()[number.0 as usize - 1]
+    }
 }

@@ -1,8 +1,7 @@
 // What becomes of what open groups hold, once they have gone on.
 
 ghost use Rattle.std.specs.Prelude.{◌≡◌, ◌+◌, ◌≤◌, ◌++◌, ◌∷◌, [], if◌then◌else◌, None, All, IfOk, OnOk, fold, length};
-ghost use Rattle.std.specs.List.{zip};
-ghost use Rattle.desk_core.specs.Endings.{ending_of, ended, CanEnd, CanEndAll, refund_in, refunds_in};
+ghost use Rattle.desk_core.specs.Endings.{ending_of, ended, CanEnd, CanEndAll, refunds_in};
 ghost use Rattle.desk_core.specs.Holds.{is_refunded};
 ghost use Rattle.desk_core.specs.Kept.{standing};
 

@@ -30,12 +30,11 @@ impl Desk {
         ensures { (p : Submitted × (Group × Group)) → IsToldAt (seen self.now) p after.now
             → OnOk result (endings.new.items ≡ endings.old.items ++ endings_of (p ∷ [])) }
     {
-        let place = (after.number.0 - 1) as usize;
         let before = self.runs.known(after.number);
         if !before.is_open() {
             return Ok(());
         }
-        let submitted = &self.submitted.as_slice()[place];
+        let submitted = self.submission(after.number);
         let ending = find_ending(alloc, submitted, before, after)?;
         endings.push(ending)?;
         Ok(())

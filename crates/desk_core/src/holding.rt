@@ -1,6 +1,6 @@
 // What the pending requests of a group hold of its proposal's accounts.
 
-ghost use Rattle.std.specs.Prelude.{◌≡◌, ◌++◌, ◌∷◌, [], ◌≤◌, ◌<◌, ◌^◌, ◌*◌, if◌then◌else◌, max, length, map, All, sum_by, IfOk, OnOk};
+ghost use Rattle.std.specs.Prelude.{◌≡◌, ◌++◌, ◌∷◌, [], ◌≤◌, ◌<◌, ◌^◌, ◌*◌, if◌then◌else◌, max, length, map, All, IfOk, OnOk};
 ghost use Rattle.std.specs.List.{zip};
 ghost use Rattle.allocations.specs.Key.{is_key};
 ghost use Rattle.allocations.specs.Books.{held_in};
@@ -124,8 +124,8 @@ fn greatest_in(key: &Key, needs: &[Hold]) -> u64
     most
 }
 
-// Whether a group is a `ONEOF`.
-fn is_oneof(op: Op) -> bool
+/// Whether a group is a `ONEOF`.
+pub(crate) fn is_oneof(op: Op) -> bool
     ensures { result ≡ is_oneof op }
 {
     match op {

@@ -7,6 +7,7 @@ mod asking;
 mod closing;
 mod desk;
 mod ending;
+mod fitting;
 mod going_on;
 mod holding;
 mod horizon;

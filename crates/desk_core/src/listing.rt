@@ -1,31 +1,23 @@
 // The groups that a plan may be made of, with what is asked for in them.
 
-ghost use Rattle.std.specs.Prelude.{◌≡◌, ◌<◌, ◌&&◌, Some, IfOk, OnOk, All, slice_get, length, map};
+ghost use Rattle.std.specs.Prelude.{◌≡◌, ◌&&◌, Some, IfOk, map};
 ghost use Rattle.std.specs.List.{list_any};
-ghost use Rattle.site_model.specs.Registry.{TelescopeSeen};
 ghost use Rattle.desk_runs.specs.States as states;
 ghost use Rattle.desk_runs.specs.Clock.{is_waiting};
 ghost use Rattle.desk_runs.specs.declared.group.Group.{Group};
 ghost use Rattle.desk_core.specs.declared.desk.Submitted.{Submitted};
 ghost use Rattle.desk_core.specs.Desk.{seen};
 ghost use Rattle.desk_core.specs.Kept.{IsDesk};
-ghost use Rattle.desk_core.specs.DeskSnapshot.{both_at, IsGroupNo, has_running, is_listed, listed_groups, is_fit, telescopes_for, request_part, waiting_of};
+ghost use Rattle.desk_core.specs.DeskSnapshot.{both_at, IsGroupNo, has_running, is_listed, listed_groups, telescopes_for, request_part, waiting_of};
 
 use crate::desk::{Desk, Submitted, Wanted};
+use crate::fitting::fits;
+use crate::holding::is_oneof;
 use desk_runs::{Group, Request};
-use plan_base::{GroupNo, ListOf, Op, RequestPart, TelescopeNo};
+use plan_base::{GroupNo, ListOf, RequestPart, TelescopeNo};
 use std::alloc::{AllocError, Global};
 
 impl Desk {
-    /// A group as it was submitted.
-    pub(crate) fn submission(&self, number: GroupNo) -> &Submitted
-        requires desk { IsDesk (seen self.now) }
-        requires number { IsGroupNo (seen self.now) number }
-        ensures { (p : Submitted × Group) → both_at (seen self.now) number ≡ Some p → result.now ≡ p.0 }
-    {
-        &self.submitted.as_slice()[number.0 as usize - 1]
-    }
-
     // Whether a member of a group is running.
     fn has_running(&self, group: &Group) -> bool
         ensures { result ≡ has_running (seen self.now) group.now }
@@ -80,22 +72,6 @@ impl Desk {
         Ok(listed)
     }
 
-    // Whether a telescope fits a request.
-    fn is_fit(&self, wanted: &Wanted, telescope: TelescopeNo) -> bool
-        requires { telescope.0 < length self.now.network.registry.telescopes }
-        ensures { (t : TelescopeSeen) → slice_get self.now.network.registry.telescopes telescope.0 ≡ Some t → result ≡ is_fit wanted.now t }
-    {
-        let location = &wanted.location;
-        self.network.fits(
-            telescope,
-            &location.class,
-            location.site.as_ref(),
-            location.enclosure.as_ref(),
-            location.telescope.as_ref(),
-            &wanted.instrument,
-        )
-    }
-
     // The telescopes that fit a request, rising.
     fn telescopes_for(
         &self,
@@ -106,7 +82,12 @@ impl Desk {
     {
         let mut telescopes = ListOf::new(alloc);
         for telescope in 0..self.network.telescopes() {
-            if self.is_fit(wanted, TelescopeNo(telescope)) {
+            if fits(
+                &self.network,
+                TelescopeNo(telescope),
+                &wanted.location,
+                &wanted.instrument,
+            ) {
                 telescopes.push(TelescopeNo(telescope))?;
             }
         }
@@ -151,15 +132,5 @@ impl Desk {
             }
         }
         Ok(parts)
-    }
-}
-
-// Whether at most one request of a group may be placed.
-fn is_oneof(op: Op) -> bool
-    ensures { result ≡ states.is_oneof op }
-{
-    match op {
-        Op::OneOf => true,
-        Op::Single | Op::Many | Op::And => false,
     }
 }

@@ -43,7 +43,7 @@ impl Desk {
         let Some(group) = self.runs.group(number) else {
             return Err(Refusal::NoSuchGroup.into());
         };
-        let submitted = &self.submitted.as_slice()[number.0 as usize - 1];
+        let submitted = self.submission(number);
         Ok(Reply::Shown {
             document: submitted.document.clone()?,
             group: number,

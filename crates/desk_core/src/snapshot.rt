@@ -9,7 +9,7 @@ ghost use Rattle.desk_core.specs.declared.desk.Submitted.{Submitted};
 ghost use Rattle.desk_core.specs.Desk.{seen};
 ghost use Rattle.desk_core.specs.Kept.{IsDesk};
 ghost use Rattle.desk_core.specs.DeskSnapshot.{both_at, IsGroupNo, listed_groups, proposals_of, quota_place, quotas_of};
-ghost use Rattle.desk_core.specs.DeskSnapshot.{group_part, with_targets, group_targets, part_targets, snapshot_of, IsSmall};
+ghost use Rattle.desk_core.specs.DeskSnapshot.{group_part, with_numbers_of, group_targets, part_targets, snapshot_of, IsSmall};
 
 use crate::desk::Desk;
 use indexmap::IndexSet;
@@ -42,7 +42,6 @@ impl Desk {
         let proposals = self.proposals(alloc, listed.as_slice())?;
         let made = self.group_parts(alloc, &proposals, listed.as_slice());
         let count = proposals.len();
-        // A call drops the set. Else each way out would drop it piece by piece, which the proof would have to follow.
         drop(proposals);
         let groups = made?;
         let targets = targets_in(alloc, groups.as_slice())?;
@@ -173,7 +172,7 @@ fn faultless(alloc: Global, parts: Parts) -> Result<Snapshot, AllocError>
 
 // Adds targets to a set of their numbers.
 fn add_targets(numbers: &mut BTreeSet<u16>, targets: &[TargetNo]) -> Result<(), AllocError>
-    ensures { OnOk result (numbers.new.keys ≡ with_targets numbers.old.keys targets.now) }
+    ensures { OnOk result (numbers.new.keys ≡ with_numbers_of numbers.old.keys targets.now) }
 {
     for target in targets {
         numbers.insert(target.0)?;
@@ -183,7 +182,7 @@ fn add_targets(numbers: &mut BTreeSet<u16>, targets: &[TargetNo]) -> Result<(), 
 
 // Adds the targets of the requests of a group.
 fn add_targets_of(numbers: &mut BTreeSet<u16>, group: &GroupPart) -> Result<(), AllocError>
-    ensures { OnOk result (numbers.new.keys ≡ with_targets numbers.old.keys (group_targets group.now)) }
+    ensures { OnOk result (numbers.new.keys ≡ with_numbers_of numbers.old.keys (group_targets group.now)) }
 {
     for request in group.requests.as_slice() {
         add_targets(numbers, request.targets.as_slice())?;
@@ -193,7 +192,7 @@ fn add_targets_of(numbers: &mut BTreeSet<u16>, group: &GroupPart) -> Result<(), 
 
 // The numbers of the targets of all groups.
 fn numbers_in(alloc: Global, groups: &[GroupPart]) -> Result<BTreeSet<u16>, AllocError>
-    ensures { IfOk result (λ numbers. numbers.keys ≡ with_targets [] (part_targets groups.now)) }
+    ensures { IfOk result (λ numbers. numbers.keys ≡ with_numbers_of [] (part_targets groups.now)) }
 {
     let mut numbers = BTreeSet::new(alloc);
     for group in groups {
@@ -204,7 +203,7 @@ fn numbers_in(alloc: Global, groups: &[GroupPart]) -> Result<BTreeSet<u16>, Allo
 
 // The targets of all groups, each once, rising.
 fn targets_in(alloc: Global, groups: &[GroupPart]) -> Result<Vec<TargetNo>, AllocError>
-    ensures { IfOk result (λ targets. targets.items ≡ map (λ n. record { 0 = n }) (with_targets [] (part_targets groups.now))) }
+    ensures { IfOk result (λ targets. targets.items ≡ map (λ n. record { 0 = n }) (with_numbers_of [] (part_targets groups.now))) }
 {
     let numbers = numbers_in(alloc, groups)?;
     numbers.iter().map(|n| TargetNo(*n)).collect(alloc)

@@ -1,22 +1,17 @@
 // `submit`: a group is numbered, held for and charged.
 
 ghost use Rattle.std.specs.Prelude.{◌≡◌, ◌≢◌, ◌+◌, ◌≤◌, ◌<◌, ◌^◌, ◌++◌, ◌∷◌, [], nat_lt, ◌&&◌};
-ghost use Rattle.std.specs.Prelude.{if◌then◌else◌, length, map, All, true, false, Ok, Some, None, IfOk, IfErr, OnOk, OnErr, vec_len, vec_capacity};
+ghost use Rattle.std.specs.Prelude.{if◌then◌else◌, length, map, All, true, false, Ok, IfOk, IfErr, OnOk, OnErr, vec_len, vec_capacity};
 ghost use Rattle.plan_base.specs.declared.parts.Op.TheVariants.{Many};
-ghost use Rattle.plan_json.specs.Ranges.{IsBetween};
 ghost use Rattle.request_model.specs.Ranges.{IsGroup};
-ghost use Rattle.site_model.specs.Limits.{most_targets};
 ghost use Rattle.desk_runs.specs.Numbers.{requests_of};
 ghost use Rattle.desk_runs.specs.Turning.{group_of};
 ghost use Rattle.desk_runs.specs.Sound.{IsSound};
-ghost use Rattle.desk_runs.specs.Adding.{next_group, with_group};
-ghost use Rattle.desk_runs.specs.Owners.{pending_count};
 ghost use Rattle.desk_events.specs.declared.fault.CommandFault.TheVariants.{Refused, NoMemory};
 ghost use Rattle.desk_events.specs.declared.refusal.FullOf.TheVariants.{Requests, Targets};
 ghost use Rattle.desk_events.specs.declared.refusal.Refusal.TheVariants.{Full};
 ghost use Rattle.desk_core.specs.Desk.{DeskSeen, seen, Decides};
 ghost use Rattle.desk_core.specs.Kept.{IsDesk, IsRoomy};
-ghost use Rattle.desk_core.specs.Targets.{target_names, all_numbered, with_targets};
 ghost use Rattle.desk_core.specs.Asking.{is_single, last_of, seen_made};
 ghost use Rattle.desk_core.specs.Submitting.{value_of, wanted_of, asks_of, op_of, targets_with, on_submit, on_made};
 ghost use Rattle.desk_core.specs.Making.{AreMade, new_group, drafted, with_draft, with_numbers, with_entry, IsEntered};
@@ -45,6 +40,16 @@ pub(crate) struct NewGroup {
     /// The numbers of its requests.
     pub requests: ListOf<RequestNo>,
     pub submitted: Submitted,
+}
+
+/// What is told of a group that was booked.
+#[derive(Debug, Drop)]
+pub(crate) struct Booked {
+    pub group: GroupNo,
+    /// The seconds that its ipp account was charged.
+    pub ipp_charged: u64,
+    /// The numbers of its requests.
+    pub requests: ListOf<RequestNo>,
 }
 
 // The later of a moment and the end of a window.
@@ -280,12 +285,25 @@ impl Desk {
         self.network.forget_targets(known);
     }
 
-    /// Keeps a group as it was submitted, for which there is room.
-    pub(crate) fn keep(&mut self, submitted: Submitted)
+    /// Keeps a group that is booked as it was submitted, for which there is room, and says what is told of it.
+    pub(crate) fn keep(&mut self, new: NewGroup) -> Booked
         requires { vec_len self.old.submitted < vec_capacity self.old.submitted }
-        ensures { seen self.new ≡ record (seen self.old) { groups = (seen self.old).groups ++ submitted ∷ [] } }
+        ensures kept { seen self.new ≡ record (seen self.old) { groups = (seen self.old).groups ++ new.submitted ∷ [] } }
+        ensures told { result ≡ record { group = new.number; ipp_charged = new.submitted.charged; requests = new.requests } }
     {
+        let NewGroup {
+            number,
+            holds: _,
+            requests,
+            submitted,
+        } = new;
+        let ipp_charged = submitted.charged;
         self.submitted.push_reserved(submitted);
+        Booked {
+            group: number,
+            ipp_charged,
+            requests,
+        }
     }
 
     // Submits a document with the requests that it makes.
@@ -307,21 +325,18 @@ impl Desk {
         let new = self.enter(alloc, document, made)?;
         let charged = new.submitted.charged;
         if let Err(fault) = self.ledger.hold(new.number, new.holds.as_slice(), charged) {
-            // A call drops the group. Else it would be dropped here, piece by piece, which the proof would have to follow.
             drop(new);
             self.forget(known);
             return Err(CommandFault::from(fault));
         }
-        let NewGroup {
-            number,
-            holds: _,
+        let Booked {
+            group,
+            ipp_charged,
             requests,
-            submitted,
-        } = new;
-        self.keep(submitted);
+        } = self.keep(new);
         Ok(Reply::Submitted {
-            group: number,
-            ipp_charged: charged,
+            group,
+            ipp_charged,
             requests,
         })
     }

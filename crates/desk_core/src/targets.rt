@@ -48,6 +48,7 @@ pub(crate) fn number_targets(
         network.forget_targets(known);
         return Err(fault);
     }
+    // Recalls that there are at most 2,048 targets.
     let _ = network.targets();
     Ok(())
 }

@@ -115,6 +115,7 @@ impl Desk {
             change,
             ..
         } = self.runs.report(number, true)?;
+        // Recalls that holds are covered by the balance.
         let _ = self.ledger.available(key);
         self.go_on(alloc, change, 1)?;
         self.ledger.charge(key, used, group, number);
@@ -138,7 +139,7 @@ impl Desk {
         requires { (number : RequestNo) × IsFoundAt (seen self.now) number place }
         ensures { (number : RequestNo) (h : IsFoundAt (seen self.now) number place) → result ≡ h.wanted.threshold }
     {
-        let submitted = &self.submitted.as_slice()[(place.group.0 - 1) as usize];
+        let submitted = self.submission(place.group);
         submitted.requests.as_slice()[place.member].threshold
     }
 
@@ -147,7 +148,7 @@ impl Desk {
         requires { (number : RequestNo) × IsFoundAt (seen self.now) number place }
         ensures { (number : RequestNo) (h : IsFoundAt (seen self.now) number place) → IfOk result (λ key. key ≡ key_of h.submitted.document h.wanted) }
     {
-        let submitted = &self.submitted.as_slice()[(place.group.0 - 1) as usize];
+        let submitted = self.submission(place.group);
         key_of(
             &submitted.document,
             &submitted.requests.as_slice()[place.member],

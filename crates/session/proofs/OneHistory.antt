@@ -25,7 +25,7 @@ use Rattle.desk_events.specs.Line.{command_of_line}
 use Rattle.desk_core.specs.Desk.{DeskSeen, StateSeen}
 use Rattle.desk_core.specs.DeskSnapshot.{snapshot_of}
 use Rattle.desk_core.specs.Step.{IsSnapshotOf}
-use Rattle.desk_core.specs.History.{IsPublication, read_at, replay, Answers, IsReply, IsEntry, IsLineReply, IsWhole, entries_of, turns_of, after_what}
+use Rattle.desk_core.specs.History.{IsPublication, read_at, replay, AreTurnsOf, IsReply, IsEntry, IsLineReply, IsWhole, entries_of, turns_of, after_what}
 use Rattle.desk_book.specs.Claims.{IsPlannedOver}
 use Rattle.desk_book.proofs.Histories.{replay_more}
 use Rattle.desk_book.proofs.OneReply.{one_reply}
@@ -38,7 +38,7 @@ use Rattle.session.proofs.Turns.{AreMine, mine_more, entries_mine, turns, turns_
 
 -- ---- all entries are those of the one caller
 
-answers_rise : (n m : ℕ) (ts : List (ℕ × What)) → Answers n ts m → n ≤ m
+answers_rise : (n m : ℕ) (ts : List (ℕ × What)) → AreTurnsOf n ts m → n ≤ m
 answers_rise n m [] h = omega (arith, h)
 answers_rise n m ((k, Line) ∷ ts) h = omega (arith, answers_rise (n + 1) m ts h.1)
 answers_rise n m ((k, Take) ∷ []) h = absurd h
@@ -47,7 +47,7 @@ answers_rise n m ((k, Take) ∷ (l, Line) ∷ ts) h = absurd h
 answers_rise n m ((k, Take) ∷ (l, Take) ∷ ts) h = absurd h
 answers_rise n m ((k, Publish) ∷ ts) h = absurd h
 
-none_at : (n : ℕ) (ts : List (ℕ × What)) → Answers n ts n → ts ≡ []
+none_at : (n : ℕ) (ts : List (ℕ × What)) → AreTurnsOf n ts n → ts ≡ []
 none_at n [] h = refl
 none_at n ((k, Line) ∷ ts) h = let rise : n + 1 ≤ n = answers_rise (n + 1) n ts h.1 in absurd (omega (arith, rise))
 none_at n ((k, Take) ∷ []) h = absurd h
@@ -89,8 +89,8 @@ mine_of (e ∷ es) none =
 whole_mine : (lines : List ScriptLine) (es : List EventEntry) → IsWhole (lines ∷ []) es → AreMine es
 whole_mine lines es whole = mine_of es (λ c. no_turns (entries_of (suc c) es) (none_at 1 (turns_of (suc c) es) (whole (suc c))))
 
-whole_answers : (lines : List ScriptLine) (es : List EventEntry) → IsWhole (lines ∷ []) es → AreMine es → Answers 1 (turns es) (length lines + 1)
-whole_answers lines es whole mine = subst (λ (ts : List (ℕ × What)). Answers 1 ts (length lines + 1)) (turns_mine es mine) (whole 0)
+whole_answers : (lines : List ScriptLine) (es : List EventEntry) → IsWhole (lines ∷ []) es → AreMine es → AreTurnsOf 1 (turns es) (length lines + 1)
+whole_answers lines es whole mine = subst (λ (ts : List (ℕ × What)). AreTurnsOf 1 ts (length lines + 1)) (turns_mine es mine) (whole 0)
 
 -- ---- one state has one snapshot and one plan, but for ties
 
@@ -158,7 +158,7 @@ record Rest (lines : List ScriptLine) (before h : List EventEntry) (n : ℕ) : T
   counted : 1 ≤ n
   sound : IsSound lines (before ++ h)
   mine : AreMine h
-  answers : Answers n (turns h) (length lines + 1)
+  answers : AreTurnsOf n (turns h) (length lines + 1)
 
 read_of : (lines : List ScriptLine) (x : EventEntry) (n : ℕ) → x.caller ≡ 0 → x.line ≡ n → read_at (lines ∷ []) x ≡ said_at lines n
 read_of lines x n caller line =
@@ -175,7 +175,7 @@ same_entry x y caller line what version reply =
     ∙ ap (λ w. make y.caller y.line w x.version x.reply) what ∙ ap (λ v. make y.caller y.line y.what v x.reply) version ∙ ap (λ r. make y.caller y.line y.what y.version r) reply
 
 -- the rest after an entry that is a whole line
-rest_after : (lines : List ScriptLine) (before h : List EventEntry) (x : EventEntry) (n : ℕ) → Rest lines before (x ∷ h) n → Answers (n + 1) (turns h) (length lines + 1) → Rest lines (before ++ x ∷ []) h (n + 1)
+rest_after : (lines : List ScriptLine) (before h : List EventEntry) (x : EventEntry) (n : ℕ) → Rest lines before (x ∷ h) n → AreTurnsOf (n + 1) (turns h) (length lines + 1) → Rest lines (before ++ x ∷ []) h (n + 1)
 rest_after lines before h x n r answers = record {
   counted = omega arith;
   sound = subst (λ (es : List EventEntry). IsSound lines es) (sym (append_assoc before (x ∷ []) h)) r.sound;
@@ -185,7 +185,7 @@ rest_after lines before h x n r answers = record {
 
 -- how the answers go on after one entry, by what it is
 abbrev GoesOn : ℕ → ℕ → What → List (ℕ × What) → ℕ → Type 0
-GoesOn n l w ts m = Answers n ((l, w) ∷ ts) m
+GoesOn n l w ts m = AreTurnsOf n ((l, w) ∷ ts) m
 
 -- the Publish after a Take, and what comes later
 record Took (n l : ℕ) (h : List EventEntry) (m : ℕ) : Type 0 where
@@ -194,14 +194,14 @@ record Took (n l : ℕ) (h : List EventEntry) (m : ℕ) : Type 0 where
   rest : List EventEntry
   is : h ≡ entry ∷ rest
   what : entry.what ≡ Publish
-  answers : Answers (n + 1) (turns rest) m
+  answers : AreTurnsOf (n + 1) (turns rest) m
 
-took_by : (n l m : ℕ) (p : EventEntry) (w : What) (h : List EventEntry) → p.what ≡ w → Answers n ((l, Take) ∷ (p.line, w) ∷ turns h) m → Took n l (p ∷ h) m
+took_by : (n l m : ℕ) (p : EventEntry) (w : What) (h : List EventEntry) → p.what ≡ w → AreTurnsOf n ((l, Take) ∷ (p.line, w) ∷ turns h) m → Took n l (p ∷ h) m
 took_by n l m p Line h is a = absurd a
 took_by n l m p Take h is a = absurd a
 took_by n l m p Publish h is a = record { line = a.0; entry = p; rest = h; is = refl; what = is; answers = a.2 }
 
-took : (n l m : ℕ) (h : List EventEntry) → Answers n ((l, Take) ∷ turns h) m → Took n l h m
+took : (n l m : ℕ) (h : List EventEntry) → AreTurnsOf n ((l, Take) ∷ turns h) m → Took n l h m
 took n l m [] a = absurd a
 took n l m (p ∷ h) a = took_by n l m p p.what h refl a
 
@@ -254,7 +254,7 @@ take_last lines before h x n plans r take line most =
 -- nothing comes after the Publish of the last line
 only_publish : (n l m : ℕ) (h : List EventEntry) (t : Took n l h m) → m ≡ n + 1 → h ≡ t.entry ∷ []
 only_publish n l m h t last =
-    let none : t.rest ≡ [] = no_turns t.rest (none_at (n + 1) (turns t.rest) (subst (λ (k : ℕ). Answers (n + 1) (turns t.rest) k) last t.answers)) in
+    let none : t.rest ≡ [] = no_turns t.rest (none_at (n + 1) (turns t.rest) (subst (λ (k : ℕ). AreTurnsOf (n + 1) (turns t.rest) k) last t.answers)) in
     t.is ∙ ap (λ (es : List EventEntry). t.entry ∷ es) none
 
 plans_alike : (lines : List ScriptLine) (before h k : List EventEntry) (x y : EventEntry) (n : ℕ) → PlansLast lines → AreMine before → Rest lines before (x ∷ h) n → Rest lines before (y ∷ k) n
@@ -311,7 +311,7 @@ alike_by lines before h k x y n Take Take plans mine later r q is is' g g' = pla
 alike_by lines before h k x y n Take Publish plans mine later r q is is' g g' = absurd g'
 alike_by lines before h k x y n Publish b plans mine later r q is is' g g' = absurd g
 
-answers_more : (n l m : ℕ) (w : What) (ts : List (ℕ × What)) → Answers n ((l, w) ∷ ts) m → n + 1 ≤ m
+answers_more : (n l m : ℕ) (w : What) (ts : List (ℕ × What)) → AreTurnsOf n ((l, w) ∷ ts) m → n + 1 ≤ m
 answers_more n l m Line ts h = answers_rise (n + 1) m ts h.1
 answers_more n l m Take [] h = absurd h
 answers_more n l m Take ((k, Publish) ∷ ts) h = answers_rise (n + 1) m ts h.2

@@ -11,6 +11,9 @@ use Rattle.desk_runs.specs.Owners.{pending_count, pending_of}
 use Rattle.desk_runs.specs.Reports.{withdrawn}
 use Rattle.desk_runs.specs.Sound.{IsWithdrawable}
 use Rattle.desk_core.specs.declared.desk.Submitted.{Submitted}
+use Rattle.desk_events.specs.declared.reply.Reply.{Reply}
+use Rattle.desk_events.specs.declared.reply.Reply.TheVariants.{Amended}
+use Rattle.desk_core.specs.declared.submitting.Booked.{Booked}
 use Rattle.desk_core.specs.declared.submitting.NewGroup.{NewGroup}
 use Rattle.desk_core.specs.Desk.{DeskSeen, seen}
 use Rattle.desk_core.specs.Refusals.{refusal_in, refusal_of_ledger}
@@ -194,15 +197,16 @@ returns c =
     let new : NewGroup = c.in_ok-new.new in
     let push : DeskSeen → Submitted → DeskSeen = λ x w. record x { groups = x.groups ++ w ∷ [] } in
     let book : DeskSeen → NewGroup → DeskSeen = λ x n. record x { books = booked n.number n.holds n.submitted.charged (freed c.args.old x.books); progress = withdrawn c.args.old x.progress } in
-    let after : seen c.keep.new.self ≡ with_submission (without_group c.args.old d) document made =
-    c.keep.ensures ∙ ap (λ (x : DeskSeen). push x new.submitted) c.in_default.ensures.booked
+    let after : seen c.keep-ipp_charged.new.self ≡ with_submission (without_group c.args.old d) document made =
+    c.keep-ipp_charged.ensures.kept ∙ ap (λ (x : DeskSeen). push x new.submitted) c.in_default.ensures.booked
     ∙ ap (λ (x : DeskSeen). push (book x new) new.submitted) c.in_ok-new.ensures.entered
     ∙ ap (λ (n : NewGroup). push (book (with_entry d document made) n) n.submitted) c.in_ok-new.ensures.new
     ∙ left d c.args.old document made c.requires.desk f in
     record {
       ok = (
         ledger_only d c.args.old document made f room c.in_ok-new.ensures.few ∙ as_entered ∙ ap (option_and_then refusal_of_ledger) c.in_default.ensures.given,
-        replied d c.args.old document made new c.in_ok-refunded.refunded f c.in_ok-new.ensures.new (c.in_ok-refunded.ensures f.submitted f.was),
+        ap (λ (b : Booked). let x : Reply = Amended b.group b.ipp_charged c.in_ok-refunded.refunded c.args.old b.requests in x) c.keep-ipp_charged.ensures.told
+            ∙ replied d c.args.old document made new c.in_ok-refunded.refunded f c.in_ok-new.ensures.new (c.in_ok-refunded.ensures f.submitted f.was),
         after,
       );
       refused = tt;

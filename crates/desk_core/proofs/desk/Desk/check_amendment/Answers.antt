@@ -1,4 +1,4 @@
-use Rattle.std.proofs.Common.{◌≡◌, ◌∙◌, ℕ, ◌<◌, ◌||◌, length, get_or, Bool, true, false, cond, List, [], ◌∷◌, All, ap, sym, refl, Option, Some, None}
+use Rattle.std.proofs.Common.{◌≡◌, ◌∙◌, ℕ, ◌<◌, ◌||◌, length, get_or, Bool, true, false, cond, List, [], ◌∷◌, All, ap, refl, Option, Some, None}
 use Rattle.std.specs.List.{find}
 use Rattle.std.specs.Option.{option_map}
 use Rattle.std.proofs.lemmas.Bool.{or_parts}
@@ -28,27 +28,27 @@ none_found p (q ∷ qs) e = by (p q) refl e (none_found p qs)
     by true is f rest = cc
     by false is f rest = All-cons (λ x. p x ≡ false) q qs is (rest f)
 
-pub returns-in-Some-first_begun-clause-refused : goal.returns-in-Some-first_begun-clause-refused
-returns-in-Some-first_begun-clause-refused c =
+pub returns-in-Some-clause-refused : goal.returns-in-Some-clause-refused
+returns-in-Some-clause-refused c =
     let d = seen c.args.self.now in
-    let g : Group = c.in-Some.group.now in
-    let opened : is_open g ≡ true = cc in
-    let found = c.in-Some-first_begun.ensures ∙ ap (λ (l : List Request). option_map (λ (q : Request). q.number) (find (λ q. is_placed c.args.self.now.runs.running q.number || is_completed q.state) l)) c.as_slice.ensures in
-    ap (ending_refusal (begun_member d)) (sym c.in-Some.ensures)
+    let g : Group = c.in_ok-group.group.now in
+    let opened : is_open g ≡ true = c.in_ok-group.ensures.opened in
+    let found = c.in-Some.ensures ∙ ap (λ (l : List Request). option_map (λ (q : Request). q.number) (find (λ q. is_placed c.args.self.now.runs.running q.number || is_completed q.state) l)) c.as_slice.ensures in
+    ap (ending_refusal (begun_member d)) c.in_ok-group.ensures.there
     ∙ ap (λ (b : Bool). cond b (begun_member d g) (Some (GroupClosed (state_of g)))) opened
-    ∙ started_as (find (λ q. is_placed c.args.self.now.runs.running q.number || is_completed q.state) g.requests) c.in-Some-first_begun.request found
+    ∙ started_as (find (λ q. is_placed c.args.self.now.runs.running q.number || is_completed q.state) g.requests) c.in-Some.request found
 
 pub returns-in-None-clause-may : goal.returns-in-None-clause-may
 returns-in-None-clause-may c =
-    let g : Group = c.in-Some.group.now in
+    let g : Group = c.in_ok-group.group.now in
     let found = c.in-None.ensures ∙ ap (λ (l : List Request). option_map (λ (q : Request). q.number) (find (λ q. is_placed c.args.self.now.runs.running q.number || is_completed q.state) l)) c.as_slice.ensures in
     let none = none_found (λ q. is_placed c.args.self.now.runs.running q.number || is_completed q.state) g.requests found in
     let parts : (i : ℕ) (q : Request) → i < length g.requests → (is_placed c.args.self.now.runs.running (get_or g.requests i q).number ≡ false) × (is_completed (get_or g.requests i q).state ≡ false) =
     λ i q l. or_parts (is_placed c.args.self.now.runs.running (get_or g.requests i q).number) (is_completed (get_or g.requests i q).state) (none i q l) in
-    let opened : is_open g ≡ true = cc in
+    let opened : is_open g ≡ true = c.in_ok-group.ensures.opened in
     record {
       group = g;
-      there = sym c.in-Some.ensures;
+      there = c.in_ok-group.ensures.there;
       opened = opened;
       idle = λ i q l. (parts i q l).0;
       none = list_any_none (λ q. is_completed q.state) g.requests (λ i q l. (parts i q l).1);

@@ -1,4 +1,4 @@
-use Rattle.std.proofs.Common.{◌≡◌, ◌∙◌, ◌++◌, ◌∷◌, ◌<◌, ◌-◌, true, false, List, [], length, get_or, ap, sym, arith}
+use Rattle.std.proofs.Common.{◌≡◌, ◌∙◌, ◌++◌, ◌∷◌, ◌<◌, ◌-◌, true, false, List, [], length, ap, sym, arith}
 use Rattle.std.proofs.lemmas.List.{append-nil}
 use Rattle.std.proofs.lemmas.Option.{slice_get_within}
 use Rattle.desk_runs.specs.States.{is_open}
@@ -15,22 +15,19 @@ returns-then-not-is_open c = λ p h.
     let none : endings_of (p ∷ []) ≡ [] = none_ends (seen c.args.self.now) p c.known-before.result.now c.args.after.now h c.known-before.ensures closed in
     sym (append-nil c.args.endings.now.items) ∙ ap (λ (l : List Ending). c.args.endings.now.items ++ l) (sym none)
 
-pub bounds-as_slice-place : goal.bounds-as_slice-place
-bounds-as_slice-place c =
+pub submission-submitted-requires : goal.submission-submitted-requires
+submission-submitted-requires c =
     let within : c.args.after.now.number.0 - 1 < length c.args.self.now.submitted.items = slice_get_within c.args.self.now.submitted.items (c.args.after.now.number.0 - 1) c.requires.0.0 c.requires.1.submitted in
-    let same : length c.as_slice.result.now ≡ length c.args.self.now.submitted.items = ap length c.as_slice.ensures.value in
-    omega (arith, within, same)
+    (c.requires.1.from, omega (arith, within))
 
 pub find_ending-requires-clause-count : goal.find_ending-requires-clause-count
 find_ending-requires-clause-count c =
-    let w : Submitted = c.index-as_slice-place.result in
-    let is : w ≡ get_or c.args.self.now.submitted.items (c.args.after.now.number.0 - 1) w = c.index-as_slice-place.is ∙ ap (λ (l : List Submitted). get_or l (c.args.after.now.number.0 - 1) w) c.as_slice.ensures.value in
-    ap (λ (x : Submitted). length x.requests) (submitted_is (seen c.args.self.now) c.requires.0 c.args.after.now w c.requires.1 is) ∙ c.requires.1.count
+    ap (λ (x : Submitted). length x.requests) (submitted_is (seen c.args.self.now) c.requires.0 c.args.after.now c.submission-submitted.result.now c.requires.1 c.submission-submitted.ensures)
+    ∙ c.requires.1.count
 
 pub returns : goal.returns
 returns c = λ p h.
-    let w : Submitted = c.index-as_slice-place.result in
-    let is : w ≡ get_or c.args.self.now.submitted.items (c.args.after.now.number.0 - 1) w = c.index-as_slice-place.is ∙ ap (λ (l : List Submitted). get_or l (c.args.after.now.number.0 - 1) w) c.as_slice.ensures.value in
+    let w : Submitted = c.submission-submitted.result.now in
     let opened : is_open c.known-before.result.now ≡ true = cc in
-    let one : endings_of (p ∷ []) ≡ ending_of (w, (c.known-before.result.now, c.args.after.now)) ∷ [] = one_ends (seen c.args.self.now) p w c.known-before.result.now c.args.after.now h is c.known-before.ensures opened in
+    let one : endings_of (p ∷ []) ≡ ending_of (w, (c.known-before.result.now, c.args.after.now)) ∷ [] = one_ends (seen c.args.self.now) p w c.known-before.result.now c.args.after.now h c.submission-submitted.ensures c.known-before.ensures opened in
     c.in_ok-push.ensures.items ∙ ap (λ (e : Ending). c.args.endings.now.items ++ e ∷ []) c.in_ok-ending.ensures ∙ ap (λ (l : List Ending). c.args.endings.now.items ++ l) (sym one)

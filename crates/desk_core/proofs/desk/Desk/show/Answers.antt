@@ -1,4 +1,5 @@
 use Rattle.std.proofs.Common.{◌∙◌, ap, sym, arith, map, get_or, length, ◌<◌, ◌≡◌, ◌+◌, ◌-◌, Some, Ok}
+use Rattle.std.proofs.lemmas.Option.{get_or_from_slice_get}
 use Rattle.plan_base.specs.declared.number.GroupNo.{GroupNo}
 use Rattle.desk_events.specs.declared.refusal.Refusal.TheVariants.{NoSuchGroup}
 use Rattle.desk_events.specs.declared.reply.Reply.TheVariants.{Shown}
@@ -27,30 +28,23 @@ returns-in_default c =
 found : (d : DeskSeen) → IsDesk d → (n : GroupNo) (g : Group) → Some g ≡ group_at d.progress.groups n → IsFound 0 n d.groups d.progress.groups g
 found d h n g there = found_at 0 n d.groups d.progress.groups g (as_submitted d h) (counted_from (map (λ x. x.number.0) d.progress.groups) h.sound.numbered.groups) (sym there)
 
-pub overflow_sub-submitted : goal.overflow_sub-submitted
-overflow_sub-submitted c =
-    let place = found (seen c.args.self.now) c.requires c.args.number c.in-Some.group.now c.in-Some.ensures in
-    let at : c.args.number.0 ≡ 0 + place.place + 1 = place.at in
-    omega (arith, at)
-
-pub bounds-as_slice-number : goal.bounds-as_slice-number
-bounds-as_slice-number c =
+pub submission-submitted-requires : goal.submission-submitted-requires
+submission-submitted-requires c =
     let place = found (seen c.args.self.now) c.requires c.args.number c.in-Some.group.now c.in-Some.ensures in
     let at : c.args.number.0 ≡ 0 + place.place + 1 = place.at in
     let within : place.place < length c.args.self.now.submitted.items = place.within in
-    let same : length c.as_slice.result.now ≡ length c.args.self.now.submitted.items = ap length c.as_slice.ensures.value in
-    omega (arith, at, within, same)
+    (omega (arith, at), omega (arith, at, within))
 
 pub returns : goal.returns
 returns c =
     let d = seen c.args.self.now in
     let n = c.args.number in
     let g = c.in-Some.group.now in
-    let w = c.index-as_slice-number.result in
+    let w = c.submission-submitted.result.now in
     let place = found d c.requires n g c.in-Some.ensures in
     let at : n.0 ≡ 0 + place.place + 1 = place.at in
     let index : n.0 - 1 ≡ place.place = omega (arith, at) in
-    let is : w ≡ get_or d.groups place.place w = c.index-as_slice-number.is ∙ (λ j. get_or (c.as_slice.ensures.value j) (index j) w) in
+    let is : w ≡ get_or d.groups place.place w = sym (get_or_from_slice_get d.groups (n.0 - 1) w w c.submission-submitted.ensures) ∙ (λ j. get_or d.groups (index j) w) in
     let clone = c.in_ok-clone.ensures.cases in
     let document : w.document ≡ c.in_ok-clone.field-0 = sym (λ j. record {
       name = clone.0 j;
@@ -61,7 +55,7 @@ returns c =
       priority = clone.1.1.1.1.1.0 j;
       requests = copied w.document.requests c.in_ok-clone.field-0.requests clone.1.1.1.1.1.1 j;
     }) in
-    let states : map member_state g.requests ≡ c.in_ok-states_of.field-0 = ap (map member_state) (sym c.as_slice-2.ensures) ∙ sym c.in_ok-states_of.ensures in
+    let states : map member_state g.requests ≡ c.in_ok-states_of.field-0 = ap (map member_state) (sym c.as_slice.ensures) ∙ sym c.in_ok-states_of.ensures in
     record {
       ok = ap shown_group (place.found w ∙ ap (λ (v : Submitted). Some (v, g)) (sym is))
           ∙ (λ j. Ok (Shown (document j) (place.number j) (states j) (sym c.state.ensures j)));
