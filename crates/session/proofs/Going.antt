@@ -1,6 +1,7 @@
 -- The lines that are read and done, what was written of their replies, and what is gathered.
 use Rattle.std.proofs.Common.{◌≡◌, ℕ, ◌+◌, ◌≤◌, ◌<◌, List, [], ◌∷◌, ◌++◌, length, true, false, ◌⊎◌, refl, sym}
 use Rattle.std.proofs.Common.{◌∙◌, ap, subst, arith, inl, inr, Result, Ok, Err, OnErr, append_assoc, append-nil}
+use Rattle.std.specs.List.{AllByRecursion}
 use Rattle.std.specs.declared.option.Option.{Option}
 use Rattle.std.specs.declared.alloc.AllocError.{AllocError}
 use Rattle.plan_io.specs.declared.lines.ScriptLine.{ScriptLine}
@@ -17,10 +18,12 @@ use Rattle.plan_io.proofs.Loops.{so_far_start, so_far_line, so_far_ends, so_far_
 use Rattle.desk_events.specs.declared.entry.EventEntry.{EventEntry}
 use Rattle.desk_events.specs.Line.{command_of_line}
 use Rattle.desk_events.specs.Entry.{text_of_entry, text_of_history}
+use Rattle.desk_events.specs.Laws.{IsTelling}
 use Rattle.desk_core.specs.Desk.{StateSeen, start}
 use Rattle.session.specs.Line.{DoesLine, BeginsLine, AddsLine}
 use Rattle.session.specs.Session.{WritesFront, Gathers, IsGathered, IsCutOff, IsEnded, IsWrittenOn}
 use Rattle.session.proofs.Done.{AreDone, done_none, one_more, are_more, does_version, sound_done, sound_begun, whole_done}
+use Rattle.session.proofs.Telling.{telling_more}
 use Rattle.session.proofs.Written.{adds_none, adds_twice, front_all, front_after, front_put}
 
 -- the reader of a session before the first line
@@ -33,6 +36,7 @@ pub record Going (a b w w' : Option (List ℕ)) (reader : LinesSeen) (replies : 
   pub history : List EventEntry
   pub read : HasAnswered first_reader a lines reader b
   pub are : AreDone lines history s
+  pub telling : AllByRecursion IsTelling history
   pub count : length lines ≡ done
   pub gathers : Gathers w w' replies (text_of_history history)
   pub version : s.version ≤ done
@@ -46,6 +50,7 @@ going_start a w replies none = record {
   history = [];
   read = so_far_start first_reader a refl;
   are = done_none;
+  telling = tt;
   count = refl;
   gathers = ([], adds_none w, sym none);
   version = omega arith;
@@ -69,6 +74,7 @@ going_written a b w x y reader old new done s d h =
       history = d.history;
       read = d.read;
       are = d.are;
+      telling = d.telling;
       count = d.count;
       gathers = (told ++ h.0, adds_twice w x y told h.0 d.gathers.1 h.1, d.gathers.2 ∙ ap (λ (text : List ℕ). told ++ text) h.2 ∙ sym (append_assoc told h.0 new));
       version = d.version;
@@ -159,6 +165,7 @@ going_line a b c w w' old new replies after done s t line unit n l =
       history = d.history ++ l.0;
       read = n.read;
       are = are_more d.lines line d.history l.0 s t d.are (room d.lines line n.few) does;
+      telling = telling_more d.history l.0 d.telling l.3;
       count = sym (one_more d.lines line) ∙ ap (λ (k : ℕ). k + 1) d.count;
       gathers = gathers_more w w' replies after d.history l.0 d.gathers l.2;
       version = omega (arith, does_version s t (done + 1) (command_of_line line) l.0 l.1);
@@ -176,6 +183,7 @@ gathered_here a b w w' reader replies done s d = record {
   read = so_far_first first_reader reader a b d.lines first_fresh refl refl d.bytes d.within d.read;
   history = d.history;
   sound = sound_done d.lines d.history s d.are;
+  telling = d.telling;
   gathers = d.gathers;
 }
 
@@ -191,6 +199,7 @@ gathered_read a b c w w' old new replies done s d more within goes_on = record {
   read = so_far_cut first_reader old new a b c d.lines first_fresh refl refl d.read more within goes_on;
   history = d.history;
   sound = sound_done d.lines d.history s d.are;
+  telling = d.telling;
   gathers = d.gathers;
 }
 
@@ -206,6 +215,7 @@ gathered_line a b c w w' old new replies after done s t line error n l =
       read = so_far_first first_reader new a c (d.lines ++ line ∷ []) first_fresh refl refl n.bytes n.within n.read;
       history = d.history ++ l.0;
       sound = sound_begun d.lines line d.history l.0 s d.are (room d.lines line n.few) begins;
+      telling = telling_more d.history l.0 d.telling l.3;
       gathers = gathers_more w w' replies after d.history l.0 d.gathers l.2;
     }
 
@@ -216,6 +226,7 @@ cut_off a b w x y replies g f = record {
   read = g.read;
   history = g.history;
   sound = g.sound;
+  telling = g.telling;
   front = subst (λ (text : List ℕ). WritesFront w y text) (sym g.gathers.2) (front_after w x y g.gathers.0 replies g.gathers.1 f);
 }
 
@@ -259,6 +270,7 @@ all_answered a b c w w' old new replies done s found none d next stays unlike = 
     history = d.history;
     sound = sound_done d.lines d.history s d.are;
     whole = whole_done d.lines d.history s d.are;
+    telling = d.telling;
     written = subst (λ (text : List ℕ). Adds w w' text) (sym (d.gathers.2 ∙ ap (λ (text : List ℕ). d.gathers.0 ++ text) none ∙ append-nil d.gathers.0)) d.gathers.1;
   };
 }

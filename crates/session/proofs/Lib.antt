@@ -9,6 +9,7 @@ pub mod OneSummary
 pub mod Plans
 pub mod Reading
 pub mod Tallies
+pub mod Telling
 pub mod Told
 pub mod Turns
 pub mod Written

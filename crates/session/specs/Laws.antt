@@ -1,4 +1,4 @@
--- What holds of the summaries of sessions and workloads.
+-- What holds of the texts of sessions, and of the summaries of sessions and workloads.
 use Rattle.std.specs.Prelude.{◌≡◌, ℕ, ◌+◌, ◌<◌, List, [], ◌∷◌, ◌++◌, length, slice_index_or, Some, Ok}
 use Rattle.plan_io.specs.declared.lines.ScriptLine.{ScriptLine}
 use Rattle.plan_io.specs.declared.lines.ScriptLine.TheVariants.{TooLong}
@@ -8,8 +8,13 @@ use Rattle.desk_events.specs.declared.entry.EventEntry.{EventEntry}
 use Rattle.desk_events.specs.Line.{command_of_line}
 use Rattle.desk_core.specs.History.{IsWhole}
 use Rattle.session.specs.declared.summary.Summary.{Summary}
-use Rattle.session.specs.Session.{IsSound}
+use Rattle.session.specs.Session.{IsSound, IsAnswered}
 use Rattle.session.specs.Summary.{summary_of, IsSummary, IsWorkloadRun}
+
+-- what is written of lines tells what was done: two sessions of the same lines that write the same had one history
+abbrev pub TextHasOneHistory : Type 0
+TextHasOneHistory =
+    (lines : List ScriptLine) (held now : List ℕ) (a b : IsAnswered lines (Some held) (Some now)) → a.history ≡ b.history
 
 -- no line before the last asks for a plan
 abbrev pub PlansLast : List ScriptLine → Type 0

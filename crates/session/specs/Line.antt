@@ -1,5 +1,6 @@
 -- What one line does, and what it adds to the replies.
 use Rattle.std.specs.Prelude.{◌≡◌, ℕ, ◌⊎◌, List, [], ◌∷◌, ◌++◌, Result, Ok, Err}
+use Rattle.std.specs.List.{AllByRecursion}
 use Rattle.std.specs.declared.alloc.AllocError.{AllocError}
 use Rattle.plan_base.specs.declared.claim.Claim.{Claim}
 use Rattle.desk_events.specs.declared.command.Command.{Command}
@@ -9,6 +10,7 @@ use Rattle.desk_events.specs.declared.fault.CommandFault.{CommandFault}
 use Rattle.desk_events.specs.declared.reply.Reply.{Reply}
 use Rattle.desk_events.specs.declared.reply.Reply.TheVariants.{Taken, Published}
 use Rattle.desk_events.specs.Entry.{text_of_entry, text_of_history}
+use Rattle.desk_events.specs.Laws.{IsTelling}
 use Rattle.desk_core.specs.Desk.{StateSeen}
 use Rattle.desk_core.specs.History.{IsPlanning, IsPublication, after_publish}
 use Rattle.desk_book.specs.Claims.{IsDeskClaim}
@@ -47,13 +49,14 @@ abbrev pub BeginsLine : StateSeen → ℕ → Result Command CommandFault → Li
 BeginsLine s n read es =
     (es ≡ []) ⊎ ((IsPlanning s read × (es ≡ take_entry s n ∷ [])) ⊎ ((t : StateSeen) × DoesLine s n read es t))
 
--- the replies get the texts of all entries of the line, or of the first of them where memory is wanting
+-- the replies get the texts of all entries of the line, or of the first of them where memory is wanting; each text tells its entry
 abbrev pub AddsLine : StateSeen → StateSeen → ℕ → Result Command CommandFault → List ℕ → List ℕ → Result (Unit {0}) AllocError → Type 0
-AddsLine s t n read old new (Ok done) = (es : List EventEntry) × DoesLine s n read es t × (new ≡ old ++ text_of_history es)
-AddsLine s t n read old new (Err error) = (es : List EventEntry) × BeginsLine s n read es × (new ≡ old ++ text_of_history es)
+AddsLine s t n read old new (Ok done) = (es : List EventEntry) × DoesLine s n read es t × (new ≡ old ++ text_of_history es) × AllByRecursion IsTelling es
+AddsLine s t n read old new (Err error) = (es : List EventEntry) × BeginsLine s n read es × (new ≡ old ++ text_of_history es) × AllByRecursion IsTelling es
 
 -- the replies get the text of a Publish over the state s, which leaves the state t, or nothing where memory is wanting
 abbrev pub AddsPublish : StateSeen → StateSeen → ℕ → List ℕ → List ℕ → Result (Unit {0}) AllocError → Type 0
 AddsPublish s t n old new (Ok done) =
     (reply : Reply) × IsPlanReply s reply × (t ≡ after_publish s reply) × (new ≡ old ++ text_of_entry (publish_entry s n reply))
+    × IsTelling (publish_entry s n reply)
 AddsPublish s t n old new (Err error) = new ≡ old

@@ -1,5 +1,6 @@
 -- What a session reads and writes.
 use Rattle.std.specs.Prelude.{◌≡◌, ℕ, ◌≤◌, List, [], ◌∷◌, ◌++◌, length, take}
+use Rattle.std.specs.List.{AllByRecursion}
 use Rattle.std.specs.declared.option.Option.{Option}
 use Rattle.plan_io.specs.declared.lines.ScriptLine.{ScriptLine}
 use Rattle.plan_io.specs.declared.lines.LineAnswer.{LineAnswer}
@@ -13,6 +14,7 @@ use Rattle.plan_io.specs.Source.{Rose}
 use Rattle.plan_io.specs.Sink.{Adds, Puts}
 use Rattle.desk_events.specs.declared.entry.EventEntry.{EventEntry}
 use Rattle.desk_events.specs.Entry.{text_of_history}
+use Rattle.desk_events.specs.Laws.{IsTelling}
 use Rattle.desk_core.specs.History.{EachAfter, IsLegal, IsWhole}
 use Rattle.desk_book.specs.Claims.{IsClaimEntry}
 
@@ -26,11 +28,12 @@ pub record IsSound (lines : List ScriptLine) (history : List EventEntry) : Type 
 
 -- ---- what is read and written
 
--- the text of a sound history of these lines, of each of them, was written
+-- the text of a sound history of these lines, of each of them, was written, and tells that history
 pub record IsAnswered (lines : List ScriptLine) (held held' : Option (List ℕ)) : Type 0 where
   pub history : List EventEntry
   pub sound : IsSound lines history
   pub whole : IsWhole (lines ∷ []) history
+  pub telling : AllByRecursion IsTelling history
   pub written : Adds held held' (text_of_history history)
 
 -- the lines up to this ending, within the limits, were read and answered
@@ -49,6 +52,7 @@ pub record IsCutOff (left left' held held' : Option (List ℕ)) : Type 0 where
   pub read : ReadsFirst 67108864 65536 left lines left'
   pub history : List EventEntry
   pub sound : IsSound lines history
+  pub telling : AllByRecursion IsTelling history
   pub front : WritesFront held held' (text_of_history history)
 
 -- what was read and written at each status
@@ -81,6 +85,7 @@ pub record IsGathered (left left' held held' : Option (List ℕ)) (replies : Lis
   pub read : ReadsFirst 67108864 65536 left lines left'
   pub history : List EventEntry
   pub sound : IsSound lines history
+  pub telling : AllByRecursion IsTelling history
   pub gathers : Gathers held held' replies (text_of_history history)
 
 -- some of the replies were written, from the front, and the others are left; or a write failed

@@ -1,5 +1,10 @@
 //! Laws of sessions, each the contract of a function that does nothing.
-ghost use Rattle.session.specs.Laws.{LinesHaveOneSummary, NumberHasOneSummary, RunsWriteOneLine};
+ghost use Rattle.session.specs.Laws.{TextHasOneHistory, LinesHaveOneSummary, NumberHasOneSummary, RunsWriteOneLine};
+
+/// A law: what a session writes of its lines tells the history that it is the text of.
+pub fn one_history()
+    ensures { TextHasOneHistory }
+{}
 
 /// A law: what is written of a workload is a function of its number, though its workers may find different plans.
 pub fn one_summary()

@@ -8,5 +8,5 @@ mod summary;
 mod tally;
 mod words;
 
-pub use laws::one_summary;
+pub use laws::{one_history, one_summary};
 pub use run::run_session;

@@ -1,6 +1,7 @@
 //! What is done with one line.
 ghost use Rattle.std.specs.Prelude.{◌≡◌, ◌<◌, ◌++◌, IfOk, OnOk, OnErr, IsSome};
 ghost use Rattle.desk_events.specs.Entry.{text_of_entry};
+ghost use Rattle.desk_events.specs.Laws.{IsExactEntry};
 ghost use Rattle.desk_events.specs.Line.{command_of_line};
 ghost use Rattle.desk_events.specs.Ranges.{IsCommand};
 ghost use Rattle.desk_core.specs.History.{IsPlanning, after_publish};
@@ -24,6 +25,7 @@ const CALLER: u8 = 0;
 /// what makes it would drop it piece by piece, which the proof would have to follow.
 fn add_entry(entry: EventEntry, replies: &mut Vec<u8>) -> Result<(), AllocError>
     ensures ok { OnOk result (replies.new.items ≡ replies.old.items ++ text_of_entry entry) }
+    ensures exact { OnOk result (IsExactEntry entry) }
     ensures err { OnErr result (replies.new.items ≡ replies.old.items) }
 {
     let done = write_entry(&entry, replies);
