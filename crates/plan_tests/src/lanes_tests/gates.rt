@@ -12,59 +12,93 @@ use std::sync::atomic::{AtomicU32, Ordering};
 use std::test::Fail;
 use std::thread::Threads;
 
-/// How often a gate turns at most.
+/// How often a hold turns at most.
 const MOST_TURNS: u32 = 100_000_000;
 
-/// Counts the rounds of two lanes, and holds each lane until the other has come far enough.
+/// Neither of two is held.
+const NO_WAITS: (u32, u32) = (0, 0);
+
+/// Counts points of two, and holds each of the two at its first one until the other has passed as many as are waited for.
 #[derive(Drop)]
-struct Counter {
+struct Holds {
     first: AtomicU32,
     second: AtomicU32,
-    /// How many rounds of lane 1 are waited for at the first point of lane 0, and the other way round.
+    /// How many points of the second are waited for at the first one of the first, and the other way round.
     waits: (u32, u32),
 }
 
-impl Counter {
-    fn new(waits: (u32, u32)) -> Counter {
-        Counter {
+impl Holds {
+    fn new(waits: (u32, u32)) -> Holds {
+        Holds {
             first: AtomicU32::new(0),
             second: AtomicU32::new(0),
             waits,
         }
     }
 
-    /// The rounds of both lanes.
-    fn rounds(&self) -> (u32, u32) {
+    /// The points of both.
+    fn points(&self) -> (u32, u32) {
         (
             self.first.load(Ordering::SeqCst),
             self.second.load(Ordering::SeqCst),
         )
     }
+
+    /// Counts a point, of the first where the number is 0, and holds it. False where that runs out of turns.
+    fn pass(&self, number: u32) -> bool {
+        let (own, other, least) = if number == 0 {
+            (&self.first, &self.second, self.waits.0)
+        } else {
+            (&self.second, &self.first, self.waits.1)
+        };
+        own.fetch_add(1, Ordering::SeqCst) > 0 || wait(other, least)
+    }
 }
 
-/// Waits until a lane has so many rounds.
-fn wait(rounds: &AtomicU32, least: u32) {
+/// Waits until there are so many points. False where there are fewer after all turns.
+fn wait(points: &AtomicU32, least: u32) -> bool {
     for _ in 0..MOST_TURNS {
-        if rounds.load(Ordering::SeqCst) >= least {
-            return;
+        if points.load(Ordering::SeqCst) >= least {
+            return true;
         }
         spin_loop();
+    }
+    false
+}
+
+/// Counts the points of two lanes and of two workers, and holds them at their first ones.
+#[derive(Drop)]
+struct Counter {
+    lanes: Holds,
+    workers: Holds,
+    /// How many holds ran out of turns.
+    late: AtomicU32,
+}
+
+impl Counter {
+    fn new(lanes: Holds, workers: Holds) -> Counter {
+        Counter {
+            lanes,
+            workers,
+            late: AtomicU32::new(0),
+        }
+    }
+
+    /// How many holds ran out of turns.
+    fn late(&self) -> u32 {
+        self.late.load(Ordering::SeqCst)
     }
 }
 
 impl Gate for Counter {
     fn pass(&self, point: Point) {
-        let Point::AfterRound { lane, round, .. } = point else {
+        let Point::AfterRound { worker, lane, .. } = point else {
             return;
         };
-        let (own, other, least) = if lane == 0 {
-            (&self.first, &self.second, self.waits.0)
-        } else {
-            (&self.second, &self.first, self.waits.1)
-        };
-        own.fetch_add(1, Ordering::SeqCst);
-        if round == 0 {
-            wait(other, least);
+        let lane_in_time = self.lanes.pass(lane);
+        let worker_in_time = self.workers.pass(worker);
+        if !lane_in_time || !worker_in_time {
+            self.late.fetch_add(1, Ordering::SeqCst);
         }
     }
 }
@@ -119,18 +153,19 @@ fn claim_of(solved: &Solved) -> Result<&Claim, Fail> {
 #[test]
 fn a_lane_stops_where_bound_and_value_meet(rt: HostRuntime) -> Result<(), Fail> {
     let snapshot = EARLY.snapshot(rt.alloc())?;
-    let counter = Counter::new((0, 0));
+    let counter = Counter::new(Holds::new(NO_WAITS), Holds::new(NO_WAITS));
     let _ = solve(&rt, rt.alloc(), snapshot, ALONE, &counter)?;
-    assert_eq!(rt; counter.rounds(), (2, 0));
+    assert_eq!(rt; counter.lanes.points(), (2, 0));
     Ok(())
 }
 
 #[test]
 fn a_lane_stops_where_another_has_met(rt: HostRuntime) -> Result<(), Fail> {
     let snapshot = EARLY.snapshot(rt.alloc())?;
-    let counter = Counter::new((1, 2));
+    let counter = Counter::new(Holds::new((1, 2)), Holds::new(NO_WAITS));
     let solved = solve(&rt, rt.alloc(), snapshot, APART, &counter)?;
-    assert_eq!(rt; counter.rounds(), (2, 1));
+    assert_eq!(rt; counter.late(), 0);
+    assert_eq!(rt; counter.lanes.points(), (2, 1));
     let claim = claim_of(&solved)?;
     assert_eq!(rt; (claim.bound, claim.value), (50_000, 50_000));
     Ok(())
@@ -139,8 +174,10 @@ fn a_lane_stops_where_another_has_met(rt: HostRuntime) -> Result<(), Fail> {
 #[test]
 fn two_workers_run_at_once(rt: HostRuntime) -> Result<(), Fail> {
     let snapshot = TWO.snapshot(rt.alloc())?;
-    let counter = Counter::new((1, 1));
+    let counter = Counter::new(Holds::new(NO_WAITS), Holds::new((1, 1)));
     let _ = solve(&rt, rt.alloc(), snapshot, APART, &counter)?;
-    assert_eq!(rt; counter.rounds(), (8, 8));
+    assert_eq!(rt; counter.late(), 0);
+    assert_eq!(rt; counter.workers.points(), (8, 8));
+    assert_eq!(rt; counter.lanes.points(), (8, 8));
     Ok(())
 }
