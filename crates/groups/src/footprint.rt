@@ -20,6 +20,7 @@ pub(crate) struct Footprint {
     /// The quota that its group counts towards.
     pub quota: Option<u16>,
     pub seconds: u64,
+    /// The first slot.
     pub from: usize,
     /// The slot after the last.
     pub to: usize,

@@ -7,7 +7,7 @@ ghost use Rattle.groups.specs.Places.{AreNotes, ArePlaces};
 use plan_base::{RequestNo, Snapshot};
 use std::alloc::{AllocError, Global};
 
-/// How many notes there can be.
+/// By what request numbers are divided; there is a note for each remainder.
 const REMAINDERS: usize = 4_096;
 
 /// A request of a snapshot, and its place among all.

@@ -12,6 +12,7 @@ use plan_base::{Placement, Snapshot, slices_for};
 /// The slots of a placement. Slot `t * slices + i` is slice `i` of the horizon on telescope `t`.
 #[derive(Clone, Copy, Debug)]
 pub struct Slots {
+    /// The first slot.
     pub from: usize,
     /// The slot after the last.
     pub to: usize,

@@ -63,7 +63,7 @@ impl Found {
         self.value
     }
 
-    /// Forgets all that was found.
+    /// Forgets bound, value and plan; the prices stay, and no bound gives them.
     pub(crate) fn clear(&mut self)
         ensures { self.new ≡ cleared self.old }
     {
@@ -72,7 +72,7 @@ impl Found {
         self.plan.clear();
     }
 
-    /// Keeps the plan from which later ones are to be greater.
+    /// Keeps the plan that later ones have to pass.
     pub(crate) fn hold(&mut self, plan: &[Placement])
         requires { length plan.now ≤ 1024 }
         ensures { self.new ≡ record self.old { plan = plan.now } }

@@ -84,7 +84,7 @@ fn plan<R: Threads + Sync, G: Gate>(
     }
 }
 
-/// How many lanes a worker has to do, if all do as many.
+/// How many lanes a worker has to do, if all do as many, rounded up.
 fn share_of(settings: Settings) -> usize
     requires { IsInRange settings }
     ensures { 1 ≤ result }

@@ -26,7 +26,7 @@ pub(crate) trait Task<W: Way>: Send {
 
     ghost run_gives: { Board → Self → Self → Type 0 };
 
-    /// Does it.
+    /// Does the task, with the shared board and the way of its own thread.
     fn run(&mut self, board: &Board, way: &W)
         requires { can_run board.now self.old }
         ensures { run_gives board.now self.old self.new };

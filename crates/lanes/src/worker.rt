@@ -32,7 +32,7 @@ pub(crate) struct Worker<'a, const L: usize> {
     pub(crate) lanes: Vec<LaneFound>,
     /// What all lanes before these have found.
     pub(crate) found: Found,
-    /// How many lanes are taken at once, so that all workers have some.
+    /// How many lanes are taken at once: what each worker has if all have as many, rounded up, and at most `L`.
     pub(crate) share: usize,
     /// How many lanes are in step, the first of the `L`.
     pub(crate) taken: usize,

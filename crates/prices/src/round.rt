@@ -18,10 +18,10 @@ use plan_base::{MOST_REQUESTS, Prices, QuotaPrices, Snapshot};
 
 /// One round: each price goes up by the step where the request is used more often than its group takes it, down by it
 /// where less often, and stays else. What groups take is by net prices, those of the two lists before the call. A quota
-/// price goes up by the step of an hour, which is at least 1, to at most 200,000, where more seconds are taken in groups
-/// that name the quota than the quota has, and down by it, to at least 0, where fewer are. Where the step is negative,
-/// prices go the other way and quota prices by 1. There is one price, one net price and one use for each request and one
-/// quota price for each quota, and the prices stay from -10^12 to 10^12.
+/// price goes up by the step over 3,600, rounded down, but at least 1, to at most 200,000, where more seconds are taken
+/// in groups that name the quota than the quota has, and down by as much, to at least 0, where fewer are. Where the step
+/// is negative, prices go the other way and quota prices by 1. There is one price, one net price and one use for each
+/// request and one quota price for each quota, and the prices stay from -10^12 to 10^12.
 pub fn advance(
     snapshot: &Snapshot,
     prices: &mut Prices,

@@ -4,11 +4,12 @@ ghost use Rattle.std.specs.Prelude.{◌≡◌, ◌<◌, ◌^◌, pos};
 ghost use Rattle.plan_base.specs.Round.{step_of, quota_step};
 ghost use Rattle.prices.specs.Rounds.{step_size};
 
-/// The seconds in an hour: a quota is counted in seconds, and its price moves by the step of an hour.
+/// The seconds in an hour: a quota is counted in seconds, and its price moves by a step over this.
 const HOUR: u64 = 3600;
 
-/// The subgradient step of a lane's round, both counted from 0, the lane below 8 and the round below 256: the greatest
-/// value of a request, halved for each lower lane and shared by the rounds up to this one, rounded down, but at least 1.
+/// The subgradient step of a lane's round, both counted from 0, the lane below 8 and the round below 256: `vmax`, the
+/// greatest value of a request, halved once for each lane before this one and shared by the rounds up to this one,
+/// rounded down, but at least 1.
 pub fn step_of(lane: u32, round: u32, vmax: u32) -> i64
     requires lane { lane < 8 }
     requires round { round < 256 }
@@ -26,7 +27,7 @@ pub(crate) fn step_size(step: i64) -> u64
     step.max(0).unsigned_abs()
 }
 
-/// The step of quota prices that goes with a step.
+/// The step of quota prices that goes with a step: the step over 3,600, rounded down, but at least 1.
 pub(crate) fn quota_step(step: u64) -> u64
     ensures { result ≡ quota_step step }
 {

@@ -6,7 +6,9 @@ use plan_base::{RequestNo, SliceNo, TelescopeNo};
 /// before it nor the one after it is one.
 #[derive(Clone, Copy, Debug, PartialEq, Eq)]
 pub struct Run {
+    /// The request that may start.
     pub request: RequestNo,
+    /// The telescope on which it may.
     pub telescope: TelescopeNo,
     /// The first slice of the row.
     pub first: SliceNo,
