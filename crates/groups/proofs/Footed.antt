@@ -1,29 +1,21 @@
 -- What is read of a request that a snapshot has is what the request has.
-use Rattle.std.proofs.Common.{◌≡◌, ℕ, suc, ◌+◌, ◌*◌, ◌<◌, ◌≤◌, ℤ, pos, ◌-ℤ◌, List, [], ◌∷◌, length, map, slice_index_or, Option, None, All, refl, sym, ◌∙◌, ap, arith}
-use Rattle.std.proofs.lemmas.Nat.{mul-le}
+use Rattle.std.proofs.Common.{◌≡◌, ℕ, suc, ◌+◌, ◌<◌, ◌≤◌, ℤ, pos, ◌-ℤ◌, List, [], ◌∷◌, length, map, slice_index_or, Option, None, All, refl, sym, ◌∙◌, ap, arith}
 use Rattle.std.proofs.lemmas.List.{get_or-map}
 use Rattle.std.proofs.lemmas.List.Elements.{Contains-get_or, All-nil, All-append, All-map, All-contains}
 use Rattle.std.specs.Prelude.{HoldsAt}
 use Rattle.plan_base.specs.declared.parts.Parts.{Parts}
 use Rattle.plan_base.specs.declared.parts.GroupPart.{GroupPart}
 use Rattle.plan_base.specs.declared.parts.RequestPart.{RequestPart}
-use Rattle.plan_base.specs.declared.fault.Counted.TheVariants.{Telescopes}
 use Rattle.plan_base.specs.declared.claim.Placement.{Placement}
 use Rattle.plan_base.specs.Requests.{Listed, listed_from, listed, place_of, IsKnown, group_of, quota_of, seconds_of}
 use Rattle.plan_base.specs.Snapshot.{IsOrderly}
-use Rattle.plan_base.specs.Starts.{IsPossibleStart, slices_for, size_of}
+use Rattle.plan_base.specs.Starts.{slices_for, size_of}
 use Rattle.plan_base.specs.Bound.{price, quota_cost, net_price}
 use Rattle.plan_base.proofs.Members.{listed_known}
-use Rattle.plan_base.proofs.Known.{IsListedAs, known_as, known_or_is, telescope_known, known_has}
+use Rattle.plan_base.proofs.Known.{IsListedAs, known_as, known_or_is}
 use Rattle.groups.specs.Footprints.{first_slot, end_slot}
 use Rattle.plan_base.specs.NetPrices.{net_prices}
 use Rattle.groups.proofs.Runs.{number_of, place_at}
-
-pub telescope_below : (s : Parts) (p : Placement) → IsOrderly s → IsPossibleStart s p → p.telescope.0 < 32
-telescope_below s p o h =
-    let known : p.telescope.0 < length s.telescopes = telescope_known s p o h in
-    let few : length s.telescopes ≤ 32 = o.within Telescopes 0 0 (omega arith) in
-    omega arith
 
 pub group_here : (s : Parts) (r place g : ℕ) → IsKnown s r → place ≡ place_of s r → HoldsAt (λ x. x.group ≡ g) (listed s) place → g ≡ group_of s r
 group_here s r place g known e h =
@@ -52,12 +44,6 @@ quota_here s r g d known e =
     let place : 0 + at.0 ≡ x.0.group = at.1 in
     let same : g ≡ at.0 = omega arith in
     ap (λ (k : ℕ). (slice_index_or s.groups k d).quota) same ∙ at.2 d ∙ sym quota
-
-pub seconds_most : (s : Parts) (r : ℕ) → IsOrderly s → IsKnown s r → seconds_of s r ≤ 86400
-seconds_most s r o known = known_has (λ n. n ≤ 86400) (λ x. x.request.seconds) 0 s r (λ i d l. (o.ranges.seconds i d l).1) known
-
-pub product_below : (t n : ℕ) → t < 32 → n ≤ 1440 → t * n ≤ 46080
-product_below t n l m = let most : t * n ≤ 32 * 1440 = mul-le t n 32 1440 (omega arith) m in omega arith
 
 -- where a placement ends
 pub to_here : (s t : Parts) (p : Placement) (from size seconds : ℕ) → t ≡ s → from ≡ first_slot t p → size ≡ slices_for t.len seconds → seconds ≡ seconds_of s p.request.0 → from + size ≡ end_slot s p

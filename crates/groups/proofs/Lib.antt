@@ -10,6 +10,5 @@ pub mod Rebating
 pub mod Rooms
 pub mod Runs
 pub mod Shares
-pub mod Starting
 pub mod Told
 pub mod Wide

@@ -35,7 +35,7 @@ impl Places {
     }
 
     /// The place of a request, if it is one of the snapshot's, whose places these are.
-    pub fn place_of(&self, snapshot: &Snapshot, request: RequestNo) -> Option<usize>
+    pub(crate) fn place_of(&self, snapshot: &Snapshot, request: RequestNo) -> Option<usize>
         requires { ArePlaces snapshot.now self.now }
         ensures { SomeIff result (IsKnown snapshot.now request.0) (place_of snapshot.now request.0) }
     {

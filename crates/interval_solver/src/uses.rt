@@ -84,7 +84,7 @@ impl<'a> Uses<'a> {
     }
 
     /// How often the request at a place is started.
-    pub fn count(&self, place: usize) -> u32
+    pub(crate) fn count(&self, place: usize) -> u32
         requires { place < length (listed self.now.snapshot) }
         ensures { HoldsAt (λ x. result ≡ uses_of self.now.starts x.request.request.0) (listed self.now.snapshot) place }
     {

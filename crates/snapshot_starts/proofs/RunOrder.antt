@@ -17,10 +17,6 @@ use Rattle.snapshot_starts.proofs.InRuns.{pairs_flat_map, IsIn, length_of_run, a
 below_same_above : (i j : ℕ) → ((i < j) ⊎ (j < i)) ⊎ (i ≡ j)
 below_same_above i j = grind arith
 
--- numbers in place of runs and starts
-run_then_start : (ra rb ta tb a e b : ℕ) → Type 0
-run_then_start ra rb ta tb a e b = (ra < rb) ⊎ ((ra ≡ rb) × ((ta < tb) ⊎ ((ta ≡ tb) × (e < b))))
-
 -- of two runs in order each start of the one is before each of the other
 before_across : (a b : Run) (p q : Placement) → IsRunBefore a b → IsIn a p → IsIn b q → IsStartBefore p q
 before_across a b p q (inl less) h k =
