@@ -19,9 +19,9 @@ use Rattle.plan_base.proofs.Pairs.{pairs_append}
 use Rattle.snapshot_starts.proofs.InRuns.{IsIn, in_run, from_run, in_starts, from_starts}
 use Rattle.interval_solver.specs.declared.start.Start.{Start}
 use Rattle.interval_solver.specs.declared.offer.Offer.{Offer}
-use Rattle.plan_base.specs.Tables.{row}
+use Rattle.plan_base.specs.Tables.{IsStartOn, row}
 use Rattle.interval_solver.specs.Offers.{IsOffer}
-use Rattle.interval_solver.specs.Listings.{start_in, AreAdded, AreAllRuns, IsOfFirst, IsStartOf, IsToldBy, IsStartAt, IsListing}
+use Rattle.interval_solver.specs.Listings.{start_in, AreAdded, AreAllRuns, IsOfFirst, IsToldBy, IsStartAt, IsListing}
 use Rattle.std.specs.Prelude.{HoldsAt}
 use Rattle.plan_base.proofs.Here.{IsHere, request_here}
 
@@ -91,7 +91,7 @@ nothing_listed s t runs rows count empty = record {
 }
 
 -- where the run at a place has no start of the telescope, the rows stay
-pub listing_stays : (s : Parts) (t n : ℕ) (runs : List Run) (run : Run) (rows : List (List Start)) → n < length runs → slice_index_or runs n run ≡ run → ((p : Placement) → IsStartOf s t p → IsIn run p → ⊥)
+pub listing_stays : (s : Parts) (t n : ℕ) (runs : List Run) (run : Run) (rows : List (List Start)) → n < length runs → slice_index_or runs n run ≡ run → ((p : Placement) → IsStartOn s t p → IsIn run p → ⊥)
     → IsListing s t (IsOfFirst runs n) rows → IsListing s t (IsOfFirst runs (n + 1)) rows
 listing_stays s t n runs run rows within at never before = record {
   count = before.count;

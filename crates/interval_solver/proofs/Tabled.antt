@@ -45,9 +45,9 @@ module _ (s : Parts) (t : ℕ) (rows : List (List Start)) (orderly : IsOrderly s
       count = listing.count;
       possible = λ i x has.
           let p = listing.possible i x has in
-          (p.0, record { possible = p.1.start.possible; same_telescope = p.1.start.same_telescope }, p.1.at, told_so p.0 x p.1.told);
+          (p.0, p.1.start, p.1.at, told_so p.0 x p.1.told);
       complete = λ p start.
-          let x = listing.complete p (record { possible = start.possible; same_telescope = start.same_telescope }) start.possible in
+          let x = listing.complete p start start.possible in
           (x.0, x.1, told_so p x.0 x.2);
     }
 

@@ -9,7 +9,7 @@ use Rattle.snapshot_starts.specs.Runs.{starts_of_run, starts_of, IsRunBefore}
 use Rattle.interval_solver.specs.declared.start.Start.{Start}
 use Rattle.interval_solver.specs.declared.offer.Offer.{Offer}
 use Rattle.interval_solver.specs.Offers.{offer_worth}
-use Rattle.plan_base.specs.Tables.{row}
+use Rattle.plan_base.specs.Tables.{IsStartOn, row}
 
 -- the start of an offer in row i, where the rows begin at the slice `first`
 abbrev pub start_in : Offer → ℕ → ℕ → Start
@@ -35,11 +35,6 @@ pub record IsOfFirst (runs : List Run) (n : ℕ) (p : Placement) : Type 0 where
   pub within : place < length runs
   pub has : (d : Run) → Contains (starts_of_run (slice_index_or runs place d)) p
 
--- a possible start of telescope t
-pub record IsStartOf (s : Parts) (t : ℕ) (p : Placement) : Type 0 where
-  pub possible : IsPossibleStart s p
-  pub same_telescope : p.telescope.0 ≡ t
-
 -- what the row says of the possible start p
 pub record IsToldBy (s : Parts) (p : Placement) (x : Start) : Type 0 where
   pub place : x.place ≡ place_of s p.request.0
@@ -48,7 +43,7 @@ pub record IsToldBy (s : Parts) (p : Placement) (x : Start) : Type 0 where
 
 -- the start in row i is the possible start p of telescope t, of which P holds
 pub record IsStartAt (s : Parts) (t : ℕ) (P : Placement → Type 0) (i : ℕ) (x : Start) (p : Placement) : Type 0 where
-  pub start : IsStartOf s t p
+  pub start : IsStartOn s t p
   pub holds : P p
   pub at : p.slice.0 ≡ s.first.0 + i
   pub told : IsToldBy s p x
@@ -57,5 +52,5 @@ pub record IsStartAt (s : Parts) (t : ℕ) (P : Placement → Type 0) (i : ℕ) 
 pub record IsListing (s : Parts) (t : ℕ) (P : Placement → Type 0) (rows : List (List Start)) : Type 0 where
   pub count : length rows ≡ s.slices
   pub possible : (i : ℕ) (x : Start) → Contains (row rows i) x → (p : Placement) × IsStartAt s t P i x p
-  pub complete : (p : Placement) → IsStartOf s t p → P p → (x : Start) × Contains (row rows (p.slice.0 - s.first.0)) x × IsToldBy s p x
+  pub complete : (p : Placement) → IsStartOn s t p → P p → (x : Start) × Contains (row rows (p.slice.0 - s.first.0)) x × IsToldBy s p x
   pub rising : (i : ℕ) → AllPairs (λ a b. a.place < b.place) (row rows i)
