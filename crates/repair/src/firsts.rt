@@ -28,11 +28,12 @@ pub(crate) fn note_firsts(
     }
 }
 
-fn forget_all(firsts: &mut Vec<Option<Placement>>)
-    ensures count { length firsts.new.items ≡ length firsts.old.items }
-    ensures none { All (λ first. first ≡ None) firsts.new.items }
+/// Forgets what is noted at each place.
+pub(crate) fn forget_all<T: Copy + Drop>(notes: &mut Vec<Option<T>>)
+    ensures count { length notes.new.items ≡ length notes.old.items }
+    ensures none { All (λ note. note ≡ None) notes.new.items }
 {
-    for place in 0..firsts.len() {
-        firsts[place] = None;
+    for place in 0..notes.len() {
+        notes[place] = None;
     }
 }

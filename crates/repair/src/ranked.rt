@@ -1,6 +1,6 @@
 // The starts of requests outside every AND, by falling worth.
 
-ghost use Rattle.std.specs.Prelude.{◌≡◌, ◌≤◌, length, map, filter_map, All, None, vec_capacity};
+ghost use Rattle.std.specs.Prelude.{◌≡◌, ◌≤◌, length, map, filter_map, All, vec_capacity};
 ghost use Rattle.plan_base.specs.declared.parts.Op.TheVariants.{And};
 ghost use Rattle.plan_base.specs.Requests.{listed, group_of, IsKind};
 ghost use Rattle.plan_base.specs.Starts.{IsPossibleStart};
@@ -10,6 +10,7 @@ ghost use Rattle.repair.specs.Worths.{AreOffers, IsOffer};
 ghost use Rattle.repair.specs.Repairs.{AddsOne, AreNoted, AreOrdered, IsEarlier, start_of, rank_of};
 
 use crate::draft::Draft;
+use crate::firsts::forget_all;
 use crate::offers::{Offer, Offers};
 use crate::worth::worth_of;
 use plan_base::{Placement, RequestNo, SliceNo, Snapshot, TelescopeNo};
@@ -59,22 +60,13 @@ fn note_ranks(
     requires count { length noted.old.items ≡ length (listed snapshot.now) }
     ensures { AreNoted snapshot.now starts.now noted.new.items }
 {
-    forget_ranks(noted);
+    forget_all(noted);
     for start in starts {
         let place = offers.place_of(snapshot, start.request);
         let offer = offers.by_place[place];
         if !offer.is_of_and {
             noted[place] = earlier(noted[place], rank_of(snapshot, offer, *start));
         }
-    }
-}
-
-fn forget_ranks(noted: &mut Vec<Option<Ranked>>)
-    ensures count { length noted.new.items ≡ length noted.old.items }
-    ensures none { All (λ rank. rank ≡ None) noted.new.items }
-{
-    for place in 0..noted.len() {
-        noted[place] = None;
     }
 }
 

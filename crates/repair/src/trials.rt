@@ -61,13 +61,13 @@ fn group_worths(alloc: Global, groups: &[GroupPart]) -> Result<Vec<u64>, AllocEr
 {
     let mut worths = Vec::with_capacity(alloc, groups.len())?;
     for group in groups {
-        worths.push(worth_of(group))?;
+        worths.push(group_worth(group))?;
     }
     Ok(worths)
 }
 
 /// The sum of the values of a group's requests, for a ONEOF the greatest of them.
-fn worth_of(group: &GroupPart) -> u64
+fn group_worth(group: &GroupPart) -> u64
     requires count { length group.now.requests ≤ 256 }
     requires values { All (λ q. q.value ≤ most_value) group.now.requests }
     ensures { result ≡ worth_of_group group.now }

@@ -2,4 +2,4 @@ use Rattle.std.proofs.Common.{◌≡◌, ℕ, ◌<◌, None, length, slice_index
 use Rattle.repair.proofs.firsts.forget_all.Given as goal
 
 abbrev pub invariant-loop-place : goal.invariant-loop-place
-invariant-loop-place l = (length l.firsts.items ≡ length l.fn.firsts.items) × ((i : ℕ) → i < l.place → slice_index_or l.firsts.items i None ≡ None)
+invariant-loop-place g l = (length l.notes.items ≡ length l.fn.notes.items) × ((i : ℕ) → i < l.place → slice_index_or l.notes.items i None ≡ None)

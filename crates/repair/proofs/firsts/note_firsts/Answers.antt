@@ -6,8 +6,8 @@ use Rattle.repair.proofs.Noting.{firsts_none, noted_more}
 use Rattle.repair.proofs.firsts.note_firsts.Goals as goal
 
 pub loop-index-init : goal.loop-index-init
-loop-index-init c = subst (λ (xs : List Placement). AreFirsts c.args.snapshot.now xs c.forget_all.new.firsts.items) (sym (drop_all (length c.args.starts.now) c.args.starts.now (omega arith)))
-    (firsts_none c.args.snapshot.now c.forget_all.new.firsts.items (c.forget_all.ensures.count ∙ c.requires.count) c.forget_all.ensures.none)
+loop-index-init c = subst (λ (xs : List Placement). AreFirsts c.args.snapshot.now xs c.forget_all.new.notes.items) (sym (drop_all (length c.args.starts.now) c.args.starts.now (omega arith)))
+    (firsts_none c.args.snapshot.now c.forget_all.new.notes.items (c.forget_all.ensures.count ∙ c.requires.count) c.forget_all.ensures.none)
 
 pub loop-index-preserved : goal.loop-index-preserved
 loop-index-preserved c =
