@@ -124,6 +124,14 @@ most_of_shape Many = omega arith
 most_of_shape OneOf = omega arith
 most_of_shape And = omega arith
 
+-- a group has a request
+pub some_members : (s : Parts) (g : ℕ) → IsOrderly s → g < length s.groups → 0 < length (members s g)
+some_members s g o l =
+    let x : GroupPart = record { group = record { 0 = 0 }; op = Single; requests = []; quota = None } in
+    let count : length (members s g) ≡ length (slice_index_or s.groups g x).requests = ap (λ (rs : List ℕ). length rs) (get_or-map members_of s.groups g x [] l) ∙ length-map (slice_index_or s.groups g x).requests (λ q. q.request.0) in
+    let some : 1 ≤ length (slice_index_or s.groups g x).requests = (o.shapes g x l).0 in
+    omega arith
+
 -- a group has at most 256 requests
 pub few_members : (s : Parts) (g : ℕ) → IsOrderly s → g < length s.groups → length (members s g) ≤ 256
 few_members s g o l =

@@ -14,6 +14,7 @@ mod taking;
 pub use nets::net;
 pub use places::Places;
 pub use plan::PlanBuild;
-pub use rebates::{choice, rebate};
+pub use rebates::{choice, member_count, rebate};
 pub use slots::Slots;
+pub use tables::add_seconds;
 pub use taking::Taking;

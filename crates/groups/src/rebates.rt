@@ -59,10 +59,11 @@ fn prices_of_group<'a>(snapshot: &Snapshot, group: usize, prices: &'a Prices) ->
     &prices[first..first + count]
 }
 
-/// How many requests the group at this place has.
-fn member_count(snapshot: &Snapshot, group: usize) -> usize
+/// How many requests the group at this place has: 1 to 256.
+pub fn member_count(snapshot: &Snapshot, group: usize) -> usize
     requires { group < length snapshot.now.groups }
     ensures value { result ≡ length (members snapshot.now group) }
+    ensures some { 0 < result }
     ensures few { result ≤ 256 }
 {
     snapshot.parts().groups.as_slice()[group].requests.len()

@@ -71,7 +71,8 @@ impl Tables {
         set_flags(&mut self.occupied, footprint.from, footprint.to, true);
         self.placed[footprint.place] = true;
         self.members[footprint.group] += 1;
-        add_seconds(&mut self.seconds, footprint.quota, footprint.seconds);
+        let seconds = self.seconds.as_mut_slice();
+        add_seconds(seconds, footprint.quota, footprint.seconds);
     }
 
     /// Gives a footprint free that was taken up.
@@ -149,11 +150,13 @@ fn set_flags(flags: &mut Vec<bool>, from: usize, to: usize, value: bool)
     }
 }
 
-fn add_seconds(seconds: &mut Vec<u64>, quota: Option<u16>, more: u64)
-    requires within { (q : ℕ) → quota ≡ Some q → q < length seconds.old.items }
-    requires small { (q : ℕ) → quota ≡ Some q → slice_index_or seconds.old.items q 0 + more < 2 ^ 64 }
-    ensures count { length seconds.new.items ≡ length seconds.old.items }
-    ensures added { (q : ℕ) → slice_index_or seconds.new.items q 0 ≡ slice_index_or seconds.old.items q 0 + towards quota more q }
+/// Adds more seconds to those of the quota that is named, if one is. There is a number for that quota, and the sum is
+/// below 2^64.
+pub fn add_seconds(seconds: &mut [u64], quota: Option<u16>, more: u64)
+    requires within { (q : ℕ) → quota ≡ Some q → q < length seconds.old }
+    requires small { (q : ℕ) → quota ≡ Some q → slice_index_or seconds.old q 0 + more < 2 ^ 64 }
+    ensures count { length seconds.new ≡ length seconds.old }
+    ensures added { (q : ℕ) → slice_index_or seconds.new q 0 ≡ slice_index_or seconds.old q 0 + towards quota more q }
 {
     if let Some(quota) = quota {
         seconds[usize::from(quota)] += more;

@@ -3,14 +3,13 @@ use Rattle.std.proofs.Common.{◌≡◌, ℕ, zero, suc, ◌+◌, ◌-◌, ◌<�
 use Rattle.std.proofs.lemmas.List.{length-map, get_or-map, get_or_append_left, get_or-append-add}
 use Rattle.plan_base.specs.declared.parts.Parts.{Parts}
 use Rattle.plan_base.specs.declared.parts.GroupPart.{GroupPart}
-use Rattle.plan_base.specs.declared.parts.Op.{Op}
 use Rattle.plan_base.specs.declared.fault.Counted.TheVariants.{Requests, Quotas}
-use Rattle.plan_base.specs.declared.parts.Op.TheVariants.{Single, Many, OneOf, And}
-use Rattle.plan_base.specs.Requests.{Listed, listed_from, listed, place_of, IsKind, members_of, members}
+use Rattle.plan_base.specs.declared.parts.Op.TheVariants.{Single}
+use Rattle.plan_base.specs.Requests.{Listed, listed_from, listed, place_of, members_of, members}
 use Rattle.plan_base.specs.Snapshot.{IsOrderly}
 use Rattle.plan_base.specs.Bound.{price}
 use Rattle.plan_base.specs.Round.{is_taken}
-use Rattle.plan_base.specs.NetPrices.{group_prices, IsGroupRun}
+use Rattle.plan_base.specs.NetPrices.{IsGroupRun}
 use Rattle.groups.proofs.Runs.{IsRun, number_of, place_at}
 use Rattle.prices.specs.Rounds.{number_at}
 use Rattle.prices.specs.Takings.{AreTaken}
@@ -98,14 +97,6 @@ below_or_from k first = grind arith
 
 pub walked_none : (s : Parts) (net : List ℤ) (flags : List Bool) → IsWalked s net flags flags 0 0
 walked_none s net flags = record { begins = sym (offset_first s.groups); count = refl; taken = λ k m. absurd (omega arith) }
-
--- a group has a request
-pub some_members : (s : Parts) (g : ℕ) → IsOrderly s → g < length s.groups → 0 < length (members s g)
-some_members s g o l =
-    let x : GroupPart = record { group = record { 0 = 0 }; op = Single; requests = []; quota = None } in
-    let count : length (members s g) ≡ length (slice_index_or s.groups g x).requests = ap (λ (rs : List ℕ). length rs) (get_or-map members_of s.groups g x [] l) ∙ length-map (slice_index_or s.groups g x).requests (λ q. q.request.0) in
-    let some : 1 ≤ length (slice_index_or s.groups g x).requests = (o.shapes g x l).0 in
-    omega arith
 
 -- where a group's requests begin, and where they end
 pub group_within : (s : Parts) (net : List ℤ) (old flags : List Bool) (first g : ℕ) → IsOrderly s → g < length s.groups → IsWalked s net old flags first g → IsGroupRun s g first

@@ -1,12 +1,13 @@
 // How many seconds of each quota are demanded.
 
-ghost use Rattle.std.specs.Prelude.{◌≡◌, ◌≤◌, ◌<◌, ◌+◌, ◌^◌, ℕ, ℤ, Some, length, map, slice_index_or};
+ghost use Rattle.std.specs.Prelude.{◌≡◌, ◌≤◌, ◌<◌, ◌+◌, ◌^◌, ℕ, ℤ, length, map, slice_index_or};
 ghost use Rattle.plan_base.specs.Limits.{most_seconds};
 ghost use Rattle.plan_base.specs.Requests.{listed};
 ghost use Rattle.plan_base.specs.Round.{demand_of};
 ghost use Rattle.groups.specs.Tables.{towards};
 ghost use Rattle.prices.specs.Takings.{AreTaken};
 
+use groups::add_seconds;
 use plan_base::Snapshot;
 
 /// Adds for each quota the seconds of the requests that are taken in groups that name it.
@@ -37,15 +38,4 @@ fn add_request(snapshot: &Snapshot, place: usize, demands: &mut [u64])
     let seconds = snapshot.request_at(place).seconds;
     let group = &snapshot.parts().groups.as_slice()[snapshot.group_at(place)];
     add_seconds(demands, group.quota, u64::from(seconds));
-}
-
-fn add_seconds(demands: &mut [u64], quota: Option<u16>, more: u64)
-    requires within { (q : ℕ) → quota ≡ Some q → q < length demands.old }
-    requires small { (q : ℕ) → quota ≡ Some q → slice_index_or demands.old q 0 + more < 2 ^ 64 }
-    ensures count { length demands.new ≡ length demands.old }
-    ensures added { (q : ℕ) → slice_index_or demands.new q 0 ≡ slice_index_or demands.old q 0 + towards quota more q }
-{
-    if let Some(quota) = quota {
-        demands[usize::from(quota)] += more;
-    }
 }

@@ -8,7 +8,7 @@ ghost use Rattle.plan_base.specs.NetPrices.{IsGroupRun};
 ghost use Rattle.groups.specs.Takings.{takes_at};
 ghost use Rattle.prices.specs.Takings.{AreTaken};
 
-use groups::Taking;
+use groups::{Taking, member_count};
 use plan_base::{Op, Snapshot};
 
 /// Writes for each request whether its group takes it at the net prices. What each group takes is sought once.
@@ -39,16 +39,6 @@ fn write_group(snapshot: &Snapshot, group: usize, first: usize, net: &[i64], tak
     let op = snapshot.parts().groups.as_slice()[group].op;
     let count = member_count(snapshot, group);
     write_members(op, &net[first..first + count], first, taken);
-}
-
-/// How many requests the group at this place has.
-fn member_count(snapshot: &Snapshot, group: usize) -> usize
-    requires { group < length snapshot.now.groups }
-    ensures value { result ≡ length (members snapshot.now group) }
-    ensures some { 0 < result }
-    ensures few { result ≤ 256 }
-{
-    snapshot.parts().groups.as_slice()[group].requests.len()
 }
 
 /// Writes from a place on which requests a group of this kind takes at their net prices.

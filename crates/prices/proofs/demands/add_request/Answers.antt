@@ -20,7 +20,7 @@ add_seconds-requires-clause-small c = λ q named.
     let small = c.requires.small q in
     omega arith
 
-added : (c : After-slice_known-2-1) (q : ℕ) → slice_index_or c.add_seconds.new.demands q 0 ≡ slice_index_or c.args.demands.now q 0 + asked_at c.args.snapshot.now c.args.place q
+added : (c : After-slice_known-2-1) (q : ℕ) → slice_index_or c.add_seconds.new.seconds q 0 ≡ slice_index_or c.args.demands.now q 0 + asked_at c.args.snapshot.now c.args.place q
 added c q =
     let groups = c.as_slice.ensures ∙ ap (λ (s : Parts). s.groups) c.parts.ensures.value in
     c.add_seconds.ensures.added q
@@ -33,6 +33,6 @@ returns-clause-added c = λ q. added c q
 
 pub returns-clause-few : goal.returns-clause-few
 returns-clause-few c = λ q.
-    let is : slice_index_or c.add_seconds.new.demands q 0 ≡ slice_index_or c.args.demands.now q 0 + asked_at c.args.snapshot.now c.args.place q = added c q in
+    let is : slice_index_or c.add_seconds.new.seconds q 0 ≡ slice_index_or c.args.demands.now q 0 + asked_at c.args.snapshot.now c.args.place q = added c q in
     let most : asked_at c.args.snapshot.now c.args.place q ≤ 86400 = asked_most c.args.snapshot.now c.args.place q c.parts.ensures.orderly c.requires.place in
     omega arith
