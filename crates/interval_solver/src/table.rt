@@ -32,13 +32,33 @@ pub(crate) fn fill<const L: usize>(rows: &StartRows, prices: &[[i64; L]], table:
     let wholes = &rows.wholes;
     let singles = &rows.singles;
     let blocks = wholes.len();
-    let zero = [0; L];
-    table[all.len()] = zero;
-    for slice in (4 * blocks..all.len()).rev() {
-        fill_slice(all, singles.row(slice), prices, table, slice, zero);
-    }
+    fill_end(all, wholes, singles, prices, table);
     for block in (0..blocks).rev() {
         fill_block(all, wholes, singles, prices, table, block);
+    }
+}
+
+/// Fills in the end of the table and the slices after the last block.
+fn fill_end<const L: usize>(
+    rows: &RowList,
+    wholes: &RowList,
+    singles: &RowList,
+    prices: &[[i64; L]],
+    table: &mut [[i64; L]],
+)
+    requires few { length rows.now ≤ most_slices }
+    requires fit { DoRowsFit (length prices.now) rows.now }
+    requires prices { All (IsForLanes L IsPriceInRange) prices.now }
+    requires cover { IsCover rows.now wholes.now singles.now }
+    requires count { length table.old ≡ length rows.now + 1 }
+    requires entries { All (IsForLanes L IsEntry) table.old }
+    ensures filled { AreFilledFrom L rows.now prices.now table.new (4 * length wholes.now) }
+{
+    let blocks = wholes.len();
+    let zero = [0; L];
+    table[rows.len()] = zero;
+    for slice in (4 * blocks..rows.len()).rev() {
+        fill_slice(rows, singles.row(slice), prices, table, slice, zero);
     }
 }
 
@@ -63,30 +83,12 @@ fn fill_block<const L: usize>(
     let first = 4 * block;
     let zero = [0; L];
     let best = block_best(wholes.row(block), prices, table, zero);
-    fill_slice(
-        rows,
-        singles.row(first + 3),
-        prices,
-        table,
-        first + 3,
-        best.fourth,
-    );
-    fill_slice(
-        rows,
-        singles.row(first + 2),
-        prices,
-        table,
-        first + 2,
-        best.third,
-    );
-    fill_slice(
-        rows,
-        singles.row(first + 1),
-        prices,
-        table,
-        first + 1,
-        best.second,
-    );
+    let fourth = singles.row(first + 3);
+    fill_slice(rows, fourth, prices, table, first + 3, best.fourth);
+    let third = singles.row(first + 2);
+    fill_slice(rows, third, prices, table, first + 2, best.third);
+    let second = singles.row(first + 1);
+    fill_slice(rows, second, prices, table, first + 1, best.second);
     fill_slice(rows, singles.row(first), prices, table, first, best.first);
 }
 

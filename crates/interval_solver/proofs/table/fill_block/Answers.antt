@@ -28,8 +28,8 @@ fill_slice-requires g c =
                 (
                   c.block_best-best.ensures.fit.3,
                   (
-                    single_within c.args.rows.now c.args.wholes.now c.args.singles.now c.requires.cover (4 * c.args.block + 3) c.row-2.result.now c.row-2.ensures,
-                    whole_rest_best c.args.rows.now c.args.wholes.now c.args.singles.now c.requires.cover (length c.args.prices.now) c.requires.fit c.args.prices.now c.args.table.now c.args.table.now c.args.block c.requires.filled.count filled.count (λ k h. refl) g.row.L 3 (4 * c.args.block + 3) c.row.result.now c.row-2.result.now _ (omega arith) (omega arith) c.row.ensures c.row-2.ensures c.block_best-best.ensures.fourth,
+                    single_within c.args.rows.now c.args.wholes.now c.args.singles.now c.requires.cover (4 * c.args.block + 3) c.row-fourth.result.now c.row-fourth.ensures,
+                    whole_rest_best c.args.rows.now c.args.wholes.now c.args.singles.now c.requires.cover (length c.args.prices.now) c.requires.fit c.args.prices.now c.args.table.now c.args.table.now c.args.block c.requires.filled.count filled.count (λ k h. refl) g.row.L 3 (4 * c.args.block + 3) c.row.result.now c.row-fourth.result.now _ (omega arith) (omega arith) c.row.ensures c.row-fourth.ensures c.block_best-best.ensures.fourth,
                   ),
                 ),
               ),
@@ -57,8 +57,8 @@ fill_slice-requires-2 g c =
                 (
                   c.block_best-best.ensures.fit.2,
                   (
-                    single_within c.args.rows.now c.args.wholes.now c.args.singles.now c.requires.cover (4 * c.args.block + 2) c.row-3.result.now c.row-3.ensures,
-                    whole_rest_best c.args.rows.now c.args.wholes.now c.args.singles.now c.requires.cover (length c.args.prices.now) c.requires.fit c.args.prices.now c.args.table.now c.fill_slice.new.table c.args.block c.requires.filled.count filled.count (λ k h. c.fill_slice.ensures.later k (omega arith)) g.row.L 2 (4 * c.args.block + 2) c.row.result.now c.row-3.result.now _ (omega arith) (omega arith) c.row.ensures c.row-3.ensures c.block_best-best.ensures.third,
+                    single_within c.args.rows.now c.args.wholes.now c.args.singles.now c.requires.cover (4 * c.args.block + 2) c.row-third.result.now c.row-third.ensures,
+                    whole_rest_best c.args.rows.now c.args.wholes.now c.args.singles.now c.requires.cover (length c.args.prices.now) c.requires.fit c.args.prices.now c.args.table.now c.fill_slice.new.table c.args.block c.requires.filled.count filled.count (λ k h. c.fill_slice.ensures.later k (omega arith)) g.row.L 2 (4 * c.args.block + 2) c.row.result.now c.row-third.result.now _ (omega arith) (omega arith) c.row.ensures c.row-third.ensures c.block_best-best.ensures.third,
                   ),
                 ),
               ),
@@ -86,8 +86,8 @@ fill_slice-requires-3 g c =
                 (
                   c.block_best-best.ensures.fit.1,
                   (
-                    single_within c.args.rows.now c.args.wholes.now c.args.singles.now c.requires.cover (4 * c.args.block + 1) c.row-4.result.now c.row-4.ensures,
-                    whole_rest_best c.args.rows.now c.args.wholes.now c.args.singles.now c.requires.cover (length c.args.prices.now) c.requires.fit c.args.prices.now c.args.table.now c.fill_slice-2.new.table c.args.block c.requires.filled.count filled.count (λ k h. c.fill_slice-2.ensures.later k (omega arith) ∙ c.fill_slice.ensures.later k (omega arith)) g.row.L 1 (4 * c.args.block + 1) c.row.result.now c.row-4.result.now _ (omega arith) (omega arith) c.row.ensures c.row-4.ensures c.block_best-best.ensures.second,
+                    single_within c.args.rows.now c.args.wholes.now c.args.singles.now c.requires.cover (4 * c.args.block + 1) c.row-second.result.now c.row-second.ensures,
+                    whole_rest_best c.args.rows.now c.args.wholes.now c.args.singles.now c.requires.cover (length c.args.prices.now) c.requires.fit c.args.prices.now c.args.table.now c.fill_slice-2.new.table c.args.block c.requires.filled.count filled.count (λ k h. c.fill_slice-2.ensures.later k (omega arith) ∙ c.fill_slice.ensures.later k (omega arith)) g.row.L 1 (4 * c.args.block + 1) c.row.result.now c.row-second.result.now _ (omega arith) (omega arith) c.row.ensures c.row-second.ensures c.block_best-best.ensures.second,
                   ),
                 ),
               ),
@@ -115,8 +115,8 @@ fill_slice-requires-4 g c =
                 (
                   c.block_best-best.ensures.fit.0,
                   (
-                    single_within c.args.rows.now c.args.wholes.now c.args.singles.now c.requires.cover (4 * c.args.block) c.row-5.result.now c.row-5.ensures,
-                    whole_rest_best c.args.rows.now c.args.wholes.now c.args.singles.now c.requires.cover (length c.args.prices.now) c.requires.fit c.args.prices.now c.args.table.now c.fill_slice-3.new.table c.args.block c.requires.filled.count filled.count (λ k h. c.fill_slice-3.ensures.later k (omega arith) ∙ c.fill_slice-2.ensures.later k (omega arith) ∙ c.fill_slice.ensures.later k (omega arith)) g.row.L 0 (4 * c.args.block) c.row.result.now c.row-5.result.now _ (omega arith) (omega arith) c.row.ensures c.row-5.ensures c.block_best-best.ensures.first,
+                    single_within c.args.rows.now c.args.wholes.now c.args.singles.now c.requires.cover (4 * c.args.block) c.row-2.result.now c.row-2.ensures,
+                    whole_rest_best c.args.rows.now c.args.wholes.now c.args.singles.now c.requires.cover (length c.args.prices.now) c.requires.fit c.args.prices.now c.args.table.now c.fill_slice-3.new.table c.args.block c.requires.filled.count filled.count (λ k h. c.fill_slice-3.ensures.later k (omega arith) ∙ c.fill_slice-2.ensures.later k (omega arith) ∙ c.fill_slice.ensures.later k (omega arith)) g.row.L 0 (4 * c.args.block) c.row.result.now c.row-2.result.now _ (omega arith) (omega arith) c.row.ensures c.row-2.ensures c.block_best-best.ensures.first,
                   ),
                 ),
               ),
