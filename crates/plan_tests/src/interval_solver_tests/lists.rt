@@ -173,6 +173,18 @@ fn assert_telescope<R: Threads + Sync + Abort>(
     Ok(first.starts.len().saturating_add(second.starts.len()))
 }
 
+/// Asserts this of both telescopes: how many starts they chose in all.
+fn assert_telescopes<R: Threads + Sync + Abort>(
+    rt: &R,
+    alloc: Global,
+    random: &mut Random,
+    snapshot: &Snapshot,
+) -> Result<usize, Fail> {
+    let first = assert_telescope(rt, alloc, random, snapshot, TelescopeNo(0))?;
+    let second = assert_telescope(rt, alloc, random, snapshot, TelescopeNo(1))?;
+    Ok(first.saturating_add(second))
+}
+
 /// The snapshot of requests and of two telescopes that are usable in these spans.
 fn snapshot(
     alloc: Global,
@@ -223,10 +235,8 @@ fn answers_are_those_of_all_lists(rt: HostRuntime) -> Result<(), Fail> {
         ];
         let usable = [draw_usable(&mut random), draw_usable(&mut random)];
         let snapshot = snapshot(rt.alloc(), &drawn, &usable)?;
-        for telescope in [TelescopeNo(0), TelescopeNo(1)] {
-            let starts = assert_telescope(&rt, rt.alloc(), &mut random, &snapshot, telescope)?;
-            count = count.saturating_add(starts);
-        }
+        let starts = assert_telescopes(&rt, rt.alloc(), &mut random, &snapshot)?;
+        count = count.saturating_add(starts);
     }
     assert!(rt; FEWEST_STARTS <= count);
     Ok(())

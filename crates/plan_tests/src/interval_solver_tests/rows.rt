@@ -36,6 +36,18 @@ const MINUTES: Desk = Desk {
     quotas: &[],
 };
 
+/// Twelve slices of five minutes, usable from the fourth on.
+const LATE: Desk = Desk {
+    len: 300,
+    first: 0,
+    slices: 12,
+    dishes: &[Dish {
+        site: 0,
+        usable: &[(900, 3_600)],
+    }; 2],
+    ..MINUTES
+};
+
 fn wish(seconds: u32, value: u32, fade: u16) -> Wish<'static> {
     Wish {
         seconds,
@@ -191,16 +203,6 @@ fn nothing_starts_in_a_gap(rt: HostRuntime) -> Result<(), Fail> {
 
 #[test]
 fn starts_of_a_fading_request_on_a_late_telescope(rt: HostRuntime) -> Result<(), Fail> {
-    let desk = Desk {
-        len: 300,
-        first: 0,
-        slices: 12,
-        dishes: &[Dish {
-            site: 0,
-            usable: &[(900, 3_600)],
-        }; 2],
-        ..MINUTES
-    };
     let rows = [
         Row {
             prices: &[50_000],
@@ -233,5 +235,5 @@ fn starts_of_a_fading_request_on_a_late_telescope(rt: HostRuntime) -> Result<(),
             uses: &[1],
         },
     ];
-    assert_desk(&rt, rt.alloc(), &desk, &[wish(300, 50_000, 100)], &rows)
+    assert_desk(&rt, rt.alloc(), &LATE, &[wish(300, 50_000, 100)], &rows)
 }

@@ -36,11 +36,32 @@ pub(super) fn assert_rounds(
     rounds: &[Round],
 ) -> Result<(), Fail> {
     let snapshot = sample.snapshot(alloc)?;
+    assert_bounds(rt, alloc, &snapshot, rounds)?;
+    assert_moves(rt, alloc, &snapshot, rounds)
+}
+
+/// Asserts the rebates and the bound of each round.
+fn assert_bounds(
+    rt: &impl Abort,
+    alloc: Global,
+    snapshot: &Snapshot,
+    rounds: &[Round],
+) -> Result<(), Fail> {
     for round in rounds {
-        assert_bound(rt, alloc, &snapshot, round)?;
+        assert_bound(rt, alloc, snapshot, round)?;
     }
+    Ok(())
+}
+
+/// Asserts that each round leads to the one after it.
+fn assert_moves(
+    rt: &impl Abort,
+    alloc: Global,
+    snapshot: &Snapshot,
+    rounds: &[Round],
+) -> Result<(), Fail> {
     for (round, after) in rounds.iter().zip(rounds.iter().skip(1)) {
-        assert_next(rt, alloc, &snapshot, round, after)?;
+        assert_next(rt, alloc, snapshot, round, after)?;
     }
     Ok(())
 }
