@@ -1,6 +1,6 @@
 // The board and its calls. None waits, and none but `new` takes memory.
 
-ghost use Rattle.std.specs.Prelude.{◌≡◌, ◌+◌, ◌*◌, ◌≤◌, ◌<◌, length, IfOk};
+ghost use Rattle.std.specs.Prelude.{◌≡◌, ◌*◌, ◌≤◌, ◌<◌, length, IfOk};
 
 use crate::rule::{BoardRule, Claim, JoinIn, LookAtBound, LookAtValue, Lower, Raise, SplitOff};
 use crate::seat::{BoardSeat, SeatView};

@@ -1,5 +1,5 @@
 -- Requests that are noted with their places.
-use Rattle.std.proofs.Common.{◌≡◌, ℕ, ◌<◌, List, Option, Some, length, slice_set, length-set, All, sym, ◌∙◌, subst}
+use Rattle.std.proofs.Common.{◌≡◌, ℕ, ◌<◌, List, Option, Some, length, slice_set, length-set, sym, ◌∙◌, subst}
 use Rattle.std.specs.Prelude.{HoldsAt}
 use Rattle.std.proofs.lemmas.List.Elements.{All-set}
 use Rattle.plan_base.specs.declared.parts.Parts.{Parts}

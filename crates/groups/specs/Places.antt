@@ -1,5 +1,5 @@
 -- Requests and their places among all, noted by the remainders of their numbers.
-use Rattle.std.specs.Prelude.{◌≡◌, ℕ, List, length, All, Option, Some}
+use Rattle.std.specs.Prelude.{◌≡◌, List, length, All, Option, Some}
 use Rattle.plan_base.specs.declared.parts.Parts.{Parts}
 use Rattle.plan_base.specs.Requests.{place_of, IsKnown}
 use Rattle.groups.specs.declared.places.Note.{Note}

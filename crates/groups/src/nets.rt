@@ -1,9 +1,9 @@
 // The prices of requests less what their seconds cost of their quotas.
 
-ghost use Rattle.std.specs.Prelude.{◌≡◌, ◌<◌, ◌≤◌, ◌⊎◌, ◌*◌, ℤ, pos, ◌-ℤ◌, [], length, slice_index, slice_index_or, All, Some, HoldsAt};
+ghost use Rattle.std.specs.Prelude.{◌≡◌, ◌<◌, ◌≤◌, ◌⊎◌, pos, [], length, slice_index, slice_index_or, All};
 ghost use Rattle.plan_base.specs.Limits.{most_seconds};
-ghost use Rattle.plan_base.specs.Requests.{Listed, listed};
-ghost use Rattle.plan_base.specs.Bound.{quota_cost, net_price};
+ghost use Rattle.plan_base.specs.Requests.{listed};
+ghost use Rattle.plan_base.specs.Bound.{quota_cost};
 ghost use Rattle.plan_base.specs.NetPrices.{IsNetInRange, net_prices};
 
 use plan_base::{Prices, QuotaPrices, Snapshot};

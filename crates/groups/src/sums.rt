@@ -1,6 +1,6 @@
 // Sums of a group's prices, and their greatest.
 
-ghost use Rattle.std.specs.Prelude.{◌≡◌, ◌⊎◌, ◌≤◌, ◌*◌, ◌^◌, pos, neg_ℤ, ◌+ℤ◌, ◌≤ℤ◌, length, All};
+ghost use Rattle.std.specs.Prelude.{◌≡◌, ◌≤◌, length, All};
 ghost use Rattle.plan_base.specs.NetPrices.{IsNetInRange, positive, positive_sum, price_sum, IsGreatestPrice};
 
 use plan_base::larger;

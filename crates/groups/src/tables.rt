@@ -4,7 +4,7 @@ ghost use Rattle.std.specs.Prelude.{◌≡◌, ℕ, ◌+◌, ◌≤◌, ◌<◌,
 ghost use Rattle.std.specs.Prelude.{[], length, replicate, cond, slice_index_or, slice_range, Some, IsTrue, IfOk};
 ghost use Rattle.std.specs.List.{list_all};
 ghost use Rattle.plan_base.specs.declared.parts.Op.TheVariants.{OneOf};
-ghost use Rattle.groups.specs.Tables.{AreTables, IsInTables, HasRoom, IsLeftOut, IsTakenUp, TellsMore, towards, same};
+ghost use Rattle.groups.specs.Tables.{AreTables, IsInTables, HasRoom, IsLeftOut, IsTakenUp, TellsMore, towards};
 
 use crate::footprint::Footprint;
 use plan_base::{Op, Snapshot};

@@ -1,5 +1,5 @@
 -- A table over the listing of a telescope's starts has its bests.
-use Rattle.std.proofs.Common.{◌≡◌, ℕ, suc, ◌+◌, ◌-◌, ◌<◌, ◌≤◌, inl, inr, ℤ, pos, ◌+ℤ◌, ◌-ℤ◌, ◌≤ℤ◌, List, length, slice_index_or, sym, ◌∙◌, ap, subst, arith}
+use Rattle.std.proofs.Common.{◌≡◌, ℕ, ◌+◌, ◌-◌, ◌<◌, ◌≤◌, ℤ, pos, ◌+ℤ◌, ◌-ℤ◌, List, length, slice_index_or, ◌∙◌, ap, arith}
 use Rattle.plan_base.specs.declared.parts.Parts.{Parts}
 use Rattle.plan_base.specs.declared.claim.Placement.{Placement}
 use Rattle.plan_base.specs.Requests.{listed, place_of}
@@ -12,7 +12,7 @@ use Rattle.plan_base.proofs.Limits.{worth_at_most}
 use Rattle.plan_base.specs.Tables.{slice_after, IsTable, IsRowStart, AreStartRows}
 use Rattle.interval_solver.specs.declared.start.Start.{Start}
 use Rattle.plan_base.specs.Tables.{entry}
-use Rattle.interval_solver.specs.Tables.{start_weight, gain, DoRowsFit, IsGreatestAt, IsRecursion}
+use Rattle.interval_solver.specs.Tables.{start_weight, gain, DoRowsFit, IsRecursion}
 use Rattle.interval_solver.specs.Listings.{IsToldBy, IsListing}
 
 module _ (s : Parts) (t : ℕ) (rows : List (List Start)) (orderly : IsOrderly s) (listing : IsListing s t (IsPossibleStart s) rows) where

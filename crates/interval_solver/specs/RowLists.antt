@@ -1,5 +1,5 @@
 -- Rows of starts, kept one after another in one list.
-use Rattle.std.specs.Prelude.{◌≡◌, ℕ, ◌≤◌, List, [], ◌∷◌, length, slice_range, slice_index_or}
+use Rattle.std.specs.Prelude.{◌≡◌, ℕ, ◌≤◌, List, [], ◌∷◌, length, slice_range}
 use Rattle.interval_solver.specs.declared.start.Start.{Start}
 
 -- the rows of which the first begins at a place, and each ends where the next begins

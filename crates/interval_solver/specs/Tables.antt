@@ -1,6 +1,6 @@
 -- Tables of numbers, one a slice, over rows of starts at prices.
-use Rattle.std.specs.Prelude.{◌≡◌, ℕ, ◌+◌, ◌*◌, ◌≤◌, ◌<◌, ◌^◌, ◌⊎◌, ℤ, pos, neg_ℤ, ◌+ℤ◌, ◌-ℤ◌, ◌≤ℤ◌}
-use Rattle.std.specs.Prelude.{List, [], length, slice_index_or, Contains}
+use Rattle.std.specs.Prelude.{◌≡◌, ℕ, ◌+◌, ◌*◌, ◌≤◌, ◌<◌, ℤ, pos, neg_ℤ, ◌-ℤ◌, ◌≤ℤ◌}
+use Rattle.std.specs.Prelude.{List, length, slice_index_or, Contains}
 use Rattle.plan_base.specs.Limits.{most_price, most_slices, most_value}
 use Rattle.plan_base.specs.Tables.{entry, row, gain_from, IsGreatestOf, IsRowTable}
 use Rattle.interval_solver.specs.declared.start.Start.{Start}

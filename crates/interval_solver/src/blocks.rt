@@ -1,6 +1,6 @@
 // Which starts stand for four, and which are left.
 
-ghost use Rattle.std.specs.Prelude.{◌≡◌, ◌+◌, ◌*◌, ◌/◌, ◌<◌, ◌≤◌, true, length, All, Contains, IfOk, OnOk};
+ghost use Rattle.std.specs.Prelude.{◌≡◌, ◌+◌, ◌*◌, ◌/◌, ◌≤◌, true, length, All, Contains, IfOk, OnOk};
 ghost use Rattle.plan_base.specs.Tables.{row};
 ghost use Rattle.interval_solver.specs.Blocks.{later, IsWholeAt, IsWholeIn, AreWholes, AreSinglesOf, AreSingles};
 

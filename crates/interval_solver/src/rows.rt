@@ -1,6 +1,6 @@
 // The rows of the telescopes of a snapshot.
 
-ghost use Rattle.std.specs.Prelude.{◌≡◌, ℕ, ◌<◌, length, slice_index_or, IfOk};
+ghost use Rattle.std.specs.Prelude.{◌≡◌, length, IfOk};
 ghost use Rattle.plan_base.specs.Starts.{IsPossibleStart};
 ghost use Rattle.snapshot_starts.specs.Runs.{AreAllStarts};
 ghost use Rattle.interval_solver.specs.Listings.{IsListing};

@@ -1,6 +1,6 @@
 // Starts, and how often each request is among them.
 
-ghost use Rattle.std.specs.Prelude.{◌≡◌, ◌<◌, ◌≤◌, ◌+◌, ◌^◌, [], ◌∷◌, ◌++◌, length, map, replicate, HoldsAt, IfOk};
+ghost use Rattle.std.specs.Prelude.{◌≡◌, ◌<◌, ◌^◌, [], ◌∷◌, ◌++◌, length, map, replicate, HoldsAt, IfOk};
 ghost use Rattle.plan_base.specs.Requests.{listed, place_of, IsKnown};
 ghost use Rattle.plan_base.specs.Round.{uses_of};
 ghost use Rattle.interval_solver.specs.Uses.{IsTally};

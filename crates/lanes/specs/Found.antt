@@ -1,5 +1,5 @@
 -- What rounds have found. Which rounds were made is a set of lanes and rounds.
-use Rattle.std.specs.Prelude.{◌≡◌, ℕ, ◌≤◌, ◌<◌, ◌⊎◌, Bool, nat_lt, if◌then◌else◌, ℤ, pos, ◌≤ℤ◌, List, [], length, replicate, All}
+use Rattle.std.specs.Prelude.{◌≡◌, ℕ, ◌≤◌, ◌<◌, ◌⊎◌, nat_lt, if◌then◌else◌, ℤ, pos, ◌≤ℤ◌, List, [], length, replicate, All}
 use Rattle.plan_base.specs.declared.parts.Parts.{Parts}
 use Rattle.plan_base.specs.declared.claim.Placement.{Placement}
 use Rattle.plan_base.specs.Limits.{most_quota_price}

@@ -19,7 +19,7 @@ use crate::worker::{LaneFound, Worker};
 use crate::worth::value_of;
 use board::{Board, BoardSeat};
 use interval_solver::Rows;
-use plan_base::{Claim, Outcome, Placement, Settings, Snapshot, Solved, Taken};
+use plan_base::{Claim, Outcome, Settings, Snapshot, Solved, Taken};
 use plan_io::Gate;
 use repair::greedy;
 use snapshot_starts::{StartFault, Starts, starts};

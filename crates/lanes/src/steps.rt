@@ -1,6 +1,6 @@
 // Lanes whose rounds are made in step.
 
-ghost use Rattle.std.specs.Prelude.{◌≡◌, ◌≢◌, ℕ, ◌+◌, ◌*◌, ◌≤◌, ◌<◌, [], length, All, HoldsAt, IfOk};
+ghost use Rattle.std.specs.Prelude.{◌≡◌, ◌≢◌, ℕ, ◌+◌, ◌*◌, ◌≤◌, ◌<◌, length, All, HoldsAt, IfOk};
 ghost use Rattle.plan_base.specs.Round.{greatest_value};
 ghost use Rattle.snapshot_starts.specs.Runs.{AreAllStarts};
 ghost use Rattle.interval_solver.specs.Solving.{AreRowsOf};

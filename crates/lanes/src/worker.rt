@@ -1,6 +1,6 @@
 // A worker, which takes lanes and makes their rounds.
 
-ghost use Rattle.std.specs.Prelude.{◌≡◌, ◌≢◌, ◌+◌, ◌<◌, ◌≤◌, ℕ, false, length, min, HoldsAt, IsTrue};
+ghost use Rattle.std.specs.Prelude.{◌≡◌, ◌+◌, ◌<◌, ◌≤◌, ℕ, false, length, min, HoldsAt, IsTrue};
 ghost use Rattle.board.specs.Seats.{view, IsSeatOf};
 ghost use Rattle.lanes.specs.Searched.{IsMetFor};
 ghost use Rattle.lanes.specs.Working.{IsLook};
@@ -57,7 +57,6 @@ impl<'a, const L: usize> Worker<'a, L> {
       IsSameWorker,
       AreFresh,
       HasMade,
-      AreStoppedStill,
       IsNoneLeft,
       IsNextMade,
       IsStopped,

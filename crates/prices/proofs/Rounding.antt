@@ -1,18 +1,17 @@
 -- From what is written place by place to all prices after a round.
-use Rattle.std.proofs.Common.{◌≡◌, ℕ, ◌<◌, ◌≤◌, ◌⊎◌, inl, inr, Bool, false, ℤ, pos, ◌-ℤ◌, ◌≤ℤ◌, unsigned_abs, List, length, map, slice_index_or, Option, None, All, sym, ◌∙◌, ap, subst, arith}
+use Rattle.std.proofs.Common.{◌≡◌, ℕ, ◌<◌, ◌≤◌, ◌⊎◌, Bool, false, ℤ, pos, ◌≤ℤ◌, unsigned_abs, List, length, slice_index_or, All, sym, ◌∙◌, ap, subst, arith}
 use Rattle.std.specs.Int.{int_max}
 use Rattle.std.specs.List.{enumerate_from}
 use Rattle.std.proofs.lemmas.Int.{ints, int_max_is}
-use Rattle.std.proofs.lemmas.List.{length-map, get_or-map, get_or_past, ext_get_or}
+use Rattle.std.proofs.lemmas.List.{length-map, get_or-map, ext_get_or}
 use Rattle.std.proofs.lemmas.List.FromFn.{length-map-range_with_len, get_or-map-range_with_len, length-enumerate_from, get_or-enumerate_from}
 use Rattle.plan_base.specs.declared.parts.Parts.{Parts}
 use Rattle.plan_base.specs.declared.claim.Placement.{Placement}
-use Rattle.plan_base.specs.Requests.{Listed, listed, place_of, known_or, seconds_of}
+use Rattle.plan_base.specs.Requests.{listed}
 use Rattle.plan_base.specs.Snapshot.{IsOrderly}
-use Rattle.plan_base.specs.Bound.{price, quota_cost, net_price}
+use Rattle.plan_base.specs.Bound.{price, net_price}
 use Rattle.plan_base.specs.Verdict.{IsPriceInRange}
 use Rattle.plan_base.specs.Round.{is_taken, uses_of, demand_of, moved_price, moved_quota_price, next_prices, next_quota_prices}
-use Rattle.plan_base.proofs.Known.{IsListedAs, known_as}
 use Rattle.plan_base.specs.NetPrices.{net_prices}
 use Rattle.groups.proofs.Runs.{number_of, place_at}
 use Rattle.prices.specs.Rounds.{number_at, AreUses, stepped_price, step_size, prices_after}

@@ -1,5 +1,5 @@
 -- What the loops over numbers keep.
-use Rattle.std.proofs.Common.{◌≡◌, ℕ, ◌+◌, ◌*◌, ◌^◌, ◌<◌, ℤ, pos, negsuc, neg_ℤ, w64, ◌+ℤ◌, ◌≤ℤ◌, List, length, drop, slice_index_or, All, arith}
+use Rattle.std.proofs.Common.{◌≡◌, ℕ, ◌+◌, ◌^◌, ◌<◌, ℤ, pos, negsuc, w64, ◌+ℤ◌, ◌≤ℤ◌, List, length, drop, slice_index_or, All, arith}
 use Rattle.std.proofs.lemmas.Int.{ints}
 use Rattle.std.proofs.lemmas.List.{at_drop_more}
 use Rattle.std.proofs.lemmas.List.Elements.{All-drop}

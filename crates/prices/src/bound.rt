@@ -1,6 +1,6 @@
 // The bound that prices give.
 
-ghost use Rattle.std.specs.Prelude.{◌≡◌, ◌^◌, ◌*◌, ℤ, pos, ◌+ℤ◌, ◌≤ℤ◌, All};
+ghost use Rattle.std.specs.Prelude.{◌≡◌, ℤ, pos, ◌+ℤ◌, ◌≤ℤ◌, All};
 ghost use Rattle.plan_base.specs.Limits.{bound_limit};
 ghost use Rattle.plan_base.specs.Sums.{total};
 

@@ -14,10 +14,9 @@ use Rattle.plan_base.specs.Snapshot.{IsOrderly}
 use Rattle.plan_base.specs.Starts.{slices_for, least_of, faded, worth_at, value_of_plan}
 use Rattle.std.proofs.lemmas.List.Sums.{sum_by-drop_more}
 use Rattle.plan_base.proofs.Known.{known_as}
-use Rattle.plan_base.proofs.Here.{IsHere, request_here, element_at, place_at}
+use Rattle.plan_base.proofs.Here.{IsHere, request_here}
 use Rattle.repair.specs.declared.offers.Offer.{Offer}
-use Rattle.repair.specs.declared.offers.Offers.{Offers}
-use Rattle.repair.specs.Worths.{IsOffer, IsOfferOf, AreOffersOf, AreOffers}
+use Rattle.repair.specs.Worths.{IsOffer, IsOfferOf, AreOffersOf}
 
 last_or_before : (j i : ℕ) → j < i + 1 → (j ≡ i) ⊎ (j < i)
 last_or_before j i h = grind arith

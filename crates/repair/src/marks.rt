@@ -1,7 +1,7 @@
 // Marks at the slots that a plan occupies. The mark of a slot is the slot after the last of the placement that occupies
 // it, so a search goes past a placement in one step; a free slot has the mark 0.
 
-ghost use Rattle.std.specs.Prelude.{◌≡◌, ℕ, ◌+◌, ◌≤◌, ◌<◌, ◌&&◌, ◌^◌, nat_le, nat_lt, length, replicate, cond, slice_index_or, IfOk, MatchOption};
+ghost use Rattle.std.specs.Prelude.{◌≡◌, ℕ, ◌+◌, ◌≤◌, ◌<◌, ◌&&◌, nat_le, nat_lt, length, replicate, cond, slice_index_or, IfOk, MatchOption};
 ghost use Rattle.repair.specs.Marks.{IsMarkWithin, IsClear, IsFirstClear, AreSkips};
 
 use std::alloc::{AllocError, Global};

@@ -1,6 +1,6 @@
 // The order in which groups, and the requests of a ONEOF, are tried.
 
-ghost use Rattle.std.specs.Prelude.{◌≡◌, length, map, IfOk};
+ghost use Rattle.std.specs.Prelude.{◌≡◌, map, IfOk};
 ghost use Rattle.repair.specs.Orders.{AreRanks, IsFallingOrder};
 
 use std::alloc::{AllocError, Global};

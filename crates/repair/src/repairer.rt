@@ -1,6 +1,6 @@
 // Plans that are made of the starts that prices give.
 
-ghost use Rattle.std.specs.Prelude.{◌≡◌, [], length, replicate, All, None, IfOk};
+ghost use Rattle.std.specs.Prelude.{◌≡◌, [], length, All, IfOk};
 ghost use Rattle.plan_base.specs.Starts.{IsPossibleStart, value_of_plan};
 ghost use Rattle.plan_base.specs.Feasible.{IsDisjoint, IsFeasible};
 ghost use Rattle.plan_base.specs.Saturated.{IsSaturated};

@@ -1,6 +1,6 @@
 // What the slices that were found give: their count, and their runs.
 
-ghost use Rattle.std.specs.Prelude.{◌≡◌, ◌++◌, ◌≤◌, length, map, sum_by, All, IfOk, OnOk};
+ghost use Rattle.std.specs.Prelude.{◌≡◌, ◌++◌, ◌≤◌, map, sum_by, All, IfOk, OnOk};
 ghost use Rattle.plan_base.specs.Limits.{most_slices};
 ghost use Rattle.snapshot_starts.specs.Found.{AreFew, AreRunSpans, IsRunSpan, slice_count, run_of, runs_of};
 

@@ -1,9 +1,9 @@
 // One observation, by the seconds that it takes.
 
-ghost use Rattle.std.specs.Prelude.{◌≡◌, ◌+◌, ◌*◌, ◌≤◌, ◌<◌, ◌↔◌, IsTrue, Any, All};
-ghost use Rattle.plan_base.specs.Snapshot.{IsSortedApart, IsInRanges};
+ghost use Rattle.std.specs.Prelude.{◌≡◌, ◌+◌, ◌*◌, ◌↔◌, IsTrue, Any, All};
+ghost use Rattle.plan_base.specs.Snapshot.{IsSortedApart};
 ghost use Rattle.plan_base.specs.BySpans.{HasAll};
-ghost use Rattle.plan_base.specs.Skies.{SkiesRise, IsSkyOf};
+ghost use Rattle.plan_base.specs.Skies.{SkiesRise};
 
 use plan_base::{Sec, SiteNo, Sky, SliceNo, Span, TargetNo, sky_of};
 

@@ -1,6 +1,6 @@
 // Each request with each of its telescopes.
 
-ghost use Rattle.std.specs.Prelude.{◌≡◌, ◌++◌, IfOk, OnOk, All, map};
+ghost use Rattle.std.specs.Prelude.{◌≡◌, ◌++◌, IfOk, OnOk};
 ghost use Rattle.snapshot_starts.specs.Pairs.{pairs_of, pairs_of_request, ArePairSlices};
 
 use crate::slices::start_slices;

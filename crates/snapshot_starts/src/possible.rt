@@ -1,11 +1,11 @@
 // Whether a placement is a possible start.
 
-ghost use Rattle.std.specs.Prelude.{◌≡◌, ◌+◌, ◌*◌, ◌≤◌, ◌<◌, ◌↔◌, IsTrue, All};
+ghost use Rattle.std.specs.Prelude.{◌≤◌, ◌↔◌, IsTrue, All};
 ghost use Rattle.plan_base.specs.Limits.{most_seconds};
 ghost use Rattle.plan_base.specs.Snapshot.{IsOrderly, IsSortedApart};
 ghost use Rattle.plan_base.specs.Starts.{IsPossibleStart};
 ghost use Rattle.snapshot_starts.specs.Pairs.{IsTimely, IsOpen, CanStart};
-ghost use Rattle.plan_base.specs.BySpans.{HasAll, IsVisibleThrough};
+ghost use Rattle.plan_base.specs.BySpans.{IsVisibleThrough};
 
 use crate::observation::{is_visible, lies_in_any, lies_in_sorted, times_of};
 use crate::telescope::{is_able, telescope_at};

@@ -1,6 +1,6 @@
 // Sets of slices, kept as sets of seconds are: the numbers of their spans are slices.
 
-ghost use Rattle.std.specs.Prelude.{◌≡◌, ℕ, ◌+◌, ◌*◌, ◌≤◌, ◌<◌, ◌↔◌, IsTrue, IfOk, All};
+ghost use Rattle.std.specs.Prelude.{ℕ, ◌+◌, ◌*◌, ◌≤◌, ◌<◌, ◌↔◌, IsTrue, IfOk, All};
 ghost use Rattle.plan_base.specs.Limits.{most_seconds};
 ghost use Rattle.plan_base.specs.Snapshot.{IsOrderly, IsSortedApart};
 ghost use Rattle.plan_base.specs.BySpans.{HasAll, IsVisibleThrough};

@@ -1,6 +1,6 @@
 // What groups of each kind give and take.
 
-ghost use Rattle.std.specs.Prelude.{◌≡◌, ◌↔◌, IsTrue, All};
+ghost use Rattle.std.specs.Prelude.{◌↔◌, IsTrue, All};
 ghost use Rattle.plan_base.specs.NetPrices.{IsNetInRange};
 
 use super::desk::{WISH, snapshot_of};

@@ -5,7 +5,7 @@ ghost use Rattle.snapshot_starts.specs.Runs.{AreAllStarts};
 use interval_solver::Rows;
 use lanes::Lane;
 use plan_base::Snapshot;
-use samples::{ONE, Sample, TWO};
+use samples::{Sample, TWO};
 use snapshot_starts::{Starts, starts};
 use std::alloc::Global;
 use std::process::Abort;

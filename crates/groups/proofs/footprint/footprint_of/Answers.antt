@@ -1,4 +1,4 @@
-use Rattle.std.proofs.Common.{◌≡◌, refl, ap, ◌∙◌, slice_index_or, List}
+use Rattle.std.proofs.Common.{refl, ap, ◌∙◌, slice_index_or, List}
 use Rattle.plan_base.specs.declared.parts.Parts.{Parts}
 use Rattle.plan_base.specs.declared.parts.GroupPart.{GroupPart}
 use Rattle.groups.proofs.Footed.{seconds_here, group_here, quota_here}
