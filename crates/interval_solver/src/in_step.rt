@@ -67,12 +67,20 @@ fn walk_all<const L: usize>(
     requires range { All (IsForLanes L IsPriceInRange) prices.now }
     requires length { length table.now ≡ length rows.now + 1 }
     requires entries { All (IsForLanes L IsEntry) table.now }
-    requires recursion { (l : ℕ) → l < L → IsRecursion rows.now (lane l prices.now) (lane l table.now) }
+    requires recursion { (place : ℕ) → place < L → IsRecursion rows.now (lane place prices.now) (lane place table.now) }
     requires each { length uses.old ≡ L }
     requires uses { All (HasRoom snapshot.now) uses.old }
     ensures { AreAllUsesMore snapshot.now telescope.0 L prices.now uses.old uses.new }
 {
-    for l in 0..L {
-        walk(snapshot, telescope, rows, prices, table, l, &mut uses[l]);
+    for place in 0..L {
+        walk(
+            snapshot,
+            telescope,
+            rows,
+            prices,
+            table,
+            place,
+            &mut uses[place],
+        );
     }
 }

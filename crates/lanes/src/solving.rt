@@ -23,36 +23,36 @@ pub(crate) fn write_lanes<const L: usize>(lanes: &[LanePrices], into: &mut [[i64
     requires long { All (IsAsLong L) into.old }
     ensures count { length into.new ≡ length into.old }
     ensures range { All (IsForLanes L IsPriceInRange) into.new }
-    ensures prices { (l : ℕ) (d : LanePrices) → l < L → lane l into.new ≡ (slice_index_or lanes.now l d).prices.0 }
+    ensures prices { (place : ℕ) (d : LanePrices) → place < L → lane place into.new ≡ (slice_index_or lanes.now place d).prices.0 }
 {
-    for l in 0..L {
-        write_lane(&lanes[l].prices, l, into);
+    for place in 0..L {
+        write_lane(&lanes[place].prices, place, into);
     }
 }
 
 /// Writes the prices of a lane among those of all.
-fn write_lane<const L: usize>(prices: &Prices, l: usize, into: &mut [[i64; L]])
-    requires lane { l < L }
+fn write_lane<const L: usize>(prices: &Prices, place: usize, into: &mut [[i64; L]])
+    requires lane { place < L }
     requires count { length prices.now.0 ≡ length into.old }
     requires long { All (IsAsLong L) into.old }
     ensures count { length into.new ≡ length into.old }
     ensures long { All (IsAsLong L) into.new }
-    ensures here { lane l into.new ≡ prices.now.0 }
-    ensures others { (k : ℕ) → k ≢ l → lane k into.new ≡ lane k into.old }
+    ensures here { lane place into.new ≡ prices.now.0 }
+    ensures others { (k : ℕ) → k ≢ place → lane k into.new ≡ lane k into.old }
 {
     let prices = prices.0.as_slice();
-    for place in 0..prices.len() {
-        into[place][l] = prices[place];
+    for request in 0..prices.len() {
+        into[request][place] = prices[request];
     }
 }
 
 /// Takes out all that was started.
 pub(crate) fn clear_uses(uses: &mut [Uses<'_>])
     ensures count { length uses.new ≡ length uses.old }
-    ensures each { (l : ℕ) (d : Started) → l < length uses.old → IsCleared (slice_index_or uses.old l d) (slice_index_or uses.new l d) }
+    ensures each { (place : ℕ) (d : Started) → place < length uses.old → IsCleared (slice_index_or uses.old place d) (slice_index_or uses.new place d) }
 {
-    for l in 0..uses.len() {
-        uses[l].clear();
+    for place in 0..uses.len() {
+        uses[place].clear();
     }
 }
 
@@ -81,7 +81,7 @@ pub(crate) fn solve_telescopes<const L: usize>(
     ensures long { All (IsAsLong L) bests.new }
     ensures each { length uses.new ≡ length uses.old }
     ensures uses { All (IsRoomy snapshot.now) uses.new }
-    ensures solved { (l : ℕ) (u : Started) → l < L → IsSolved snapshot.now (lane l prices.now) (slice_index_or uses.new l u).starts (lane l bests.new) }
+    ensures solved { (place : ℕ) (u : Started) → place < L → IsSolved snapshot.now (lane place prices.now) (slice_index_or uses.new place u).starts (lane place bests.new) }
 {
     for telescope in 0..snapshot.parts().telescopes.len() {
         bests[telescope] = rows[telescope].solve(prices, table, uses);
@@ -89,13 +89,13 @@ pub(crate) fn solve_telescopes<const L: usize>(
 }
 
 /// Copies the numbers of a lane out of those of all.
-pub(crate) fn copy_lane<const L: usize>(from: &[[i64; L]], l: usize, into: &mut [i64])
-    requires lane { l < L }
+pub(crate) fn copy_lane<const L: usize>(from: &[[i64; L]], place: usize, into: &mut [i64])
+    requires lane { place < L }
     requires count { length into.old ≡ length from.now }
     requires long { All (IsAsLong L) from.now }
-    ensures { into.new ≡ lane l from.now }
+    ensures { into.new ≡ lane place from.now }
 {
-    for place in 0..from.len() {
-        into[place] = from[place][l];
+    for row in 0..from.len() {
+        into[row] = from[row][place];
     }
 }

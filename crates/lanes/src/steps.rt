@@ -92,20 +92,20 @@ impl<'a, const L: usize> Steps<'a, L> {
     }
 
     /// Begins a lane, below 8, as one of those in step: its prices are all 0, and no round was made.
-    pub(crate) fn begin(&mut self, l: usize, lane: u32)
-        requires l { l < L }
+    pub(crate) fn begin(&mut self, place: usize, lane: u32)
+        requires place { place < L }
         requires lane { lane < 8 }
         ensures same_snapshot { self.new.snapshot ≡ self.old.snapshot }
-        ensures begun { IsLaneNow self.old.snapshot l lane 0 self.old.lanes self.new.lanes }
+        ensures begun { IsLaneNow self.old.snapshot place lane 0 self.old.lanes self.new.lanes }
     {
-        self.lanes[l].begin(lane);
+        self.lanes[place].begin(lane);
     }
 
     /// Solves all telescopes at the prices of all lanes.
     pub(crate) fn solve(&mut self)
         ensures same_snapshot { self.new.snapshot ≡ self.old.snapshot }
         ensures lanes { self.new.lanes ≡ self.old.lanes }
-        ensures solved { (l : ℕ) → l < L → IsSolvedAt self.new l }
+        ensures solved { (place : ℕ) → place < L → IsSolvedAt self.new place }
     {
         write_lanes(self.lanes.as_slice(), self.prices.as_mut_slice());
         clear_uses(self.uses.as_mut_slice());
@@ -120,21 +120,21 @@ impl<'a, const L: usize> Steps<'a, L> {
     }
 
     /// What a lane's round gives, whose telescopes were solved.
-    pub(crate) fn answer(&mut self, l: usize) -> RoundAnswer
-        requires l { l < L }
-        requires solved { IsSolvedAt self.old l }
+    pub(crate) fn answer(&mut self, place: usize) -> RoundAnswer
+        requires place { place < L }
+        requires solved { IsSolvedAt self.old place }
         ensures same_snapshot { self.new.snapshot ≡ self.old.snapshot }
         ensures lanes { self.new.lanes ≡ self.old.lanes }
         ensures solved { (k : ℕ) → IsSolvedAt self.old k → IsSolvedAt self.new k }
-        ensures answer { HoldsAt (λ lane. IsAnswer self.old.snapshot lane result.bound result.value self.new.plan) self.old.lanes l }
+        ensures answer { HoldsAt (λ lane. IsAnswer self.old.snapshot lane result.bound result.value self.new.plan) self.old.lanes place }
     {
-        copy_lane(self.bests.as_slice(), l, self.sums.bests.as_mut_slice());
-        let lane = &self.lanes[l];
+        copy_lane(self.bests.as_slice(), place, self.sums.bests.as_mut_slice());
+        let lane = &self.lanes[place];
         let bound = self
             .sums
             .bound(self.snapshot, &lane.prices, &lane.quota_prices);
         weak_duality(self.snapshot, &lane.prices, &lane.quota_prices);
-        let value = self.repairer.run(self.uses[l].starts());
+        let value = self.repairer.run(self.uses[place].starts());
         RoundAnswer { bound, value }
     }
 
@@ -146,27 +146,27 @@ impl<'a, const L: usize> Steps<'a, L> {
     }
 
     /// The prices of a lane's next round.
-    pub(crate) fn lane(&self, l: usize) -> &LanePrices
-        requires { l < L }
-        ensures at { HoldsAt (λ lane. lane ≡ result.now) self.now.lanes l }
+    pub(crate) fn lane(&self, place: usize) -> &LanePrices
+        requires { place < L }
+        ensures at { HoldsAt (λ lane. lane ≡ result.now) self.now.lanes place }
         ensures is_lane { IsLane self.now.snapshot result.now }
     {
-        &self.lanes[l]
+        &self.lanes[place]
     }
 
     /// Moves the prices of a lane on, after its telescopes were solved.
-    pub(crate) fn advance(&mut self, l: usize)
-        requires l { l < L }
-        requires solved { IsSolvedAt self.old l }
-        requires made { HoldsAt (λ lane. lane.made < 256) self.old.lanes l }
+    pub(crate) fn advance(&mut self, place: usize)
+        requires place { place < L }
+        requires solved { IsSolvedAt self.old place }
+        requires made { HoldsAt (λ lane. lane.made < 256) self.old.lanes place }
         ensures same_snapshot { self.new.snapshot ≡ self.old.snapshot }
-        ensures next { HoldsAt (λ lane. IsLaneNow self.old.snapshot l lane.lane (lane.made + 1) self.old.lanes self.new.lanes) self.old.lanes l }
-        ensures solved { (k : ℕ) → k ≢ l → IsSolvedAt self.old k → IsSolvedAt self.new k }
+        ensures next { HoldsAt (λ lane. IsLaneNow self.old.snapshot place lane.lane (lane.made + 1) self.old.lanes self.new.lanes) self.old.lanes place }
+        ensures solved { (k : ℕ) → k ≢ place → IsSolvedAt self.old k → IsSolvedAt self.new k }
     {
-        self.lanes[l].advance(
+        self.lanes[place].advance(
             self.snapshot,
             self.greatest_value,
-            &self.uses[l],
+            &self.uses[place],
             &mut self.sums.net,
         );
     }

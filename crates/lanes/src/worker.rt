@@ -180,9 +180,9 @@ impl<'a, const L: usize> Worker<'a, L> {
         ensures claims { (view self.new.seat).claims ≡ (view self.old.seat).claims }
     {
         self.steps.solve();
-        for l in 0..self.taken {
-            if !self.lanes[l].stopped {
-                self.make_round_of(board, l, round, way);
+        for place in 0..self.taken {
+            if !self.lanes[place].stopped {
+                self.make_round_of(board, place, round, way);
             }
         }
         self.have_all_stopped()
@@ -199,22 +199,22 @@ impl<'a, const L: usize> Worker<'a, L> {
     }
 
     /// Makes a lane's round, and sees whether further ones are of use.
-    fn make_round_of<W: Way>(&mut self, board: &Board, l: usize, round: u32, way: &W)
+    fn make_round_of<W: Way>(&mut self, board: &Board, place: usize, round: u32, way: &W)
         requires seat { IsSeatOf board.now self.old.seat }
         requires working { IsWorking L self.old }
-        requires l { l < self.old.taken }
-        requires solved { IsSolvedAt self.old.steps l }
-        requires made { HoldsAt (λ lane. lane.made < self.old.settings.rounds) self.old.steps.lanes l }
+        requires place { place < self.old.taken }
+        requires solved { IsSolvedAt self.old.steps place }
+        requires made { HoldsAt (λ lane. lane.made < self.old.settings.rounds) self.old.steps.lanes place }
         ensures seat { IsSeatOf board.now self.new.seat }
         ensures working { IsWorking L self.new }
-        ensures next { IsNextMade L l self.old self.new }
+        ensures next { IsNextMade L place self.old self.new }
     {
         let point = Point::AfterRound {
             worker: self.number,
-            lane: self.steps.lane(l).lane,
+            lane: self.steps.lane(place).lane,
             round,
         };
-        self.find(board, l);
+        self.find(board, place);
         way.reach(point);
         if have_met(board, &mut self.seat) {
             self.stop_lanes();
@@ -222,22 +222,22 @@ impl<'a, const L: usize> Worker<'a, L> {
     }
 
     /// Finds what a lane's round gives, and tells the board of it.
-    fn find(&mut self, board: &Board, l: usize)
+    fn find(&mut self, board: &Board, place: usize)
         requires seat { IsSeatOf board.now self.old.seat }
         requires working { IsWorking L self.old }
-        requires l { l < self.old.taken }
-        requires solved { IsSolvedAt self.old.steps l }
-        requires made { HoldsAt (λ lane. lane.made < self.old.settings.rounds) self.old.steps.lanes l }
+        requires place { place < self.old.taken }
+        requires solved { IsSolvedAt self.old.steps place }
+        requires made { HoldsAt (λ lane. lane.made < self.old.settings.rounds) self.old.steps.lanes place }
         ensures seat { IsSeatOf board.now self.new.seat }
         ensures working { IsWorking L self.new }
-        ensures next { IsNextMade L l self.old self.new }
+        ensures next { IsNextMade L place self.old self.new }
     {
-        let answer = self.steps.answer(l);
-        let prices = self.steps.lane(l);
-        let found = &mut self.lanes[l].found;
+        let answer = self.steps.answer(place);
+        let prices = self.steps.lane(place);
+        let found = &mut self.lanes[place].found;
         found.lower(answer.bound, &prices.prices, &prices.quota_prices);
         found.raise(answer.value, self.steps.plan());
-        self.steps.advance(l);
+        self.steps.advance(place);
         board.lower(&mut self.seat, answer.bound);
         board.raise(&mut self.seat, answer.value);
     }
@@ -250,42 +250,42 @@ impl<'a, const L: usize> Worker<'a, L> {
         ensures working { IsWorking L self.new }
         ensures stopped { IsStopped L self.old self.new }
     {
-        for l in 0..self.taken {
-            self.stop_lane(l);
+        for place in 0..self.taken {
+            self.stop_lane(place);
         }
     }
 
     /// Stops a lane in step, if no further round of it is of use.
-    fn stop_lane(&mut self, l: usize)
+    fn stop_lane(&mut self, place: usize)
         requires working { IsWorking L self.old }
         requires met { IsMetFor (view self.old.seat) }
-        requires l { l < self.old.taken }
+        requires place { place < self.old.taken }
         ensures working { IsWorking L self.new }
         ensures stopped { IsStopped L self.old self.new }
     {
-        if self.may_stop(l) {
-            self.lanes[l].stopped = true;
+        if self.may_stop(place) {
+            self.lanes[place].stopped = true;
         }
     }
 
     /// Whether no further round of a lane in step is of use, where bound and value of the board have met.
-    fn may_stop(&self, l: usize) -> bool
+    fn may_stop(&self, place: usize) -> bool
         requires working { IsWorking L self.now }
-        requires l { l < self.now.taken }
-        ensures { IsTrue result → self.now.settings.workers ≡ 1 → HasMetAt self.now.found self.now.lanes.items l }
+        requires place { place < self.now.taken }
+        ensures { IsTrue result → self.now.settings.workers ≡ 1 → HasMetAt self.now.found self.now.lanes.items place }
     {
-        self.settings.workers > 1 || self.has_met(l)
+        self.settings.workers > 1 || self.has_met(place)
     }
 
     /// Whether the bound that lanes up to one in step have found is their value.
-    fn has_met(&self, l: usize) -> bool
+    fn has_met(&self, place: usize) -> bool
         requires working { IsWorking L self.now }
-        requires l { l < self.now.taken }
-        ensures { IsTrue result → HasMetAt self.now.found self.now.lanes.items l }
+        requires place { place < self.now.taken }
+        ensures { IsTrue result → HasMetAt self.now.found self.now.lanes.items place }
     {
         let mut bound = self.found.bound();
         let mut value = self.found.value();
-        for lane in &self.lanes.as_slice()[..l + 1] {
+        for lane in &self.lanes.as_slice()[..place + 1] {
             bound = bound.min(lane.found.bound());
             value = value.max(lane.found.value());
         }
@@ -299,8 +299,8 @@ impl<'a, const L: usize> Worker<'a, L> {
         ensures working { IsWorking L self.new }
         ensures rest { self.new ≡ record self.old { found = self.new.found; taken = 0 } }
     {
-        for l in 0..self.taken {
-            self.found.take(&self.lanes[l].found);
+        for place in 0..self.taken {
+            self.found.take(&self.lanes[place].found);
         }
         self.taken = 0;
     }

@@ -15,8 +15,8 @@ pub(crate) fn count_starts(found: &[PairSlices]) -> u64
     ensures { result ≡ sum_by (λ x. slice_count x.slices) found.now }
 {
     let mut count = 0;
-    for x in found {
-        count += count_slices(x.slices.list());
+    for pair_slices in found {
+        count += count_slices(pair_slices.slices.list());
     }
     count
 }
@@ -39,8 +39,8 @@ pub(crate) fn runs_of(alloc: Global, found: &[PairSlices]) -> Result<Vec<Run>, A
     ensures { IfOk result (λ runs. runs.items ≡ runs_of found.now) }
 {
     let mut runs = Vec::new(alloc);
-    for x in found {
-        push_runs(&mut runs, x.pair, x.slices.list())?;
+    for pair_slices in found {
+        push_runs(&mut runs, pair_slices.pair, pair_slices.slices.list())?;
     }
     Ok(runs)
 }

@@ -2,5 +2,5 @@ use Rattle.std.proofs.Common.{rules, ◌≡◌, ◌+◌, ◌<◌, ◌≤◌, ℕ
 use Rattle.interval_solver.proofs.Stepping.{next_room, walked_more}
 use Rattle.interval_solver.proofs.in_step.walk_all.Goals as goal
 
-pub loop-l-init : goal.loop-l-init
-loop-l-init g c = record { count = refl; each = λ l d h. absurd (omega arith); kept = λ l d h. refl }
+pub loop-place-init : goal.loop-place-init
+loop-place-init g c = record { count = refl; each = λ l d h. absurd (omega arith); kept = λ l d h. refl }

@@ -39,19 +39,19 @@ module _ (w : ℕ) (a p t : ℤ) (h : w ≤ 288000000) (is : a ≡ pos w) (price
 pub overflow_sub-result : goal.overflow_sub-result
 overflow_sub-result g c =
     difference_fits c.args.start.worth c.from.result c.number_at-price.result c.number_at-after.result c.requires.worth c.from.ensures
-    (read_is g.row.L IsPriceInRange c.args.prices.now c.args.start.place c.args.of c.number_at-price.result c.requires.lane c.requires.place c.number_at-price.ensures c.requires.prices)
-    (read_is g.row.L IsEntry c.args.table.now c.args.start.after c.args.of c.number_at-after.result c.requires.lane c.requires.after c.number_at-after.ensures c.requires.entries)
+    (read_is g.row.L IsPriceInRange c.args.prices.now c.args.start.place c.args.lane_place c.number_at-price.result c.requires.lane c.requires.place c.number_at-price.ensures c.requires.prices)
+    (read_is g.row.L IsEntry c.args.table.now c.args.start.after c.args.lane_place c.number_at-after.result c.requires.lane c.requires.after c.number_at-after.ensures c.requires.entries)
 
 pub overflow_add-result : goal.overflow_add-result
 overflow_add-result g c =
     gain_fits c.args.start.worth c.from.result c.number_at-price.result c.number_at-after.result c.requires.worth c.from.ensures
-    (read_is g.row.L IsPriceInRange c.args.prices.now c.args.start.place c.args.of c.number_at-price.result c.requires.lane c.requires.place c.number_at-price.ensures c.requires.prices)
-    (read_is g.row.L IsEntry c.args.table.now c.args.start.after c.args.of c.number_at-after.result c.requires.lane c.requires.after c.number_at-after.ensures c.requires.entries)
+    (read_is g.row.L IsPriceInRange c.args.prices.now c.args.start.place c.args.lane_place c.number_at-price.result c.requires.lane c.requires.place c.number_at-price.ensures c.requires.prices)
+    (read_is g.row.L IsEntry c.args.table.now c.args.start.after c.args.lane_place c.number_at-after.result c.requires.lane c.requires.after c.number_at-after.ensures c.requires.entries)
 
 pub returns : goal.returns
 returns g c =
     gain_is c.args.start.worth c.from.result c.number_at-price.result c.number_at-after.result c.requires.worth c.from.ensures
-    (read_is g.row.L IsPriceInRange c.args.prices.now c.args.start.place c.args.of c.number_at-price.result c.requires.lane c.requires.place c.number_at-price.ensures c.requires.prices)
-    (read_is g.row.L IsEntry c.args.table.now c.args.start.after c.args.of c.number_at-after.result c.requires.lane c.requires.after c.number_at-after.ensures c.requires.entries)
+    (read_is g.row.L IsPriceInRange c.args.prices.now c.args.start.place c.args.lane_place c.number_at-price.result c.requires.lane c.requires.place c.number_at-price.ensures c.requires.prices)
+    (read_is g.row.L IsEntry c.args.table.now c.args.start.after c.args.lane_place c.number_at-after.result c.requires.lane c.requires.after c.number_at-after.ensures c.requires.entries)
     ∙ ap (λ (p : ℤ). (pos c.args.start.worth -ℤ p) +ℤ c.number_at-after.result) c.number_at-price.ensures
-    ∙ ap (λ (t : ℤ). (pos c.args.start.worth -ℤ slice_index_or (lane c.args.of c.args.prices.now) c.args.start.place (pos 0)) +ℤ t) c.number_at-after.ensures
+    ∙ ap (λ (t : ℤ). (pos c.args.start.worth -ℤ slice_index_or (lane c.args.lane_place c.args.prices.now) c.args.start.place (pos 0)) +ℤ t) c.number_at-after.ensures

@@ -1,5 +1,5 @@
 use Rattle.lanes.proofs.Written.{IsWrittenTo}
 use Rattle.lanes.proofs.solving.write_lane.Given as goal
 
-abbrev pub invariant-loop-place : goal.invariant-loop-place
-invariant-loop-place g l = IsWrittenTo g.row.L l.l l.place l.prices l.fn.into l.into
+abbrev pub invariant-loop-request : goal.invariant-loop-request
+invariant-loop-request g l = IsWrittenTo g.row.L l.place l.request l.prices l.fn.into l.into

@@ -23,7 +23,7 @@ raise-requires g c =
 pub returns-clause-working : goal.returns-clause-working
 returns-clause-working g c =
     let w = c.args.self.now in
-    let l = c.args.l in
+    let l = c.args.place in
     let s = w.steps.snapshot in
     let x = c.lane-prices.result.now in
     let mid = c.answer-answer.new.self in
@@ -53,7 +53,7 @@ returns-clause-working g c =
           (All-set (λ z. ArePrices s z.found.prices z.found.quota_prices) w.lanes.items l y prices c.requires.working.equipped.prices) c.requires.working.equipped.taken
           (ap (λ (v : SeatView). v.seats) told) (ap (λ (v : SeatView). v.tickets) told);
       in_step = in_step_found s c.advance.new.self.snapshot w.settings w.opening (view w.seat) (view c.raise-2.new.seat) w.found w.steps.lanes c.advance.new.self.lanes w.lanes.items w.taken l x y
-          bound value c.lower-2.result c.raise-2.result mid.plan c.requires.working.in_step c.requires.working.equipped.orderly same c.requires.l (omega arith) (omega arith) at left a next told
+          bound value c.lower-2.result c.raise-2.result mid.plan c.requires.working.in_step c.requires.working.equipped.orderly same c.requires.place (omega arith) (omega arith) at left a next told
           (ap (λ (z : LaneFound). z.stopped) (sym old)) found;
     }
 
@@ -63,13 +63,13 @@ advance-requires g c =
     let mid = c.answer-answer.new.self in
     let few = c.requires.working.equipped.rounds in
     let fits = lanes_fit g.row.L w c.requires.working in
-    let lt : c.args.l < g.row.L = (let n = c.requires.working.equipped.prices_count in let l = c.requires.l in omega arith) in (
+    let lt : c.args.place < g.row.L = (let n = c.requires.working.equipped.prices_count in let l = c.requires.place in omega arith) in (
       lit< tt,
       (
         lt,
         (
-          c.answer-answer.ensures.solved c.args.l c.requires.solved,
-          λ d. (let m = c.requires.made d in let e = ap (λ (xs : List LanePrices). (slice_index_or xs c.args.l d).made) c.answer-answer.ensures.lanes in omega arith),
+          c.answer-answer.ensures.solved c.args.place c.requires.solved,
+          λ d. (let m = c.requires.made d in let e = ap (λ (xs : List LanePrices). (slice_index_or xs c.args.place d).made) c.answer-answer.ensures.lanes in omega arith),
         ),
       ),
     )
@@ -77,7 +77,7 @@ advance-requires g c =
 pub returns-clause-next : goal.returns-clause-next
 returns-clause-next g c =
     let w = c.args.self.now in
-    let l = c.args.l in
+    let l = c.args.place in
     let mid = c.answer-answer.new.self in
     let fits = lanes_fit g.row.L w c.requires.working in
     let y : LaneFound = record { found = c.raise.new.self; stopped = c.index_mut.result.now.stopped } in

@@ -10,26 +10,26 @@ use Rattle.lanes.proofs.RoundsInStep.{IsRoundGoing, round_past, round_on}
 use Rattle.lanes.proofs.worker.Worker.make_round.Goals as goal
 use Rattle.lanes.proofs.worker.Worker.make_round.Goals.{then-not-index, else-not-index}
 
-pub loop-l-preserved : goal.loop-l-preserved
-loop-l-preserved g c =
+pub loop-place-preserved : goal.loop-place-preserved
+loop-place-preserved g c =
     let L = g.row.L in
     let board = c.args.board.now in
     let start = c.args.self.now in
-    let now = c.loop-l.self in
-    let h = c.loop-l.invariant in
+    let now = c.loop-place.self in
+    let h = c.loop-place.invariant in
     let fits = lanes_fit L now h.working in
-    let lt = c.loop-l-test.true in
+    let lt = c.loop-place-test.true in
     let same = h.taken in
     elim c.if-not-index.branch [
-      | then-not-index w ↦ subst (λ (z : Worker L). IsRoundGoing L board start z c.args.round (c.loop-l.l + 1)) (sym w.self-is)
-          (round_on L board start now c.args.round c.loop-l.l h (omega arith) w.make_round_of.new.self w.make_round_of.ensures.seat w.make_round_of.ensures.working w.make_round_of.ensures.next)
-      | else-not-index w ↦ subst (λ (z : Worker L). IsRoundGoing L board start z c.args.round (c.loop-l.l + 1)) (sym w.self-is)
-          (round_past L board start now c.args.round c.loop-l.l h (omega arith)
-          (λ e. ap (λ (z : LaneFound). z.stopped) (get_or_default now.lanes.items c.loop-l.l e c.index.result.now (omega arith) ∙ sym c.index.ensures) ∙ w.if-not-index.false))
+      | then-not-index w ↦ subst (λ (z : Worker L). IsRoundGoing L board start z c.args.round (c.loop-place.place + 1)) (sym w.self-is)
+          (round_on L board start now c.args.round c.loop-place.place h (omega arith) w.make_round_of.new.self w.make_round_of.ensures.seat w.make_round_of.ensures.working w.make_round_of.ensures.next)
+      | else-not-index w ↦ subst (λ (z : Worker L). IsRoundGoing L board start z c.args.round (c.loop-place.place + 1)) (sym w.self-is)
+          (round_past L board start now c.args.round c.loop-place.place h (omega arith)
+          (λ e. ap (λ (z : LaneFound). z.stopped) (get_or_default now.lanes.items c.loop-place.place e c.index.result.now (omega arith) ∙ sym c.index.ensures) ∙ w.if-not-index.false))
     ]
 
-pub loop-l-init : goal.loop-l-init
-loop-l-init g c = record {
+pub loop-place-init : goal.loop-place-init
+loop-place-init g c = record {
   seat = c.requires.seat;
   working = working_solved g.row.L c.args.self.now c.solve.new.self c.requires.working c.solve.ensures.same_snapshot c.solve.ensures.lanes;
   same = record { settings = refl; opening = refl; snapshot = c.solve.ensures.same_snapshot; share = refl };
@@ -45,11 +45,11 @@ loop-l-init g c = record {
 
 pub make_round_of-requires : goal.make_round_of-requires
 make_round_of-requires g c =
-    let now = c.loop-l.self in
-    let h = c.loop-l.invariant in
+    let now = c.loop-place.self in
+    let h = c.loop-place.invariant in
     let fits = lanes_fit g.row.L now h.working in
-    let within : c.loop-l.l < now.taken = (let t = h.taken in let l = c.loop-l-test.true in omega arith) in
-    let room : c.loop-l.l < g.row.L = (let n = h.working.equipped.prices_count in omega arith) in (
+    let within : c.loop-place.place < now.taken = (let t = h.taken in let l = c.loop-place-test.true in omega arith) in
+    let room : c.loop-place.place < g.row.L = (let n = h.working.equipped.prices_count in omega arith) in (
       lit< tt,
       (
         h.seat,
@@ -58,8 +58,8 @@ make_round_of-requires g c =
           (
             within,
             (
-              h.solved c.loop-l.l (omega arith) room,
-              λ d. elim (h.made.left c.loop-l.l d c.index.result.now (omega arith) within) [
+              h.solved c.loop-place.place (omega arith) room,
+              λ d. elim (h.made.left c.loop-place.place d c.index.result.now (omega arith) within) [
                 | inl stopped ↦ absurd (false≢true (not_true c.index.result.now.stopped c.if-not-index.true ∙ ap (λ (z : LaneFound). z.stopped) c.index.ensures ∙ stopped))
                 | inr is ↦ (let r = c.requires.round in let e = ap (λ (x : Settings). x.rounds) h.same.settings in omega arith)
               ],

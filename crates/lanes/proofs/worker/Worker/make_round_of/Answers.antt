@@ -10,4 +10,4 @@ returns-else-have_met-clause-working g c = working_looked g.row.L c.find.new.sel
 
 pub returns-then-have_met-clause-next : goal.returns-then-have_met-clause-next
 returns-then-have_met-clause-next g c =
-    next_stopped g.row.L c.args.l c.args.self.now c.find.new.self c.stop_lanes.new.self c.have_met.new.seat c.find.ensures.next c.have_met.ensures.looked c.stop_lanes.ensures.stopped
+    next_stopped g.row.L c.args.place c.args.self.now c.find.new.self c.stop_lanes.new.self c.have_met.new.seat c.find.ensures.next c.have_met.ensures.looked c.stop_lanes.ensures.stopped

@@ -1,5 +1,5 @@
 use Rattle.lanes.specs.Working.{IsWorking, IsStopped}
 use Rattle.lanes.proofs.worker.Worker.stop_lanes.Given as goal
 
-abbrev pub invariant-loop-l : goal.invariant-loop-l
-invariant-loop-l g l = IsWorking g.row.L l.self × IsStopped g.row.L l.fn.self l.self
+abbrev pub invariant-loop-place : goal.invariant-loop-place
+invariant-loop-place g l = IsWorking g.row.L l.self × IsStopped g.row.L l.fn.self l.self
