@@ -1,4 +1,4 @@
-pub mod Sums
+pub mod BoundParts
 pub mod Rounds
 pub mod Ready
 pub mod Found

@@ -9,9 +9,9 @@ use Rattle.interval_solver.specs.Uses.{Started}
 use Rattle.interval_solver.specs.Solving.{RowsOf, AreRowsOf}
 use Rattle.repair.specs.Repairing.{Repairing}
 use Rattle.lanes.specs.declared.lane_prices.LanePrices.{LanePrices}
-use Rattle.lanes.specs.declared.sums.Sums.{Sums}
+use Rattle.lanes.specs.declared.bound_parts.BoundParts.{BoundParts}
 use Rattle.lanes.specs.Rounds.{IsLane}
-use Rattle.lanes.specs.Sums.{IsRoomFor}
+use Rattle.lanes.specs.BoundParts.{IsRoomFor}
 
 -- a number for each of n lanes
 abbrev pub IsAsLong : ℕ → List ℤ → Type 0
@@ -41,7 +41,7 @@ pub record AreTables (s : Parts) (n : ℕ) (prices table bests : List (List ℤ)
   pub bests_lanes : All (IsAsLong n) bests
 
 -- what n lanes of a snapshot need for their rounds
-pub record IsReady (s : Parts) (n : ℕ) (rs : List RowsOf) (ls : List LanePrices) (us : List Started) (x : Sums) (r : Repairing) (vmax : ℕ) : Type 0 where
+pub record IsReady (s : Parts) (n : ℕ) (rs : List RowsOf) (ls : List LanePrices) (us : List Started) (x : BoundParts) (r : Repairing) (vmax : ℕ) : Type 0 where
   pub some : 1 ≤ n
   pub few : n ≤ 64
   pub rows : AreRowsOf s (length s.telescopes) rs
@@ -49,6 +49,6 @@ pub record IsReady (s : Parts) (n : ℕ) (rs : List RowsOf) (ls : List LanePrice
   pub lanes : All (IsLane s) ls
   pub uses_count : length us ≡ n
   pub uses : All (IsRoomy s) us
-  pub sums : IsRoomFor s x
+  pub bound_parts : IsRoomFor s x
   pub repairing : r.snapshot ≡ s
   pub greatest : vmax ≡ greatest_value s

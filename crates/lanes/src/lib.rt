@@ -1,13 +1,13 @@
 // The rounds of all lanes, and the plan with its bound that they come to.
 #![tactic(auto)]
 
+mod bound_parts;
 mod found;
 mod lane;
 mod lane_prices;
 mod solve;
 mod solving;
 mod steps;
-mod sums;
 mod task;
 mod worker;
 mod worth;

@@ -7,9 +7,9 @@ ghost use Rattle.interval_solver.specs.Solving.{AreRowsOf};
 ghost use Rattle.lanes.specs.Rounds.{IsLane, IsSolvedAt, IsLaneNow, IsAnswer};
 ghost use Rattle.lanes.specs.Ready.{IsEmpty};
 
+use crate::bound_parts::BoundParts;
 use crate::lane_prices::LanePrices;
 use crate::solving::{clear_uses, copy_lane, solve_telescopes, write_lanes};
-use crate::sums::Sums;
 use interval_solver::{Rows, Uses, zero_table};
 use plan_base::{Placement, Snapshot, weak_duality};
 use repair::Repairer;
@@ -41,7 +41,7 @@ pub(crate) struct Steps<'a, const L: usize> {
     bests: Vec<[i64; L]>,
     /// What telescopes start in each lane.
     uses: Vec<Uses<'a>>,
-    sums: Sums,
+    bound_parts: BoundParts,
     repairer: Repairer<'a>,
     greatest_value: u32,
 }
@@ -55,7 +55,7 @@ impl<'a, const L: usize> Model for Steps<'a, L> {
 
     ghost view = { λ a. record { snapshot = a.snapshot.now; lanes = a.lanes.items; uses = a.uses.items; bests = a.bests.items; plan = a.repairer.plan } };
 
-    ghost invariant = { λ a. IsReady a.snapshot.now L a.rows.now a.lanes.items a.uses.items a.sums a.repairer a.greatest_value
+    ghost invariant = { λ a. IsReady a.snapshot.now L a.rows.now a.lanes.items a.uses.items a.bound_parts a.repairer a.greatest_value
         × AreTables a.snapshot.now L a.prices.items a.table.items a.bests.items };
 }
 
@@ -85,7 +85,7 @@ impl<'a, const L: usize> Steps<'a, L> {
             table: zero_table(alloc, slices + 1)?,
             bests: zero_table(alloc, telescopes)?,
             uses: uses_of(alloc, snapshot, L, telescopes * slices)?,
-            sums: Sums::new(alloc, snapshot)?,
+            bound_parts: BoundParts::new(alloc, snapshot)?,
             repairer: Repairer::new(alloc, snapshot, starts)?,
             greatest_value: greatest_value(snapshot),
         })
@@ -128,10 +128,14 @@ impl<'a, const L: usize> Steps<'a, L> {
         ensures solved { (k : ℕ) → IsSolvedAt self.old k → IsSolvedAt self.new k }
         ensures answer { HoldsAt (λ lane. IsAnswer self.old.snapshot lane result.bound result.value self.new.plan) self.old.lanes place }
     {
-        copy_lane(self.bests.as_slice(), place, self.sums.bests.as_mut_slice());
+        copy_lane(
+            self.bests.as_slice(),
+            place,
+            self.bound_parts.bests.as_mut_slice(),
+        );
         let lane = &self.lanes[place];
         let bound = self
-            .sums
+            .bound_parts
             .bound(self.snapshot, &lane.prices, &lane.quota_prices);
         weak_duality(self.snapshot, &lane.prices, &lane.quota_prices);
         let value = self.repairer.run(self.uses[place].starts());
@@ -167,7 +171,7 @@ impl<'a, const L: usize> Steps<'a, L> {
             self.snapshot,
             self.greatest_value,
             &self.uses[place],
-            &mut self.sums.net,
+            &mut self.bound_parts.net,
         );
     }
 }

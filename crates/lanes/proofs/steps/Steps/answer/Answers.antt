@@ -31,9 +31,9 @@ bound-bound-requires-clause-bests g c =
     = subst (λ (b : LanePrices). AreParts (length s.telescopes) (λ t. IsBest s b.prices.0 t s.first.0) (lane c.args.place bests)) (sym c.index-lane.ensures) at.best
     in
     let copied : c.copy_lane.new.into ≡ lane c.args.place bests = c.copy_lane.ensures ∙ ap (lane c.args.place) c.as_slice.ensures.value in
-    let count : length c.copy_lane.new.into ≡ length c.self.inside.sums.bests.items = ap length copied ∙ best.count ∙ sym c.self.invariant.0.sums.bests in
+    let count : length c.copy_lane.new.into ≡ length c.self.inside.bound_parts.bests.items = ap length copied ∙ best.count ∙ sym c.self.invariant.0.bound_parts.bests in
     subst (AreParts (length s.telescopes) (λ t. IsBest s a.prices.0 t s.first.0))
-    (sym (written_back c.self.inside.sums.bests.len c.copy_lane.new.into c.self.inside.sums.bests.items c.self.inside.sums.bests.ok.0 count ∙ copied)) best
+    (sym (written_back c.self.inside.bound_parts.bests.len c.copy_lane.new.into c.self.inside.bound_parts.bests.items c.self.inside.bound_parts.bests.ok.0 count ∙ copied)) best
 
 pub run-value-requires-clause-possible : goal.run-value-requires-clause-possible
 run-value-requires-clause-possible g c =

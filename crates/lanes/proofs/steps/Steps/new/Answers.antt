@@ -13,7 +13,7 @@ invariant_of-result g c = (
     lanes = c.in_ok-lanes_of.ensures.lanes;
     uses_count = c.in_ok-uses_of.ensures.count;
     uses = λ i d l. (c.in_ok-uses_of.ensures.empty i d l).roomy;
-    sums = c.in_ok-new.ensures;
+    bound_parts = c.in_ok-new.ensures;
     repairing = ap (λ (r : Repairing). r.snapshot) c.in_ok-new-2.ensures;
     greatest = c.greatest_value.ensures;
   },

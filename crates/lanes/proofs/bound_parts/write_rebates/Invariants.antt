@@ -2,7 +2,7 @@ use Rattle.std.proofs.Common.{◌≡◌, ◌<◌, ℕ, ℤ, pos, ◌≤ℤ◌, L
 use Rattle.plan_base.specs.Requests.{listed}
 use Rattle.plan_base.specs.Bound.{net_price, IsRebate}
 use Rattle.plan_base.specs.NetPrices.{net_prices}
-use Rattle.lanes.proofs.sums.write_rebates.Given as goal
+use Rattle.lanes.proofs.bound_parts.write_rebates.Given as goal
 
 abbrev pub invariant-loop-group : goal.invariant-loop-group
 invariant-loop-group l = record {

@@ -3,7 +3,7 @@ use Rattle.plan_base.specs.Sums.{AreParts}
 use Rattle.plan_base.specs.Bound.{IsBest}
 use Rattle.plan_base.specs.NetPrices.{IsNetInRange}
 use Rattle.groups.proofs.NetRanges.{nets_in_range}
-use Rattle.lanes.proofs.sums.Sums.bound.Goals as goal
+use Rattle.lanes.proofs.bound_parts.BoundParts.bound.Goals as goal
 
 pub net-requires-clause-range : goal.net-requires-clause-range
 net-requires-clause-range c = nets_in_range c.args.snapshot.now c.args.prices.now.0 c.args.quota_prices.now.0 c.recall_valid.ensures.orderly c.requires.range c.requires.quota_range

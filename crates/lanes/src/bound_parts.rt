@@ -7,7 +7,7 @@ ghost use Rattle.plan_base.specs.Requests.{listed};
 ghost use Rattle.plan_base.specs.Bound.{net_price, IsBest, IsRebate, IsQuotaPart, IsBound};
 ghost use Rattle.plan_base.specs.Verdict.{IsPriceInRange};
 ghost use Rattle.plan_base.specs.NetPrices.{net_prices, IsNetInRange};
-ghost use Rattle.lanes.specs.Sums.{IsRoomFor};
+ghost use Rattle.lanes.specs.BoundParts.{IsRoomFor};
 
 use groups::{net, rebate};
 use plan_base::{Prices, QuotaPrices, Snapshot, bound_limit, bound_of_parts};
@@ -16,20 +16,20 @@ use std::alloc::{AllocError, Global};
 
 /// The parts of a bound, and net prices, for one lane after another.
 #[derive(Drop)]
-pub(crate) struct Sums {
+pub(crate) struct BoundParts {
     pub(crate) net: Prices,
     pub(crate) bests: Vec<i64>,
     rebates: Vec<i64>,
     quotas: Vec<i64>,
 }
 
-impl Sums {
+impl BoundParts {
     /// Room for the parts of a snapshot. Fails only for want of memory.
-    pub(crate) fn new(alloc: Global, snapshot: &Snapshot) -> Result<Sums, AllocError>
-        ensures { IfOk result (λ sums. IsRoomFor snapshot.now sums) }
+    pub(crate) fn new(alloc: Global, snapshot: &Snapshot) -> Result<BoundParts, AllocError>
+        ensures { IfOk result (λ parts. IsRoomFor snapshot.now parts) }
     {
         let parts = snapshot.parts();
-        Ok(Sums {
+        Ok(BoundParts {
             net: zero_prices(alloc, snapshot.request_count())?,
             bests: vec![in alloc; 0i64; parts.telescopes.len()]?,
             rebates: vec![in alloc; 0i64; parts.groups.len()]?,

@@ -5,7 +5,7 @@ use Rattle.std.proofs.lemmas.List.Elements.{All-from_get_or}
 use Rattle.plan_base.specs.declared.parts.Parts.{Parts}
 use Rattle.plan_base.specs.Bound.{net_price, IsRebate}
 use Rattle.lanes.proofs.Parts.{part_more}
-use Rattle.lanes.proofs.sums.write_rebates.Goals as goal
+use Rattle.lanes.proofs.bound_parts.write_rebates.Goals as goal
 use mir.Val.{SFits}
 
 pub loop-group-preserved : goal.loop-group-preserved

@@ -1,6 +1,6 @@
 use Rattle.std.proofs.Common.{◌≡◌, ◌<◌, ℕ, pos, length, slice_index_or}
 use Rattle.plan_base.specs.Bound.{IsQuotaPart}
-use Rattle.lanes.proofs.sums.write_quotas.Given as goal
+use Rattle.lanes.proofs.bound_parts.write_quotas.Given as goal
 
 abbrev pub invariant-loop-quota : goal.invariant-loop-quota
 invariant-loop-quota l = record {

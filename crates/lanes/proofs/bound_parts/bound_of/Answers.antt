@@ -4,7 +4,7 @@ use Rattle.plan_base.specs.Limits.{bound_limit}
 use Rattle.plan_base.specs.Sums.{sum_of}
 use Rattle.plan_base.specs.Bound.{IsBound}
 use Rattle.lanes.proofs.Parts.{bests_least}
-use Rattle.lanes.proofs.sums.bound_of.Goals as goal
+use Rattle.lanes.proofs.bound_parts.bound_of.Goals as goal
 
 pub lagrangian-requires-clause-bests : goal.lagrangian-requires-clause-bests
 lagrangian-requires-clause-bests c = bests_least c.args.snapshot.now c.args.prices.now.0 c.args.bests.now c.recall_valid.ensures.orderly c.requires.range c.requires.bests
