@@ -1,16 +1,16 @@
 // Plans of small desks, worked out by hand.
 
 use plan_base::{Op, Placement, Snapshot, TelescopeNo};
-use samples::{ALL_DAY, Desk, Dish, GroupWish, Groups, SampleFault, Wish};
+use samples::{WHOLE_HORIZON, Desk, TelescopeWish, GroupWish, Groups, SampleFault, Wish};
 use std::alloc::{AllocError, Global};
 
 mod greedy;
 mod repairs;
 
 /// A telescope that can be used in the whole horizon.
-const DISH: Dish = Dish {
+const DISH: TelescopeWish = TelescopeWish {
     site: 0,
-    usable: &[ALL_DAY],
+    usable: &[WHOLE_HORIZON],
 };
 
 /// A request of one slice on telescope 0, at any time.
@@ -18,7 +18,7 @@ const WISH: Wish = Wish {
     seconds: 300,
     value: 50_000,
     fade: 0,
-    windows: &[ALL_DAY],
+    windows: &[WHOLE_HORIZON],
     telescopes: &[TelescopeNo(0)],
     targets: &[],
 };
@@ -47,7 +47,7 @@ fn counted<'a>(wishes: &'a [Wish<'a>]) -> GroupWish<'a> {
 /// The snapshot of these groups: twelve slices of 300 seconds on these telescopes, and quotas of so many seconds.
 fn snapshot_of(
     alloc: Global,
-    dishes: &[Dish],
+    telescopes: &[TelescopeWish],
     groups: &[GroupWish],
     quotas: &[u64],
 ) -> Result<Box<Snapshot>, SampleFault> {
@@ -55,7 +55,7 @@ fn snapshot_of(
         len: 300,
         first: 0,
         slices: 12,
-        dishes,
+        telescopes,
         views: &[],
         groups: Groups::Of(groups),
         quotas,

@@ -7,7 +7,7 @@ use std::alloc::{AllocError, Global};
 
 /// A telescope.
 #[derive(Clone, Copy)]
-pub struct Dish<'a> {
+pub struct TelescopeWish<'a> {
     /// The number of the site that it is at.
     pub site: u16,
     /// The seconds in which it can be used: spans, sorted with gaps between them.
@@ -72,7 +72,7 @@ pub struct Desk<'a> {
     /// How many slices the horizon has.
     pub slices: u32,
     /// The telescopes, numbered from 0 on.
-    pub dishes: &'a [Dish<'a>],
+    pub telescopes: &'a [TelescopeWish<'a>],
     /// The skies, in rising order of target, then site.
     pub views: &'a [View<'a>],
     /// The groups with their requests.
@@ -97,7 +97,7 @@ fn parts_of(alloc: Global, desk: &Desk) -> Result<Box<Parts>, AllocError> {
             len: desk.len,
             first: SliceNo(desk.first),
             slices: desk.slices,
-            telescopes: Box::into_inner(telescopes_of(alloc, desk.dishes)?),
+            telescopes: Box::into_inner(telescopes_of(alloc, desk.telescopes)?),
             skies: Box::into_inner(skies_of(alloc, desk.views)?),
             groups: Box::into_inner(groups_of(alloc, desk.groups)?),
             quotas: ListOf::from_vec(Vec::from_slice(alloc, desk.quotas)?),

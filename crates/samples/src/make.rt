@@ -1,6 +1,6 @@
 // The parts that snapshots are made of. What is made is boxed, so that no proof looks into it.
 
-use crate::desk::{Dish, GroupWish, Groups, View, Wish};
+use crate::desk::{TelescopeWish, GroupWish, Groups, View, Wish};
 use crate::fault::SampleFault;
 use plan_base::{
     GroupNo, GroupPart, ListOf, Op, Parts, RequestNo, RequestPart, Sec, SiteNo, Sky, Snapshot,
@@ -30,13 +30,13 @@ fn spans_of(alloc: Global, ends: &[(u64, u64)]) -> Result<Box<ListOf<Span>>, All
 
 pub(crate) fn telescopes_of(
     alloc: Global,
-    dishes: &[Dish],
+    wished: &[TelescopeWish],
 ) -> Result<Box<ListOf<TelescopePart>>, AllocError> {
     let mut telescopes = ListOf::new(alloc);
-    for dish in dishes {
+    for wish in wished {
         telescopes.push(TelescopePart {
-            site: SiteNo(dish.site),
-            usable: Box::into_inner(spans_of(alloc, dish.usable)?),
+            site: SiteNo(wish.site),
+            usable: Box::into_inner(spans_of(alloc, wish.usable)?),
         })?;
     }
     Ok(Box::new(alloc, telescopes)?)

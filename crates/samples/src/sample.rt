@@ -1,6 +1,6 @@
 // What a sample has, and its snapshot.
 
-use crate::desk::{Desk, Dish, GroupWish, Groups, Wish};
+use crate::desk::{Desk, TelescopeWish, GroupWish, Groups, Wish};
 use crate::fault::SampleFault;
 use plan_base::{Op, Snapshot, TelescopeNo, repeated};
 use std::alloc::{AllocError, Global};
@@ -9,7 +9,7 @@ use std::alloc::{AllocError, Global};
 pub const VALUE: u32 = 50_000;
 
 /// From the first second of the horizon to its end: twelve slices of 300 seconds.
-pub const ALL_DAY: (u64, u64) = (0, 3_600);
+pub const WHOLE_HORIZON: (u64, u64) = (0, 3_600);
 
 /// A snapshot of twelve slices of 300 seconds at one site, whose requests observe for 300 seconds each. Groups and
 /// requests are numbered from 1 on.
@@ -33,8 +33,8 @@ pub struct Sample<'a> {
 pub const ONE: Sample = Sample {
     groups: &[(Op::Single, 1)],
     telescopes: 1,
-    usable: ALL_DAY,
-    window: ALL_DAY,
+    usable: WHOLE_HORIZON,
+    window: WHOLE_HORIZON,
     fade: 0,
     quota: None,
 };
@@ -76,17 +76,17 @@ impl<'a> Sample<'a> {
         groups: &[GroupWish],
     ) -> Result<Box<Snapshot>, SampleFault> {
         let usable = [self.usable];
-        let dish = Dish {
+        let telescope = TelescopeWish {
             site: 0,
             usable: &usable,
         };
-        let dishes = repeated(alloc, dish, usize::from(self.telescopes))?;
+        let wished = repeated(alloc, telescope, usize::from(self.telescopes))?;
         let quotas = self.quotas(alloc)?;
         let desk = Desk {
             len: 300,
             first: 0,
             slices: 12,
-            dishes: dishes.as_slice(),
+            telescopes: wished.as_slice(),
             views: &[],
             groups: Groups::Of(groups),
             quotas: quotas.as_slice(),

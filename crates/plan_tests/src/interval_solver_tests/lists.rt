@@ -3,7 +3,7 @@
 use super::{Answer, assert_answer};
 use interval_solver::Solver;
 use plan_base::{Placement, Snapshot, TelescopeNo};
-use samples::{Desk, Dish, Found, Groups, Random, SampleFault, Wish, best_of_all, find_starts};
+use samples::{Desk, TelescopeWish, Found, Groups, Random, SampleFault, Wish, best_of_all, find_starts};
 use snapshot_starts::starts;
 use std::alloc::{AllocError, Global};
 use std::process::Abort;
@@ -191,31 +191,31 @@ fn snapshot(
     drawn: &[Drawn; 3],
     usable: &[[(u64, u64); 2]; 2],
 ) -> Result<Box<Snapshot>, SampleFault> {
-    let dishes = [
-        Dish {
+    let telescopes = [
+        TelescopeWish {
             site: 0,
             usable: &usable[0],
         },
-        Dish {
+        TelescopeWish {
             site: 0,
             usable: &usable[1],
         },
     ];
     let wishes = [drawn[0].wish(), drawn[1].wish(), drawn[2].wish()];
-    snapshot_of(alloc, &dishes, &wishes)
+    snapshot_of(alloc, &telescopes, &wishes)
 }
 
 /// The snapshot of these telescopes and requests.
 fn snapshot_of<'a>(
     alloc: Global,
-    dishes: &'a [Dish<'a>],
+    telescopes: &'a [TelescopeWish<'a>],
     wishes: &'a [Wish<'a>],
 ) -> Result<Box<Snapshot>, SampleFault> {
     let desk = Desk {
         len: LEN,
         first: FIRST,
         slices: END - FIRST,
-        dishes,
+        telescopes,
         views: &[],
         groups: Groups::Singles(wishes),
         quotas: &[],

@@ -5,7 +5,7 @@ ghost use Rattle.std.specs.Prelude.{◌≡◌};
 use super::{Answer, assert_answer};
 use interval_solver::Solver;
 use plan_base::{Placement, RequestNo, SliceNo, Snapshot, TelescopeNo};
-use samples::{Desk, Dish, Groups, Wish};
+use samples::{Desk, TelescopeWish, Groups, Wish};
 use snapshot_starts::starts;
 use std::alloc::{AllocError, Global};
 use std::process::Abort;
@@ -27,7 +27,7 @@ const MINUTES: Desk = Desk {
     len: 60,
     first: 0,
     slices: 3,
-    dishes: &[Dish {
+    telescopes: &[TelescopeWish {
         site: 0,
         usable: &[(0, 180)],
     }; 2],
@@ -41,7 +41,7 @@ const LATE: Desk = Desk {
     len: 300,
     first: 0,
     slices: 12,
-    dishes: &[Dish {
+    telescopes: &[TelescopeWish {
         site: 0,
         usable: &[(900, 3_600)],
     }; 2],
@@ -185,7 +185,7 @@ fn a_fading_request_starts_early(rt: HostRuntime) -> Result<(), Fail> {
 #[test]
 fn nothing_starts_in_a_gap(rt: HostRuntime) -> Result<(), Fail> {
     let desk = Desk {
-        dishes: &[Dish {
+        telescopes: &[TelescopeWish {
             site: 0,
             usable: &[(0, 119), (120, 180)],
         }; 2],

@@ -1,7 +1,7 @@
 // Runs and counts that were worked out by hand.
 
 use plan_base::{Placement, RequestNo, SliceNo, TargetNo, TelescopeNo};
-use samples::{Desk, Dish, Groups, View, Wish};
+use samples::{Desk, TelescopeWish, Groups, View, Wish};
 use snapshot_starts::{Run, StartFault, is_possible, starts};
 use std::alloc::{AllocError, Global};
 use std::process::Abort;
@@ -18,8 +18,8 @@ fn run(telescope: u16, first: u32, count: u32) -> Run {
     }
 }
 
-fn dish_at(site: u16, usable: &[(u64, u64)]) -> Dish {
-    Dish { site, usable }
+fn telescope_at(site: u16, usable: &[(u64, u64)]) -> TelescopeWish {
+    TelescopeWish { site, usable }
 }
 
 /// A request of value 1 that doesn't fade.
@@ -44,7 +44,7 @@ fn check_runs<'a, R: Threads + Sync + Abort>(
     rt: &R,
     alloc: Global,
     slices: u32,
-    dishes: &'a [Dish<'a>],
+    telescopes: &'a [TelescopeWish<'a>],
     views: &'a [View<'a>],
     wish: Wish<'a>,
     runs: &[Run],
@@ -53,7 +53,7 @@ fn check_runs<'a, R: Threads + Sync + Abort>(
         len: 300,
         first: 0,
         slices,
-        dishes,
+        telescopes,
         views,
         groups: Groups::Singles(&[wish]),
         quotas: &[],
@@ -71,8 +71,8 @@ const ONE: [TelescopeNo; 1] = [TelescopeNo(0)];
 #[test]
 fn a_closure_cuts_a_run_in_two(rt: HostRuntime) -> Result<(), Fail> {
     let around = [(0, 900), (1800, 3600)];
-    let closed = [dish_at(0, &around)];
-    let reopened = [dish_at(0, &NIGHT)];
+    let closed = [telescope_at(0, &around)];
+    let reopened = [telescope_at(0, &NIGHT)];
     let request = wish_for(600, &NIGHT, &ONE, &[]);
     let alloc = rt.alloc();
     check_runs(
@@ -89,7 +89,7 @@ fn a_closure_cuts_a_run_in_two(rt: HostRuntime) -> Result<(), Fail> {
 
 #[test]
 fn an_observation_lies_in_one_window(rt: HostRuntime) -> Result<(), Fail> {
-    let night = [dish_at(0, &NIGHT)];
+    let night = [telescope_at(0, &NIGHT)];
     let touching = [(0, 300), (300, 600)];
     let long = wish_for(600, &touching, &ONE, &[]);
     let short = wish_for(300, &touching, &ONE, &[]);
@@ -100,7 +100,7 @@ fn an_observation_lies_in_one_window(rt: HostRuntime) -> Result<(), Fail> {
 
 #[test]
 fn a_part_of_a_slice_is_a_slice(rt: HostRuntime) -> Result<(), Fail> {
-    let night = [dish_at(0, &NIGHT)];
+    let night = [telescope_at(0, &NIGHT)];
     let request = wish_for(301, &NIGHT, &ONE, &[]);
     let alloc = rt.alloc();
     check_runs(&rt, alloc, 1, &night, &[], request, &[])?;
@@ -109,7 +109,7 @@ fn a_part_of_a_slice_is_a_slice(rt: HostRuntime) -> Result<(), Fail> {
 
 #[test]
 fn a_target_without_a_sky_is_never_visible(rt: HostRuntime) -> Result<(), Fail> {
-    let dishes = [dish_at(0, &NIGHT), dish_at(1, &NIGHT)];
+    let telescopes = [telescope_at(0, &NIGHT), telescope_at(1, &NIGHT)];
     let seen = [(600, 1500)];
     let views = [View {
         target: 7,
@@ -123,7 +123,7 @@ fn a_target_without_a_sky_is_never_visible(rt: HostRuntime) -> Result<(), Fail> 
         &rt,
         rt.alloc(),
         12,
-        &dishes,
+        &telescopes,
         &views,
         request,
         &[run(1, 2, 3)],
@@ -139,12 +139,12 @@ fn all_telescopes(alloc: Global) -> Result<Vec<TelescopeNo>, AllocError> {
 }
 
 /// The full horizon on 32 telescopes, with these requests of one slice each.
-fn full_desk<'a>(dishes: &'a [Dish<'a>], wishes: &'a [Wish<'a>]) -> Desk<'a> {
+fn full_desk<'a>(telescopes: &'a [TelescopeWish<'a>], wishes: &'a [Wish<'a>]) -> Desk<'a> {
     Desk {
         len: 300,
         first: 0,
         slices: 1440,
-        dishes,
+        telescopes,
         views: &[],
         groups: Groups::Singles(wishes),
         quotas: &[],
@@ -155,10 +155,10 @@ const WHOLE: [(u64, u64); 1] = [(0, 432_000)];
 
 #[test]
 fn too_many_starts_are_counted(rt: HostRuntime) -> Result<(), Fail> {
-    let telescopes = all_telescopes(rt.alloc())?;
-    let dishes = [dish_at(0, &WHOLE); 32];
-    let wishes = [wish_for(300, &WHOLE, telescopes.as_slice(), &[]); 23];
-    let snapshot = full_desk(&dishes, &wishes).snapshot(rt.alloc())?;
+    let numbers = all_telescopes(rt.alloc())?;
+    let telescopes = [telescope_at(0, &WHOLE); 32];
+    let wishes = [wish_for(300, &WHOLE, numbers.as_slice(), &[]); 23];
+    let snapshot = full_desk(&telescopes, &wishes).snapshot(rt.alloc())?;
     let answer = starts(&rt, rt.alloc(), &snapshot);
     assert!(rt; matches!(answer, Err(StartFault::TooManyStarts { count: 1_059_840 })));
     Ok(())
@@ -174,10 +174,10 @@ fn placement(request: u32, telescope: u16, slice: u32) -> Placement {
 
 #[test]
 fn as_many_starts_as_there_may_be_are_listed(rt: HostRuntime) -> Result<(), Fail> {
-    let telescopes = all_telescopes(rt.alloc())?;
-    let dishes = [dish_at(0, &WHOLE); 32];
-    let wishes = [wish_for(300, &WHOLE, telescopes.as_slice(), &[]); 22];
-    let snapshot = full_desk(&dishes, &wishes).snapshot(rt.alloc())?;
+    let numbers = all_telescopes(rt.alloc())?;
+    let telescopes = [telescope_at(0, &WHOLE); 32];
+    let wishes = [wish_for(300, &WHOLE, numbers.as_slice(), &[]); 22];
+    let snapshot = full_desk(&telescopes, &wishes).snapshot(rt.alloc())?;
     let list = starts(&rt, rt.alloc(), &snapshot)?;
     assert_eq!(rt; list.count(), 1_013_760);
     assert_eq!(rt; list.runs().len(), 22 * 32);
