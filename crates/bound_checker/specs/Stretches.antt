@@ -1,6 +1,6 @@
 -- Slices in a row at which an observation may begin, or may not.
 use Rattle.std.specs.Prelude.{ℕ, ◌+◌, ◌*◌, ◌≤◌, ◌<◌, ◌↔◌, IsTrue, true, if◌then◌else◌, min, List}
-use Rattle.plan_base.specs.Limits.{most_seconds}
+use Rattle.plan_base.specs.Limits.{most_seconds, least_len, most_len}
 use Rattle.plan_base.specs.declared.span.Span.{Span}
 use Rattle.plan_base.specs.BySpans.{HasAll}
 use Rattle.bound_checker.specs.declared.stretches.Observation.{Observation}
@@ -8,8 +8,8 @@ use Rattle.bound_checker.specs.declared.stretches.Stretch.{Stretch}
 
 -- the lengths are in their ranges
 pub record IsObservation (o : Observation) : Type 0 where
-  pub len_least : 60 ≤ o.len
-  pub len_most : o.len ≤ 3600
+  pub len_least : least_len ≤ o.len
+  pub len_most : o.len ≤ most_len
   pub seconds_least : 1 ≤ o.seconds
   pub seconds_most : o.seconds ≤ most_seconds
 

@@ -1,7 +1,7 @@
 // The possible starts of one telescope, by slice.
 
 ghost use Rattle.std.specs.Prelude.{◌≡◌, ◌+◌, ◌<◌, ◌≤◌, ℕ, [], length, All, Contains, IfOk, OnOk, IsTrue, ◌↔◌};
-ghost use Rattle.plan_base.specs.Limits.{most_slices};
+ghost use Rattle.plan_base.specs.Limits.{most_slices, most_first};
 ghost use Rattle.plan_base.specs.Requests.{listed};
 ghost use Rattle.plan_base.specs.Verdict.{IsPriceInRange};
 ghost use Rattle.plan_base.specs.Tables.{row};
@@ -98,7 +98,7 @@ fn list_stretches(
     offer: &Offer,
     rows: &mut Vec<ListOf<Start>>,
 ) -> Result<(), AllocError>
-    requires first { parts.now.first.0 ≤ 4223371680 }
+    requires first { parts.now.first.0 ≤ most_first }
     requires slices { parts.now.slices ≤ most_slices }
     requires clear { IsClear sight.now }
     requires offer { IsOfferRange offer.now }

@@ -1,6 +1,7 @@
 // What a request offers at each slice.
 
 ghost use Rattle.std.specs.Prelude.{◌≡◌, ◌≤◌};
+ghost use Rattle.plan_base.specs.Limits.{least_len, most_len};
 ghost use Rattle.plan_base.specs.Verdict.{IsPriceInRange};
 ghost use Rattle.plan_base.specs.Asked.{IsAsked};
 ghost use Rattle.bound_checker.specs.Offers.{IsOfferRange, IsOffer, offer_weight};
@@ -27,8 +28,8 @@ pub struct Offer {
 
 /// What a request offers at a price.
 pub fn offer_of(len: u32, request: &RequestPart, price: i64) -> Offer
-    requires least { 60 ≤ len }
-    requires most { len ≤ 3600 }
+    requires least { least_len ≤ len }
+    requires most { len ≤ most_len }
     requires asked { IsAsked request.now }
     requires price { IsPriceInRange price }
     ensures range { IsOfferRange result }

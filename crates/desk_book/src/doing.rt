@@ -4,6 +4,7 @@
 // have to follow.
 
 ghost use Rattle.std.specs.Prelude.{◌≡◌, ◌<◌, ◌↔◌, Ok, IfOk, OnErr, IsTrue, IsSome};
+ghost use Rattle.plan_base.specs.Limits.{most_version};
 ghost use Rattle.plan_base.specs.declared.claim.Claim.{Claim};
 ghost use Rattle.plan_base.specs.Solved.{IsOutcome};
 ghost use Rattle.desk_events.specs.declared.reply.Reply.TheVariants as reply;
@@ -44,7 +45,7 @@ pub fn is_plan(read: &Result<Command, CommandFault>) -> bool
 
 /// Does a command that is one step, and says what is replied. Fails only for want of memory, and then changes nothing.
 fn apply(state: &mut State, command: &Command) -> Result<Reply, AllocError>
-    requires version { state.old.version < 524288 }
+    requires version { state.old.version < most_version }
     requires ranges { IsCommand command.now }
     requires step { ¬ (IsPlanning state.old (Ok command.now)) }
     ensures done { IfOk result (λ reply. IsStepDone state.old (Ok command.now) reply state.new) }
@@ -60,7 +61,7 @@ pub fn apply_read(
     state: &mut State,
     read: Result<Command, CommandFault>,
 ) -> Result<Reply, AllocError>
-    requires version { state.old.version < 524288 }
+    requires version { state.old.version < most_version }
     requires ranges { IfOk read IsCommand }
     requires step { ¬ (IsPlanning state.old read) }
     ensures done { IfOk result (λ reply. IsStepDone state.old read reply state.new) }
@@ -100,7 +101,7 @@ pub fn take_for(caller: u8, state: &State) -> Result<Taken, AllocError>
 /// Publishes what was found for a Take, where no change was accepted since, and says what is replied. Fails only for want of
 /// memory, and then changes nothing.
 pub fn publish_found(state: &mut State, taken: Taken, outcome: Outcome) -> Result<Reply, AllocError>
-    requires version { state.old.version < 524288 }
+    requires version { state.old.version < most_version }
     requires behind { IsBehind state.old taken }
     requires found { IsOutcome taken.snapshot taken.settings outcome }
     ensures reply { IfOk result (λ r. r ≡ publish_reply state.old record { taken = taken; outcome = outcome }) }

@@ -2,6 +2,7 @@
 use Rattle.std.specs.Prelude.{◌≡◌, ℕ, ◌+◌, ◌*◌, ◌^◌, ◌<◌, ◌≤◌, true, IsTrue, List, ◌++◌, length, All, IfSome, Option, Some, None, sum_by, if◌then◌else◌, nat_lt}
 use Rattle.std.specs.List.{AllZip, zip}
 use Rattle.std.specs.Option.{option_map_or}
+use Rattle.plan_base.specs.Limits.{most_version}
 use Rattle.plan_base.specs.Snapshot.{most_requests}
 use Rattle.plan_base.specs.Verdict.{IsCertified}
 use Rattle.plan_json.specs.Moment.{last_moment}
@@ -119,7 +120,7 @@ pub record IsDesk (d : DeskSeen) : Type 0 where
 
 -- a state: its desk is one, if it is opened, its books have few seconds, and each of its groups came with a change
 pub record IsState (s : StateSeen) : Type 0 where
-  pub version : s.version ≤ 524288
+  pub version : s.version ≤ most_version
   pub desk : IfSome s.desk IsDesk
   pub books : IfSome s.desk (λ d. AreFewSeconds s.version d.books)
   pub groups : IfSome s.desk (λ d. length d.progress.groups ≤ s.version)

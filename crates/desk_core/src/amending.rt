@@ -3,6 +3,7 @@
 ghost use Rattle.std.specs.Prelude.{◌≡◌, ◌≢◌, ◌+◌, ◌-◌, ◌≤◌, ◌<◌, ◌^◌, ◌||◌, length, map, find};
 ghost use Rattle.std.specs.Prelude.{slice_get, Ok, None, Some, IfOk, IfErr, OnOk, OnErr, option_and_then, vec_len, vec_capacity};
 ghost use Rattle.std.specs.Option.{option_map};
+ghost use Rattle.plan_base.specs.Limits.{most_version};
 ghost use Rattle.plan_base.specs.States.{is_completed};
 ghost use Rattle.request_model.specs.Ranges.{IsGroup};
 ghost use Rattle.allocations.specs.Books.{total_seconds};
@@ -115,7 +116,7 @@ impl Desk {
     ) -> Result<Reply, CommandFault>
         requires desk { IsDesk (seen self.old) }
         requires room { IsRoomy (seen self.old).books }
-        requires few { length self.old.runs.groups < 524288 }
+        requires few { length self.old.runs.groups < most_version }
         requires may { IsAmendable old self.old.runs }
         requires document { IsGroup document.now }
         requires made { AreMade self.old.runs.moment document.now (map seen_made made.items) }
@@ -156,7 +157,7 @@ impl Desk {
     ) -> Result<Reply, CommandFault>
         requires desk { IsDesk (seen self.old) }
         requires room { IsRoomy (seen self.old).books }
-        requires few { length self.old.runs.groups < 524288 }
+        requires few { length self.old.runs.groups < most_version }
         requires document { IsGroup document.now }
         ensures { Decides (on_amend (seen self.old) old document.now) (seen self.old) (seen self.new) result }
     {

@@ -1,6 +1,7 @@
 // Which method each line calls.
 
 ghost use Rattle.std.specs.Prelude.{◌≡◌, ◌≢◌, ◌≤◌, ◌<◌, true, false, ℕ, IfOk, length};
+ghost use Rattle.plan_base.specs.Limits.{most_version};
 ghost use Rattle.desk_events.specs.declared.command.Command.TheVariants.{Plan};
 ghost use Rattle.desk_events.specs.Ranges.{IsCommand};
 ghost use Rattle.desk_core.specs.Desk.{seen};
@@ -80,8 +81,8 @@ impl Desk {
     ) -> Result<Reply, CommandFault>
         requires desk { IsDesk (seen self.old) }
         requires room { IsRoomy (seen self.old).books }
-        requires few { length self.old.runs.groups < 524288 }
-        requires version { version ≤ 524288 }
+        requires few { length self.old.runs.groups < most_version }
+        requires version { version ≤ most_version }
         requires ranges { IsCommand command.now }
         requires step { command.now ≢ Plan }
         requires no_registering { is_registering command.now ≡ false }
@@ -120,8 +121,8 @@ impl Desk {
     ) -> Result<Reply, CommandFault>
         requires desk { IsDesk (seen self.old) }
         requires room { IsRoomy (seen self.old).books }
-        requires few { length self.old.runs.groups < 524288 }
-        requires version { version ≤ 524288 }
+        requires few { length self.old.runs.groups < most_version }
+        requires version { version ≤ most_version }
         requires ranges { IsCommand command.now }
         requires step { command.now ≢ Plan }
         ensures { Does version (seen self.old) command.now (seen self.new) result }

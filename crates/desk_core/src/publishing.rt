@@ -2,6 +2,7 @@
 
 ghost use Rattle.std.specs.Prelude.{◌≡◌, ◌≤◌, IfOk, OnOk, OnErr, map, find};
 ghost use Rattle.std.specs.Option.{option_map, option_map_or};
+ghost use Rattle.plan_base.specs.Limits.{most_version};
 ghost use Rattle.plan_base.specs.Verdict.{IsCertified};
 ghost use Rattle.desk_runs.specs.Numbers.{requests_of, is_request};
 ghost use Rattle.desk_events.specs.declared.reply.Reply.TheVariants as reply;
@@ -37,7 +38,7 @@ impl Desk {
         claim: &Claim,
     ) -> Result<Reply, CommandFault>
         requires desk { IsDesk (seen self.old) }
-        requires version { version ≤ 524288 }
+        requires version { version ≤ most_version }
         ensures { DecidesByVerdict version (seen self.old) asked claim.now (seen self.new) result }
     {
         if asked != version {

@@ -1,6 +1,7 @@
 // The snapshot of the desk, of which a plan is made.
 
 ghost use Rattle.std.specs.Prelude.{◌≡◌, ◌<◌, ◌≤◌, [], Some, None, IfOk, OnOk, length, map};
+ghost use Rattle.plan_base.specs.Limits.{most_version};
 ghost use Rattle.plan_base.specs.Snapshot.{IsSnapshot};
 ghost use Rattle.site_model.specs.Calendar.{IsWithinLimits};
 ghost use Rattle.site_model.specs.Names.{number_of};
@@ -23,7 +24,7 @@ impl Desk {
     /// The snapshot of the desk, which has this version. Fails only for want of memory.
     pub(crate) fn snapshot(&self, alloc: Global, version: u64) -> Result<Snapshot, AllocError>
         requires desk { IsDesk (seen self.now) }
-        requires version { version ≤ 524288 }
+        requires version { version ≤ most_version }
         ensures { IfOk result (λ snapshot. snapshot ≡ snapshot_of version (seen self.now)) }
     {
         let parts = self.parts(alloc, version)?;
@@ -33,7 +34,7 @@ impl Desk {
     // The parts of the snapshot, which have no fault.
     fn parts(&self, alloc: Global, version: u64) -> Result<Parts, AllocError>
         requires desk { IsDesk (seen self.now) }
-        requires version { version ≤ 524288 }
+        requires version { version ≤ most_version }
         ensures parts { IfOk result (λ parts. parts ≡ snapshot_of version (seen self.now)) }
         ensures snapshot { IfOk result IsSnapshot }
     {

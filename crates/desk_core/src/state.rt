@@ -2,6 +2,7 @@
 
 ghost use Rattle.std.specs.Prelude.{◌≡◌, ◌<◌, ◌≤◌, ◌+◌, IfOk, IfSome, OnOk, OnErr, Some, None, Ok};
 ghost use Rattle.std.specs.Option.{is_some, option_and_then, option_map};
+ghost use Rattle.plan_base.specs.Limits.{most_version};
 ghost use Rattle.plan_base.specs.Snapshot.{IsOrderly};
 ghost use Rattle.plan_base.specs.Verdict.{IsCertified};
 ghost use Rattle.plan_json.specs.Moment.{last_moment};
@@ -101,7 +102,7 @@ impl State {
     /// Publishes a claim that is certified for the snapshot of the desk as it is, and counts the change. Fails only for want of
     /// memory, and then changes nothing.
     pub fn publish_certified(&mut self, snapshot: Snapshot, claim: &Claim) -> Result<(), AllocError>
-        requires version { self.old.version < 524288 }
+        requires version { self.old.version < most_version }
         requires snapshot { IsSnapshotOf self.old snapshot }
         requires certified { IsCertified snapshot claim.now }
         ensures published { OnOk result (self.new ≡ with_published self.old self.old.desk claim.now) }
@@ -129,7 +130,7 @@ impl State {
     /// Does a command, any but `plan` on an opened desk, which is no single step, and says what is replied. A refused
     /// command changes nothing. Fails only for want of memory, and then changes nothing.
     pub fn apply(&mut self, command: &Command) -> Result<Reply, AllocError>
-        requires version { self.old.version < 524288 }
+        requires version { self.old.version < most_version }
         requires ranges { IsCommand command.now }
         requires step { ¬ (IsPlanning self.old (Ok command.now)) }
         ensures step { IfOk result (λ reply. IsStep self.old command.now record { reply = reply; state = self.new }) }
@@ -144,7 +145,7 @@ impl State {
 
     // What is replied to a command, or why there is no reply.
     fn answer(&mut self, command: &Command) -> Result<Reply, CommandFault>
-        requires version { self.old.version < 524288 }
+        requires version { self.old.version < most_version }
         requires ranges { IsCommand command.now }
         requires step { ¬ (IsPlanning self.old (Ok command.now)) }
         ensures { Answers self.old command.now self.new result }
@@ -160,7 +161,7 @@ impl State {
     // What is replied before the desk is opened.
     fn answer_unopened(&mut self, command: &Command) -> Result<Reply, CommandFault>
         requires closed { self.old.desk ≡ None }
-        requires version { self.old.version < 524288 }
+        requires version { self.old.version < most_version }
         requires ranges { IsCommand command.now }
         ensures { Answers self.old command.now self.new result }
     {
@@ -197,7 +198,7 @@ impl State {
         requires closed { self.old.desk ≡ None }
         requires opening { IsOpenedWith opening }
         requires moment { now.0 ≤ last_moment }
-        requires version { self.old.version < 524288 }
+        requires version { self.old.version < most_version }
         ensures opened { OnOk result (self.new ≡ record { version = self.old.version + 1; desk = Some (new_desk opening now) }) }
         ensures unchanged { OnErr result (self.new ≡ self.old) }
     {

@@ -2,6 +2,7 @@
 
 ghost use Rattle.std.specs.Prelude.{◌≡◌, ◌≢◌, ◌+◌, ◌≤◌, ◌<◌, ◌^◌, ◌++◌, ◌∷◌, [], nat_lt, ◌&&◌};
 ghost use Rattle.std.specs.Prelude.{if◌then◌else◌, length, map, All, true, false, Ok, IfOk, IfErr, OnOk, OnErr, vec_len, vec_capacity};
+ghost use Rattle.plan_base.specs.Limits.{most_version};
 ghost use Rattle.plan_base.specs.declared.parts.Op.TheVariants.{Many};
 ghost use Rattle.request_model.specs.Ranges.{IsGroup};
 ghost use Rattle.desk_runs.specs.Numbers.{requests_of};
@@ -315,7 +316,7 @@ impl Desk {
     ) -> Result<Reply, CommandFault>
         requires desk { IsDesk (seen self.old) }
         requires room { IsRoomy (seen self.old).books }
-        requires few { length self.old.runs.groups < 524288 }
+        requires few { length self.old.runs.groups < most_version }
         requires document { IsGroup document.now }
         requires made { AreMade self.old.runs.moment document.now (map seen_made made.items) }
         ensures { Decides (on_made (seen self.old) document.now (Ok (map seen_made made.entry.items))) (seen self.old) (seen self.new) result }
@@ -351,7 +352,7 @@ impl Desk {
     ) -> Result<Reply, CommandFault>
         requires desk { IsDesk (seen self.old) }
         requires room { IsRoomy (seen self.old).books }
-        requires few { length self.old.runs.groups < 524288 }
+        requires few { length self.old.runs.groups < most_version }
         requires document { IsGroup document.now }
         ensures { Decides (on_submit (seen self.old) document.now) (seen self.old) (seen self.new) result }
     {

@@ -1,5 +1,6 @@
 -- The commands: for each the members after `do`, in the order in which they are read, with their kinds and ranges.
 use Rattle.std.specs.Prelude.{is_some, if◌then◌else◌, Result, Ok}
+use Rattle.plan_base.specs.Limits.{most_version, least_len, most_len, most_slices}
 use Rattle.serde_json.specs.Data.{Members}
 use Rattle.plan_base.specs.declared.number.GroupNo.{GroupNo}
 use Rattle.plan_json.specs.declared.member.Member.TheVariants as member
@@ -25,8 +26,8 @@ use Rattle.plan_doc.specs.Claim.{claim_of}
 abbrev pub open_of : Members → Result Command JsonFault
 open_of ms =
     member_of moment_in ms member.Now >>= λ now.
-    member_of (number_in 60 3600) ms member.Slice >>= λ slice.
-    member_of (number_in 1 1440) ms member.Horizon >>= λ horizon.
+    member_of (number_in least_len most_len) ms member.Slice >>= λ slice.
+    member_of (number_in 1 most_slices) ms member.Horizon >>= λ horizon.
     member_of span_in ms member.Semester >>= λ semester.
     member_of (number_in 1 8) ms member.Lanes >>= λ lanes.
     member_of (number_in 1 256) ms member.Rounds >>= λ rounds.
@@ -131,7 +132,7 @@ report_of ms =
 
 abbrev pub publish_of : Members → Result Command JsonFault
 publish_of ms =
-    member_of (number_in 0 524288) ms member.Version >>= λ version.
+    member_of (number_in 0 most_version) ms member.Version >>= λ version.
     member_of object_in ms member.Claim >>= λ inner.
     claim_of inner >>= λ claim.
     Ok (command.Publish version claim)

@@ -1,5 +1,6 @@
 -- The ranges of what is read: each command's texts, numbers, spans and counts.
 use Rattle.std.specs.Prelude.{◌≡◌, ℕ, ◌≤◌, List, [], length, All, Option, IfSome, ⊤}
+use Rattle.plan_base.specs.Limits.{most_version, least_len, most_len, most_slices}
 use Rattle.plan_base.specs.declared.claim.Claim.{Claim}
 use Rattle.plan_base.specs.declared.number.Sec.{Sec}
 use Rattle.plan_base.specs.declared.span.Span.{Span}
@@ -17,8 +18,8 @@ use Rattle.plan_doc.specs.Ranges.{IsClaim}
 
 pub record IsOpening (now : Sec) (slice horizon : ℕ) (semester : Span) (lanes rounds workers : ℕ) (quota : Option ℕ) : Type 0 where
   pub moment : now.0 ≤ last_moment
-  pub length_of_slice : IsBetween 60 3600 slice
-  pub slices : IsBetween 1 1440 horizon
+  pub length_of_slice : IsBetween least_len most_len slice
+  pub slices : IsBetween 1 most_slices horizon
   pub season : IsWindow semester
   pub sequences : IsBetween 1 8 lanes
   pub turns : IsBetween 1 256 rounds
@@ -87,7 +88,7 @@ pub record IsReport (percent used : ℕ) : Type 0 where
   pub time : used ≤ 86400
 
 pub record IsPublication (version : ℕ) (claim : Claim) : Type 0 where
-  pub newest : version ≤ 524288
+  pub newest : version ≤ most_version
   pub what : IsClaim claim
 
 abbrev pub IsCommand : Command → Type 0

@@ -1,7 +1,7 @@
 // What a request offers at each slice.
 
 ghost use Rattle.std.specs.Prelude.{◌≡◌, ◌≤◌, All};
-ghost use Rattle.plan_base.specs.Limits.{most_seconds, most_value};
+ghost use Rattle.plan_base.specs.Limits.{most_seconds, most_value, least_len, most_len};
 ghost use Rattle.plan_base.specs.Snapshot.{IsMoment};
 ghost use Rattle.interval_solver.specs.Offers.{IsOfferRange, IsOffer, offer_worth};
 
@@ -24,8 +24,8 @@ pub(crate) struct Offer {
 
 /// What the request at a place offers.
 pub(crate) fn offer_of(len: u32, place: u32, request: &RequestPart) -> Offer
-    requires least { 60 ≤ len }
-    requires most { len ≤ 3600 }
+    requires least { least_len ≤ len }
+    requires most { len ≤ most_len }
     requires place { place ≤ 1024 }
     requires seconds { request.now.seconds ≤ most_seconds }
     requires value { request.now.value ≤ most_value }

@@ -1,7 +1,7 @@
 // Where a request may start.
 
 ghost use Rattle.std.specs.Prelude.{◌≡◌, ℕ, ◌+◌, ◌<◌, ◌≤◌, ◌↔◌, ◌++◌, length, replicate, All, Contains, IfOk, OnOk, IsTrue};
-ghost use Rattle.plan_base.specs.Limits.{most_slices};
+ghost use Rattle.plan_base.specs.Limits.{most_slices, most_first};
 ghost use Rattle.plan_base.specs.Requests.{listed, IsKnown};
 ghost use Rattle.plan_base.specs.Verdict.{IsPriceInRange};
 ghost use Rattle.bound_checker.specs.Offers.{IsOfferRange};
@@ -117,7 +117,7 @@ fn flags_of(
     sight: &Sight,
     offer: &Offer,
 ) -> Result<ListOf<bool>, AllocError>
-    requires first { parts.now.first.0 ≤ 4223371680 }
+    requires first { parts.now.first.0 ≤ most_first }
     requires slices { parts.now.slices ≤ most_slices }
     requires clear { IsClear sight.now }
     requires offer { IsOfferRange offer.now }

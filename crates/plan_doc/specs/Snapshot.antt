@@ -10,7 +10,7 @@ use Rattle.plan_base.specs.declared.parts.RequestPart.{RequestPart}
 use Rattle.plan_base.specs.declared.parts.GroupPart.{GroupPart}
 use Rattle.plan_base.specs.declared.parts.Parts.{Parts}
 use Rattle.plan_base.specs.declared.fault.SnapshotFault.{SnapshotFault}
-use Rattle.plan_base.specs.Limits.{most_moment, most_seconds, most_value, most_slices}
+use Rattle.plan_base.specs.Limits.{most_moment, most_seconds, most_value, most_slices, most_version, most_first, least_len, most_len}
 use Rattle.plan_base.specs.Snapshot.{fault_of}
 use Rattle.plan_json.specs.declared.member.Member.{Member}
 use Rattle.plan_json.specs.declared.member.Member.TheVariants as key
@@ -108,9 +108,9 @@ quotas_of ms = if is_some (value_of ms key.Quotas) then each_of (number_in 0 (10
 -- `version`, `len`, `first`, `slices`, `telescopes`, `skies`, `groups`, `quotas`
 abbrev pub parts_of : Members → Result Parts JsonFault
 parts_of ms =
-    member_of (number_in 0 524288) ms key.Version >>= λ version.
-    member_of (number_in 60 3600) ms key.Len >>= λ len.
-    member_of (number_in 0 4223371680) ms key.First >>= λ first.
+    member_of (number_in 0 most_version) ms key.Version >>= λ version.
+    member_of (number_in least_len most_len) ms key.Len >>= λ len.
+    member_of (number_in 0 most_first) ms key.First >>= λ first.
     member_of (number_in 1 most_slices) ms key.Slices >>= λ slices.
     each_of telescope_in 0 most_items ms key.Telescopes >>= λ telescopes.
     each_of sky_in 0 most_items ms key.Skies >>= λ skies.

@@ -1,7 +1,7 @@
 // Plans of small desks, worked out by hand.
 
 use plan_base::{Op, Placement, Snapshot, TelescopeNo};
-use samples::{WHOLE_HORIZON, Desk, TelescopeWish, GroupWish, Groups, SampleFault, Wish};
+use samples::{Desk, GroupWish, Groups, SampleFault, TelescopeWish, WHOLE_HORIZON, Wish};
 use std::alloc::{AllocError, Global};
 
 mod greedy;

@@ -11,10 +11,10 @@ mod ranges;
 mod sample;
 mod seconds;
 
-pub use desk::{Desk, TelescopeWish, GroupWish, Groups, View, Wish};
+pub use desk::{Desk, GroupWish, Groups, TelescopeWish, View, Wish};
 pub use fault::SampleFault;
 pub use lists::{Found, best_of_all, find_starts};
 pub use random::Random;
 pub use ranges::{are_in_range, are_quota_prices_in_range};
-pub use sample::{WHOLE_HORIZON, ONE, Sample, TWO, VALUE};
+pub use sample::{ONE, Sample, TWO, VALUE, WHOLE_HORIZON};
 pub use seconds::is_start;

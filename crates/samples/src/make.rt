@@ -1,6 +1,6 @@
 // The parts that snapshots are made of. What is made is boxed, so that no proof looks into it.
 
-use crate::desk::{TelescopeWish, GroupWish, Groups, View, Wish};
+use crate::desk::{GroupWish, Groups, TelescopeWish, View, Wish};
 use crate::fault::SampleFault;
 use plan_base::{
     GroupNo, GroupPart, ListOf, Op, Parts, RequestNo, RequestPart, Sec, SiteNo, Sky, Snapshot,

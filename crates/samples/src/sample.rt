@@ -1,6 +1,6 @@
 // What a sample has, and its snapshot.
 
-use crate::desk::{Desk, TelescopeWish, GroupWish, Groups, Wish};
+use crate::desk::{Desk, GroupWish, Groups, TelescopeWish, Wish};
 use crate::fault::SampleFault;
 use plan_base::{Op, Snapshot, TelescopeNo, repeated};
 use std::alloc::{AllocError, Global};

@@ -1,5 +1,6 @@
 //! What is done with one line.
 ghost use Rattle.std.specs.Prelude.{◌≡◌, ◌<◌, ◌++◌, IfOk, OnOk, OnErr, IsSome};
+ghost use Rattle.plan_base.specs.Limits.{most_version};
 ghost use Rattle.desk_events.specs.Entry.{text_of_entry};
 ghost use Rattle.desk_events.specs.Laws.{IsExactEntry};
 ghost use Rattle.desk_events.specs.Line.{command_of_line};
@@ -40,7 +41,7 @@ fn do_step(
     read: Result<Command, CommandFault>,
     replies: &mut Vec<u8>,
 ) -> Result<(), AllocError>
-    requires version { state.old.version < 524288 }
+    requires version { state.old.version < most_version }
     requires ranges { IfOk read IsCommand }
     requires step { ¬ (IsPlanning state.old read) }
     ensures { AddsLine state.old state.new line read replies.old.items replies.new.items result }
@@ -70,7 +71,7 @@ fn take(state: &State) -> Result<Taken, AllocError>
 
 /// Publishes what was found for the desk as it is, and says what is replied.
 fn publish_solved(state: &mut State, solved: Solved) -> Result<Reply, AllocError>
-    requires version { state.old.version < 524288 }
+    requires version { state.old.version < most_version }
     requires taken { IsTakenOf state.old solved.taken }
     ensures reply { IfOk result (IsPlanReply state.old) }
     ensures left { IfOk result (λ reply. state.new ≡ after_publish state.old reply) }
@@ -82,7 +83,7 @@ fn publish_solved(state: &mut State, solved: Solved) -> Result<Reply, AllocError
 
 /// Seeks the plan of an opened desk and publishes it, and says what is replied.
 fn seek<R: Threads + Sync>(rt: &R, alloc: Global, state: &mut State) -> Result<Reply, AllocError>
-    requires version { state.old.version < 524288 }
+    requires version { state.old.version < most_version }
     requires opened { IsSome state.old.desk }
     ensures reply { IfOk result (IsPlanReply state.old) }
     ensures left { IfOk result (λ reply. state.new ≡ after_publish state.old reply) }
@@ -100,7 +101,7 @@ fn publish<R: Threads + Sync>(
     line: u32,
     replies: &mut Vec<u8>,
 ) -> Result<(), AllocError>
-    requires version { state.old.version < 524288 }
+    requires version { state.old.version < most_version }
     requires opened { IsSome state.old.desk }
     ensures { AddsPublish state.old state.new line replies.old.items replies.new.items result }
 {
@@ -125,7 +126,7 @@ fn do_plan<R: Threads + Sync>(
     read: Result<Command, CommandFault>,
     replies: &mut Vec<u8>,
 ) -> Result<(), AllocError>
-    requires version { state.old.version < 524288 }
+    requires version { state.old.version < most_version }
     requires planning { IsPlanning state.old read }
     ensures { AddsLine state.old state.new line read replies.old.items replies.new.items result }
 {
@@ -150,7 +151,7 @@ pub(crate) fn do_line<R: Threads + Sync>(
     line: &ScriptLine,
     replies: &mut Vec<u8>,
 ) -> Result<(), AllocError>
-    requires version { state.old.version < 524288 }
+    requires version { state.old.version < most_version }
     ensures { AddsLine state.old state.new number (command_of_line line.now) replies.old.items replies.new.items result }
 {
     let read = read_line(alloc, line)?;
@@ -167,7 +168,7 @@ pub(crate) fn reply_to<R: Threads + Sync>(
     state: &mut State,
     line: &ScriptLine,
 ) -> Result<Reply, AllocError>
-    requires version { state.old.version < 524288 }
+    requires version { state.old.version < most_version }
     ensures { IfOk result (λ reply. RepliesAtLast state.old (command_of_line line.now) reply state.new) }
 {
     let read = read_line(alloc, line)?;

@@ -1,7 +1,7 @@
 // Sets of slices, kept as sets of seconds are: the numbers of their spans are slices.
 
 ghost use Rattle.std.specs.Prelude.{ℕ, ◌+◌, ◌*◌, ◌≤◌, ◌<◌, ◌↔◌, IsTrue, IfOk, All};
-ghost use Rattle.plan_base.specs.Limits.{most_seconds};
+ghost use Rattle.plan_base.specs.Limits.{most_seconds, least_len};
 ghost use Rattle.plan_base.specs.Snapshot.{IsOrderly, IsSortedApart};
 ghost use Rattle.plan_base.specs.BySpans.{HasAll, IsVisibleThrough};
 ghost use Rattle.interval_set.specs.Spans.{has};
@@ -17,7 +17,7 @@ use std::alloc::{AllocError, Global};
 
 /// The slices at which an observation begins that lies inside the span.
 fn slices_in(len: u32, seconds: u32, span: Span) -> Span
-    requires { 60 ≤ len }
+    requires { least_len ≤ len }
     ensures { AreSlicesIn len seconds span result }
 {
     Span {
@@ -28,7 +28,7 @@ fn slices_in(len: u32, seconds: u32, span: Span) -> Span
 
 /// The first slice that doesn't begin before a second.
 fn first_slice(len: u32, from: u64) -> u64
-    requires { 60 ≤ len }
+    requires { least_len ≤ len }
     ensures { (k : ℕ) → (result ≤ k) ↔ (from ≤ k * len) }
 {
     from.div_ceil(u64::from(len))
@@ -36,7 +36,7 @@ fn first_slice(len: u32, from: u64) -> u64
 
 /// How many slices from slice 0 on are such that an observation that begins in them ends by the second `to`.
 fn end_slice(len: u32, seconds: u32, to: u64) -> u64
-    requires { 60 ≤ len }
+    requires { least_len ≤ len }
     ensures { (k : ℕ) → (k < result) ↔ (k * len + seconds ≤ to) }
 {
     let Some(latest) = to.checked_sub(u64::from(seconds)) else {
@@ -47,7 +47,7 @@ fn end_slice(len: u32, seconds: u32, to: u64) -> u64
 
 /// The slices at which an observation begins that lies inside one of the spans.
 fn slices_in_any(alloc: Global, len: u32, seconds: u32, spans: &[Span]) -> Result<Spans, AllocError>
-    requires { 60 ≤ len }
+    requires { least_len ≤ len }
     ensures { IfOk result (AreSlices (λ k. HasAll spans.now (k * len) (k * len + seconds))) }
 {
     let mut slices = Vec::with_capacity(alloc, spans.len())?;

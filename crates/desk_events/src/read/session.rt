@@ -8,7 +8,7 @@ ghost use Rattle.plan_json.specs.declared.member.Member.TheVariants.{Quota};
 ghost use Rattle.desk_events.specs.Commands.{open_of, clock_of, report_of};
 
 use crate::command::Command;
-use plan_base::{MOST_SECONDS, RequestNo};
+use plan_base::{LEAST_LEN, MOST_LEN, MOST_SECONDS, MOST_SLICES, RequestNo};
 use plan_json::{Doc, JsonFault, Member};
 
 /// The most seconds of one proposal in a plan, where it is given.
@@ -27,8 +27,8 @@ pub(crate) fn read_open(doc: &Doc) -> Result<Command, JsonFault>
     ensures { result ≡ open_of (members_of doc.now) }
 {
     let now = doc.moment(Member::Now)?;
-    let slice = doc.number(Member::Slice, 60, 3600)?;
-    let horizon = doc.number(Member::Horizon, 1, 1440)?;
+    let slice = doc.number(Member::Slice, LEAST_LEN, MOST_LEN)?;
+    let horizon = doc.number(Member::Horizon, 1, MOST_SLICES)?;
     let semester = doc.span(Member::Semester)?;
     let lanes = doc.number(Member::Lanes, 1, 8)?;
     let rounds = doc.number(Member::Rounds, 1, 256)?;

@@ -13,7 +13,9 @@ use crate::read::element::{Element, read_list};
 use crate::read::group::Groups;
 use crate::read::number::number_at;
 use crate::read::sky::{MOST_ITEMS, Skies, Telescopes};
-use plan_base::{ListOf, MOST_SLICES, Parts, SliceNo, Snapshot};
+use plan_base::{
+    LEAST_LEN, ListOf, MOST_FIRST, MOST_LEN, MOST_SLICES, MOST_VERSION, Parts, SliceNo, Snapshot,
+};
 use plan_json::{Doc, DocList, JsonFault, Member};
 use std::alloc::Global;
 
@@ -47,9 +49,9 @@ fn read_members(alloc: Global, doc: &Doc) -> Result<Parts, JsonFault>
     ensures value { IfOk result (λ parts. parts_of (members_of doc.now) ≡ Ok parts) }
     ensures fault { IfErr result (λ e. e ≢ json.NoMemory → parts_of (members_of doc.now) ≡ Err e) }
 {
-    let version = doc.number(Member::Version, 0, 524_288)?;
-    let len = doc.number(Member::Len, 60, 3_600)?;
-    let first = doc.number(Member::First, 0, 4_223_371_680)?;
+    let version = doc.number(Member::Version, 0, MOST_VERSION)?;
+    let len = doc.number(Member::Len, LEAST_LEN, MOST_LEN)?;
+    let first = doc.number(Member::First, 0, MOST_FIRST)?;
     let slices = doc.number(Member::Slices, 1, MOST_SLICES)?;
     let telescopes = read_list(alloc, &Telescopes, doc, Member::Telescopes, 0, MOST_ITEMS)?;
     let skies = read_list(alloc, &Skies, doc, Member::Skies, 0, MOST_ITEMS)?;

@@ -1,7 +1,7 @@
 // The snapshots of the tests: two telescopes that can be used at any time, and requests that may start in any slice.
 
 use plan_base::{Snapshot, TelescopeNo};
-use samples::{Desk, TelescopeWish, GroupWish, Groups, SampleFault, Wish};
+use samples::{Desk, GroupWish, Groups, SampleFault, TelescopeWish, Wish};
 use std::alloc::Global;
 
 /// From the first second of the horizon to its end: eight slices of 300 seconds, from slice 100 on.

@@ -3,7 +3,9 @@
 use super::{Answer, assert_answer};
 use interval_solver::Solver;
 use plan_base::{Placement, Snapshot, TelescopeNo};
-use samples::{Desk, TelescopeWish, Found, Groups, Random, SampleFault, Wish, best_of_all, find_starts};
+use samples::{
+    Desk, Found, Groups, Random, SampleFault, TelescopeWish, Wish, best_of_all, find_starts,
+};
 use snapshot_starts::starts;
 use std::alloc::{AllocError, Global};
 use std::process::Abort;

@@ -5,7 +5,7 @@ ghost use Rattle.std.specs.Prelude.{◌≡◌};
 use super::{Answer, assert_answer};
 use interval_solver::Solver;
 use plan_base::{Placement, RequestNo, SliceNo, Snapshot, TelescopeNo};
-use samples::{Desk, TelescopeWish, Groups, Wish};
+use samples::{Desk, Groups, TelescopeWish, Wish};
 use snapshot_starts::starts;
 use std::alloc::{AllocError, Global};
 use std::process::Abort;

@@ -1,7 +1,7 @@
 // Runs and counts that were worked out by hand.
 
 use plan_base::{Placement, RequestNo, SliceNo, TargetNo, TelescopeNo};
-use samples::{Desk, TelescopeWish, Groups, View, Wish};
+use samples::{Desk, Groups, TelescopeWish, View, Wish};
 use snapshot_starts::{Run, StartFault, is_possible, starts};
 use std::alloc::{AllocError, Global};
 use std::process::Abort;
