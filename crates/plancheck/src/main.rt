@@ -21,6 +21,9 @@ use std::process::ExitCode;
 /// Does what the word says. Where there is another word or none, or more than one, the status is `Words` and nothing is
 /// read or written.
 fn run<S: Source, K: Sink>(alloc: Global, words: &[String], source: &mut S, sink: &mut K) -> Status
+    ensures words { (result ≡ Status.Words) ↔ ¬ (IsOneWord (codes "check") words.now ⊎ IsOneWord (codes "forest") words.now
+        ⊎ IsOneWord (codes "explain") words.now ⊎ IsOneWord (codes "rapid") words.now) }
+    ensures untouched { result ≡ Status.Words → (source.new ≡ source.old) × (sink.new ≡ sink.old) }
     ensures check { IsOneWord (codes "check") words.now → IsDocumentRun IsCheckAnswer
         (S.left source.old) (S.left source.new) (K.written sink.old) (K.written sink.new) result }
     ensures forest { IsOneWord (codes "forest") words.now → IsDocumentRun IsForestAnswer
