@@ -7,9 +7,9 @@ use thiserror::Error;
 /// The first thing for which a group isn't inserted.
 #[derive(Clone, Copy, Debug, PartialEq, Eq, Error)]
 pub enum RapidFault {
-    /// This group isn't a `SINGLE`.
-    #[error("group {0:?} is not a SINGLE")]
-    NotSingle(GroupNo),
+    /// The group isn't a `SINGLE`.
+    #[error("group {} isn't a SINGLE", group.0)]
+    NotSingle { group: GroupNo },
     /// The snapshot with the group at its end isn't one.
     #[error("{0}")]
     Snapshot(SnapshotFault),

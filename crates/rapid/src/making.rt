@@ -56,7 +56,7 @@ fn with_group(alloc: Global, snapshot: &Snapshot, group: GroupPart) -> Result<Sn
     ensures err { IfErr result (λ fault. fault ≢ NoMemory → refusal_of snapshot.now group ≡ Some fault) }
 {
     if !is_single(group.op) {
-        return Err(RapidFault::NotSingle(group.group));
+        return Err(RapidFault::NotSingle { group: group.group });
     }
     let mut parts = snapshot.parts().copy()?;
     parts.groups.push(group)?;

@@ -71,7 +71,7 @@ fn with_refusal(text: Vec<u8>, fault: RapidFault) -> Result<Answer, AllocError>
 {
     match fault {
         RapidFault::NoMemory => Err(AllocError),
-        RapidFault::NotSingle(_) => with_line(text, fault),
+        RapidFault::NotSingle { .. } => with_line(text, fault),
         RapidFault::Snapshot(_) => with_line(text, fault),
     }
 }

@@ -102,7 +102,7 @@ impl Json for RapidFault {
 
     fn write(&self, out: &mut Vec<u8>) -> Result<(), AllocError> {
         match *self {
-            RapidFault::NotSingle(group) => write_not_single(group, out),
+            RapidFault::NotSingle { group } => write_not_single(group, out),
             RapidFault::Snapshot(fault) => DocFault::Snapshot(fault).write(out),
             RapidFault::NoMemory => DocFault::NoMemory.write(out),
         }
