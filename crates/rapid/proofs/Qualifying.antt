@@ -32,36 +32,30 @@ module _ (s : Parts) (held : List Held) (p : Placement) (o : IsOrderly s) (stage
   struck_own : AreStruck own held (length s.groups) flags
   struck_own = subst (λ (h : Held). AreStruck h held (length s.groups) flags) moved (subst (λ (m : ℕ). AreStruck new held m flags) n_is struck)
 
-  lost_own : (fl : List Bool) (lost : ℕ) → fl ≡ flags → lost ≡ sum_by (λ h. h.worth) (filter (goes_by fl new) held) → lost ≡ sum_by (λ h. h.worth) (filter (goes_by flags own) held)
-  lost_own fl lost same e =
-      e ∙ ap (λ (bs : List Bool). sum_by (λ h. h.worth) (filter (goes_by bs new) held)) same
-      ∙ ap (λ (x : Held). sum_by (λ h. h.worth) (filter (goes_by flags x) held)) moved
+  lost_own : (lost : ℕ) → lost ≡ sum_by (λ h. h.worth) (filter (goes_by flags new) held) → lost ≡ sum_by (λ h. h.worth) (filter (goes_by flags own) held)
+  lost_own lost e = e ∙ ap (λ (x : Held). sum_by (λ h. h.worth) (filter (goes_by flags x) held)) moved
 
-  counted_own : (fl : List Bool) (counted : ℕ) → fl ≡ flags → counted ≡ sum_by (λ h. h.counted) (filter (λ h. not (goes_by fl new h)) held) → counted + new.counted ≡ sum_by (λ h. h.counted) (filter (λ h. not (goes_by flags own h)) held) + own.counted
-  counted_own fl counted same e =
-      let kept : counted ≡ sum_by (λ h. h.counted) (filter (λ h. not (goes_by flags own h)) held) =
-      e ∙ ap (λ (bs : List Bool). sum_by (λ h. h.counted) (filter (λ h. not (goes_by bs new h)) held)) same
-      ∙ ap (λ (x : Held). sum_by (λ h. h.counted) (filter (λ h. not (goes_by flags x h)) held)) moved
-      in
+  counted_own : (counted : ℕ) → counted ≡ sum_by (λ h. h.counted) (filter (λ h. not (goes_by flags new h)) held) → counted + new.counted ≡ sum_by (λ h. h.counted) (filter (λ h. not (goes_by flags own h)) held) + own.counted
+  counted_own counted e =
+      let kept : counted ≡ sum_by (λ h. h.counted) (filter (λ h. not (goes_by flags own h)) held) = e ∙ ap (λ (x : Held). sum_by (λ h. h.counted) (filter (λ h. not (goes_by flags x h)) held)) moved in
       let mine : new.counted ≡ own.counted = ap (λ (x : Held). x.counted) moved in
       omega arith
 
   worth_own : new.worth ≡ own.worth
   worth_own = ap (λ (x : Held). x.worth) moved
 
-  pub loses : (fl : List Bool) (lost : ℕ) → fl ≡ flags → lost ≡ sum_by (λ h. h.worth) (filter (goes_by fl new) held) → new.worth ≤ lost → ¬ (Qualifies s (plan_of held) p)
-  loses fl lost same e most = not_worth s held p o stage possible flags struck_own lost (lost_own fl lost same e) (let w = worth_own in omega arith)
+  pub loses : (lost : ℕ) → lost ≡ sum_by (λ h. h.worth) (filter (goes_by flags new) held) → new.worth ≤ lost → ¬ (Qualifies s (plan_of held) p)
+  loses lost e most = not_worth s held p o stage possible flags struck_own lost (lost_own lost e) (let w = worth_own in omega arith)
 
-  pub passes_quota : (fl : List Bool) (counted : ℕ) → fl ≡ flags → counted ≡ sum_by (λ h. h.counted) (filter (λ h. not (goes_by fl new h)) held) → ¬ ((q : ℕ) → u ≡ Some q → counted + new.counted ≤ quota_at s q) → ¬ (Qualifies s (plan_of held) p)
-  passes_quota fl counted same e over = not_within s held p o stage possible flags struck_own (counted + new.counted) (counted_own fl counted same e) (λ within. over (λ q f. within q (sym quota_is ∙ f)))
+  pub passes_quota : (counted : ℕ) → counted ≡ sum_by (λ h. h.counted) (filter (λ h. not (goes_by flags new h)) held) → ¬ ((q : ℕ) → u ≡ Some q → counted + new.counted ≤ quota_at s q) → ¬ (Qualifies s (plan_of held) p)
+  passes_quota counted e over = not_within s held p o stage possible flags struck_own (counted + new.counted) (counted_own counted e) (λ within. over (λ q f. within q (sym quota_is ∙ f)))
 
-  pub is_worth_it : (fl gl hl kl : List Bool) (lost counted : ℕ) (found : Found) → fl ≡ flags → gl ≡ flags → hl ≡ flags → kl ≡ flags
-      → lost ≡ sum_by (λ h. h.worth) (filter (goes_by fl new) held) → counted ≡ sum_by (λ h. h.counted) (filter (λ h. not (goes_by gl new h)) held)
+  pub is_worth_it : (lost counted : ℕ) (found : Found) → lost ≡ sum_by (λ h. h.worth) (filter (goes_by flags new) held) → counted ≡ sum_by (λ h. h.counted) (filter (λ h. not (goes_by flags new h)) held)
       → lost < new.worth → ((q : ℕ) → u ≡ Some q → counted + new.counted ≤ quota_at s q)
-      → found.start ≡ p → found.gone.items ≡ plan_of (filter (goes_by hl new) held) → found.kept.items ≡ plan_of (filter (λ h. not (goes_by kl new h)) held) → found.gain ≡ new.worth - lost → IsFound s held p found
-  is_worth_it fl gl hl kl lost counted found f g h k lost_e counted_e less within start gone kept gain =
-      found_is s held p o stage possible flags struck_own found lost (counted + new.counted) (lost_own fl lost f lost_e) (counted_own gl counted g counted_e) (let w = worth_own in omega arith)
+      → found.start ≡ p → found.gone.items ≡ plan_of (filter (goes_by flags new) held) → found.kept.items ≡ plan_of (filter (λ h. not (goes_by flags new h)) held) → found.gain ≡ new.worth - lost → IsFound s held p found
+  is_worth_it lost counted found lost_e counted_e less within start gone kept gain =
+      found_is s held p o stage possible flags struck_own found lost (counted + new.counted) (lost_own lost lost_e) (counted_own counted counted_e) (let w = worth_own in omega arith)
       (λ q e. within q (quota_is ∙ e)) start
-      (gone ∙ ap (λ (bs : List Bool). plan_of (filter (goes_by bs new) held)) h ∙ ap (λ (x : Held). plan_of (filter (goes_by flags x) held)) moved)
-      (kept ∙ ap (λ (bs : List Bool). plan_of (filter (λ y. not (goes_by bs new y)) held)) k ∙ ap (λ (x : Held). plan_of (filter (λ y. not (goes_by flags x y)) held)) moved)
+      (gone ∙ ap (λ (x : Held). plan_of (filter (goes_by flags x) held)) moved)
+      (kept ∙ ap (λ (x : Held). plan_of (filter (λ y. not (goes_by flags x y)) held)) moved)
       (let w = worth_own in omega arith)

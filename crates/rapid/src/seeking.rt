@@ -12,9 +12,9 @@ ghost use Rattle.rapid.specs.Stage.{IsStage};
 ghost use Rattle.rapid.specs.Found.{IsFound, IsFirstAt, IsSought};
 
 use crate::held::{Held, held_of};
-use crate::striking::{counted_kept, gone, kept, struck_ands, worth_gone};
+use crate::striking::{counted_kept, gone, kept, strike_ands, worth_gone};
 use bound_checker::{known_quota, request_of};
-use plan_base::{Placement, RequestNo, SliceNo, Snapshot, TelescopeNo};
+use plan_base::{Placement, RequestNo, SliceNo, Snapshot, repeated};
 use snapshot_starts::is_possible;
 use std::alloc::{AllocError, Global};
 
@@ -41,14 +41,16 @@ fn is_within(snapshot: &Snapshot, quota: Option<u16>, seconds: u64) -> bool
     }
 }
 
-/// The start, where it qualifies. Fails only for want of memory.
+/// The start, where it qualifies. There is a flag for each group, to write into. Fails only for want of memory.
 fn qualify(
     alloc: Global,
     snapshot: &Snapshot,
     held: &[Held],
     start: Placement,
+    flags: &mut [bool],
 ) -> Result<Option<Found>, AllocError>
-    requires { IsStage snapshot.now start.request.0 held.now }
+    requires stage { IsStage snapshot.now start.request.0 held.now }
+    requires flags { length flags.old ≡ length snapshot.now.groups }
     ensures { IfOk result (λ found. MatchOption found (¬ (Qualifies snapshot.now (plan_of held.now) start)) (IsFound snapshot.now held.now start)) }
 {
     snapshot.recall_valid();
@@ -57,9 +59,9 @@ fn qualify(
     }
     let quota = known_quota(snapshot, start.request);
     let new = held_of(snapshot, quota, start);
-    let flags = struck_ands(alloc, snapshot.parts().groups.len(), &new, held)?;
-    let lost = worth_gone(flags.as_slice(), &new, held);
-    let counted = counted_kept(flags.as_slice(), &new, held) + new.counted;
+    strike_ands(&new, held, flags);
+    let lost = worth_gone(flags, &new, held);
+    let counted = counted_kept(flags, &new, held) + new.counted;
     if lost >= new.worth {
         return Ok(None);
     }
@@ -68,8 +70,8 @@ fn qualify(
     }
     Ok(Some(Found {
         start,
-        gone: gone(alloc, flags.as_slice(), &new, held)?,
-        kept: kept(alloc, flags.as_slice(), &new, held)?,
+        gone: gone(alloc, flags, &new, held)?,
+        kept: kept(alloc, flags, &new, held)?,
         gain: new.worth - lost,
     }))
 }
@@ -81,8 +83,10 @@ fn first_at(
     held: &[Held],
     request: RequestNo,
     slice: SliceNo,
+    flags: &mut [bool],
 ) -> Result<Option<Found>, AllocError>
-    requires { IsStage snapshot.now request.0 held.now }
+    requires stage { IsStage snapshot.now request.0 held.now }
+    requires flags { length flags.old ≡ length snapshot.now.groups }
     ensures { IfOk result (IsFirstAt snapshot.now held.now request slice) }
 {
     snapshot.recall_valid();
@@ -93,7 +97,7 @@ fn first_at(
             telescope: *telescope,
             slice,
         };
-        if let Some(found) = qualify(alloc, snapshot, held, start)? {
+        if let Some(found) = qualify(alloc, snapshot, held, start, flags)? {
             return Ok(Some(found));
         }
     }
@@ -110,11 +114,27 @@ pub(crate) fn earliest(
     requires { IsStage snapshot.now request.0 held.now }
     ensures { IfOk result (IsSought snapshot.now held.now request.0) }
 {
+    let mut flags = repeated(alloc, false, snapshot.parts().groups.len())?;
+    earliest_by(alloc, snapshot, held, request, flags.as_mut_slice())
+}
+
+/// The same, with a flag for each group to write into.
+fn earliest_by(
+    alloc: Global,
+    snapshot: &Snapshot,
+    held: &[Held],
+    request: RequestNo,
+    flags: &mut [bool],
+) -> Result<Option<Found>, AllocError>
+    requires stage { IsStage snapshot.now request.0 held.now }
+    requires flags { length flags.old ≡ length snapshot.now.groups }
+    ensures { IfOk result (IsSought snapshot.now held.now request.0) }
+{
     snapshot.recall_valid();
     let first = snapshot.parts().first.0;
     let end = first + snapshot.parts().slices;
     for slice in first..end {
-        if let Some(found) = first_at(alloc, snapshot, held, request, SliceNo(slice))? {
+        if let Some(found) = first_at(alloc, snapshot, held, request, SliceNo(slice), flags)? {
             return Ok(Some(found));
         }
     }

@@ -1,6 +1,6 @@
 // What of a plan has to go for a start.
 
-ghost use Rattle.std.specs.Prelude.{◌≡◌, ◌<◌, ◌^◌, not, ℕ, length, map, replicate, false, slice_index_or, filter, sum_by, All, IfOk};
+ghost use Rattle.std.specs.Prelude.{◌≡◌, ◌<◌, ◌^◌, not, ℕ, length, replicate, false, slice_index_or, filter, sum_by, All, IfOk};
 ghost use Rattle.rapid.specs.Held.{meets, is_flagged, is_struck, goes_by, AreStruck, HasPlaceBelow, plan_of};
 
 use crate::held::Held;
@@ -16,19 +16,17 @@ pub(crate) fn meets(a: &Held, b: &Held) -> bool
         && u64::from(b.placement.slice.0) < a.after
 }
 
-/// So many flags that aren't set. Fails only for want of memory.
-fn no_flags(alloc: Global, count: usize) -> Result<Vec<bool>, AllocError>
-    ensures { IfOk result (λ flags. flags.items ≡ replicate count false) }
+/// Unsets all flags.
+fn clear(flags: &mut [bool])
+    ensures { flags.new ≡ replicate (length flags.old) false }
 {
-    vec![in alloc; false; count]
+    flags.fill(false);
 }
 
 /// Sets the flag of the other's `AND`, if it is of one and the start meets it.
-fn strike(flags: &mut Vec<bool>, start: &Held, other: &Held)
-    requires { HasPlaceBelow (length flags.old.items) other.now }
-    ensures count { length flags.new.items ≡ length flags.old.items }
-    ensures set { (g : ℕ) → g < length flags.old.items
-        → slice_index_or flags.new.items g false ≡ is_struck flags.old.items start.now other.now g }
+fn strike(flags: &mut [bool], start: &Held, other: &Held)
+    requires { HasPlaceBelow (length flags.old) other.now }
+    ensures { (g : ℕ) → g < length flags.old → slice_index_or flags.new g false ≡ is_struck flags.old start.now other.now g }
 {
     if let Some(group) = other.and_place {
         if meets(start, other) {
@@ -37,21 +35,15 @@ fn strike(flags: &mut Vec<bool>, start: &Held, other: &Held)
     }
 }
 
-/// Flags of the groups that are an `AND` of which the start meets one that is held. Fails only for want of memory.
-pub(crate) fn struck_ands(
-    alloc: Global,
-    groups: usize,
-    start: &Held,
-    held: &[Held],
-) -> Result<Vec<bool>, AllocError>
-    requires { All (HasPlaceBelow groups) held.now }
-    ensures { IfOk result (λ flags. AreStruck start.now held.now groups flags.items) }
+/// Sets the flags of the groups that are an `AND` of which the start meets one that is held, and unsets all others.
+pub(crate) fn strike_ands(start: &Held, held: &[Held], flags: &mut [bool])
+    requires { All (HasPlaceBelow (length flags.old)) held.now }
+    ensures { AreStruck start.now held.now (length flags.old) flags.new }
 {
-    let mut flags = no_flags(alloc, groups)?;
+    clear(flags);
     for other in held {
-        strike(&mut flags, start, other);
+        strike(flags, start, other);
     }
-    Ok(flags)
 }
 
 /// Whether the `AND` at this place, if there is one, is flagged.

@@ -1,6 +1,0 @@
-use Rattle.std.proofs.Common.{take}
-use Rattle.rapid.specs.Held.{AreStruck}
-use Rattle.rapid.proofs.striking.struck_ands.Given as goal
-
-abbrev pub invariant-loop-other : goal.invariant-loop-other
-invariant-loop-other l = AreStruck l.start (take l.other-index l.held) l.groups l.flags.items
