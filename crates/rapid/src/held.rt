@@ -2,7 +2,7 @@
 
 ghost use Rattle.std.specs.Prelude.{◌≡◌, ◌≤◌, ◌<◌, map, length, All, IfOk};
 ghost use Rattle.plan_base.specs.Limits.{most_seconds, most_value};
-ghost use Rattle.plan_base.specs.Requests.{IsKnown, quota_of, seconds_of};
+ghost use Rattle.plan_base.specs.Requests.{IsKnown};
 ghost use Rattle.bound_checker.specs.Claims.{IsEachKnown};
 ghost use Rattle.rapid.specs.Held.{and_at, is_same_quota, counted_of, held_of, HasPlaceBelow};
 

@@ -5,8 +5,9 @@ use plan_base::Placement;
 /// Where the request of a group that was inserted is placed.
 #[derive(Clone, Copy, Debug, PartialEq, Eq)]
 pub enum Inserted {
-    /// Here: at its earliest start that is worth more than all that has to go for it.
+    /// Here: at its earliest start, on the lowest telescope among equals, at which the plan is feasible once all that has to go
+    /// for it is gone, and which is worth more than that.
     Placed(Placement),
-    /// Nowhere: no start of it is, and the plan stays.
+    /// Nowhere: no start of it qualifies, and the plan stays.
     NoPlace,
 }

@@ -3,8 +3,6 @@
 ghost use Rattle.std.specs.Prelude.{◌≡◌, ◌≤◌, ◌++◌, ℕ, ℤ, pos, List};
 ghost use Rattle.plan_base.specs.declared.claim.Placement.{Placement};
 ghost use Rattle.plan_base.specs.declared.parts.GroupPart.{GroupPart};
-ghost use Rattle.plan_base.specs.Starts.{value_of_plan};
-ghost use Rattle.plan_base.specs.Feasible.{IsFeasible};
 ghost use Rattle.plan_base.specs.Bound.{IsBound};
 ghost use Rattle.plan_base.specs.Verdict.{IsCertified};
 ghost use Rattle.rapid.specs.Standing.{Standing};

@@ -2,7 +2,6 @@
 
 ghost use Rattle.std.specs.Prelude.{◌≡◌, ◌≢◌, ◌∷◌, ◌<◌, ◌-◌, [], None, Some, length, HoldsAt, IfOk, OnOk, IfErr};
 ghost use Rattle.plan_base.specs.Requests.{listed};
-ghost use Rattle.plan_base.specs.Snapshot.{IsSnapshot};
 ghost use Rattle.plan_base.specs.Verdict.{IsCertified};
 ghost use Rattle.plan_base.specs.declared.parts.GroupPart.{GroupPart};
 ghost use Rattle.plan_base.specs.declared.parts.Op.TheVariants.{Single};

@@ -1,8 +1,7 @@
 // A snapshot with a certified claim, into which groups are inserted.
 
 ghost use Rattle.std.specs.Prelude.{◌≡◌, ◌≢◌, [], None, Some, IfOk, IfErr, OnOk, OnErr};
-ghost use Rattle.plan_base.specs.Snapshot.{IsSnapshot};
-ghost use Rattle.plan_base.specs.Verdict.{IsCertified, IsVerdict};
+ghost use Rattle.plan_base.specs.Verdict.{IsCertified};
 ghost use Rattle.rapid.specs.Refused.{refusal_of, IsGroupInRanges};
 ghost use Rattle.rapid.specs.Insertion.{IsInsertion};
 ghost use Rattle.rapid.specs.Answer.{IsAnswer};
@@ -75,9 +74,10 @@ impl Rapid {
     }
 
     /// Inserts a group of one request. The snapshot has the group at its end then. The request takes the earliest start, on
-    /// the lowest telescope among equals, that is worth more than all that has to go for it: what shares a slice with it,
-    /// and the whole of each `AND` of which something does. Where there is none, the plan stays. The request's price is 0
-    /// where the bound is then below the old one and the request's value together, else its value; the other prices stay.
+    /// the lowest telescope among equals, at which the plan is feasible once all that has to go for it is gone, and which is
+    /// worth more than that: what shares a slice with it, and the whole of each `AND` of which something does. Where there is
+    /// none, the plan stays. The request's price is 0 where the bound is then below the old one and the request's value
+    /// together, else its value; the other prices stay.
     ///
     /// The group's seconds, value and moments are in the ranges that a document allows them. A group that isn't a `SINGLE`
     /// is refused, and then one with which the parts aren't a snapshot, for their first fault. A refusal and want of memory

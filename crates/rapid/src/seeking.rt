@@ -2,11 +2,8 @@
 
 ghost use Rattle.std.specs.Prelude.{◌≡◌, ◌≤◌, ◌<◌, ◌↔◌, IsTrue, ℕ, length, MatchOption, IfOk, Some};
 ghost use Rattle.plan_base.specs.declared.claim.Placement.{Placement};
-ghost use Rattle.plan_base.specs.Requests.{telescopes_of, quota_of};
-ghost use Rattle.plan_base.specs.Starts.{worth_at, value_of_plan};
 ghost use Rattle.plan_base.specs.Feasible.{quota_at};
-ghost use Rattle.rapid.specs.Displaced.{IsWorthIt, Qualifies};
-ghost use Rattle.rapid.specs.Insertion.{IsEarliest, HasNoPlace};
+ghost use Rattle.rapid.specs.Displaced.{Qualifies};
 ghost use Rattle.rapid.specs.Held.{plan_of};
 ghost use Rattle.rapid.specs.Stage.{IsStage};
 ghost use Rattle.rapid.specs.Found.{IsFound, IsFirstAt, IsSought};
