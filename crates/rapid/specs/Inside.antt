@@ -1,9 +1,12 @@
 -- What an insertion makes.
-use Rattle.std.specs.Prelude.{◌≡◌, []}
+use Rattle.std.specs.Prelude.{◌≡◌, ◌+◌, []}
 use Rattle.plan_base.specs.declared.parts.Parts.{Parts}
 use Rattle.plan_base.specs.declared.parts.GroupPart.{GroupPart}
 use Rattle.plan_base.specs.declared.parts.Op.TheVariants.{Single}
 use Rattle.plan_base.specs.declared.claim.Claim.{Claim}
+use Rattle.plan_base.specs.declared.claim.QuotaPrices.{QuotaPrices}
+use Rattle.rapid.specs.declared.placing.Placing.{Placing}
+use Rattle.rapid.specs.declared.pricing.Pricing.{Pricing}
 use Rattle.rapid.specs.declared.making.Priced.{Priced}
 use Rattle.rapid.specs.Standing.{Standing}
 use Rattle.rapid.specs.Insertion.{with_group, IsInsertion}
@@ -17,6 +20,15 @@ pub record IsExtended (before s : Parts) : Type 0 where
 -- a snapshot with a claim before anything was displaced
 abbrev pub standing : Parts → Claim → Standing
 standing s claim = record { snapshot = s; claim = claim; displaced = [] }
+
+-- the claim with its new request placed and priced so, and what belongs to it
+abbrev pub joined : Claim → QuotaPrices → Placing → Pricing → Priced
+joined old us placing pricing = record {
+  claim = record { placements = placing.placements; prices = pricing.prices; quota_prices = us; value = old.value + placing.gain; bound = pricing.bound };
+  tables = pricing.tables;
+  displaced = placing.displaced;
+  inserted = placing.inserted;
+}
 
 -- what stands once this is put in
 abbrev pub standing_of : Parts → Priced → Standing

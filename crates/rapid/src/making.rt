@@ -1,6 +1,6 @@
 // What an insertion makes, before it is put in.
 
-ghost use Rattle.std.specs.Prelude.{◌≡◌, ◌≢◌, ◌∷◌, ◌<◌, ◌-◌, [], None, Some, length, HoldsAt, IfOk, OnOk, IfErr};
+ghost use Rattle.std.specs.Prelude.{◌≡◌, ◌≢◌, ◌∷◌, ◌<◌, ◌+◌, ◌-◌, ◌^◌, [], None, Some, length, HoldsAt, IfOk, OnOk, IfErr};
 ghost use Rattle.plan_base.specs.Requests.{listed};
 ghost use Rattle.plan_base.specs.Verdict.{IsCertified};
 ghost use Rattle.plan_base.specs.declared.parts.GroupPart.{GroupPart};
@@ -8,13 +8,13 @@ ghost use Rattle.plan_base.specs.declared.parts.Op.TheVariants.{Single};
 ghost use Rattle.rapid.specs.Insertion.{with_group};
 ghost use Rattle.rapid.specs.Tables.{AreTables};
 ghost use Rattle.rapid.specs.Refused.{is_single, refusal_of, IsGroupInRanges};
-ghost use Rattle.rapid.specs.Inside.{IsExtended, IsMadeOf};
+ghost use Rattle.rapid.specs.Inside.{IsExtended, joined, IsMadeOf};
 ghost use Rattle.rapid.specs.declared.fault.RapidFault.TheVariants.{NoMemory};
 
 use crate::fault::RapidFault;
 use crate::inserted::Inserted;
-use crate::placing::place;
-use crate::pricing::price;
+use crate::placing::{Placing, place};
+use crate::pricing::{Pricing, price};
 use crate::tables::Extension;
 use plan_base::{
     Claim, GroupPart, ListOf, Op, QuotaPrices, RequestNo, RequestPart, Snapshot, value_limit,
@@ -78,6 +78,26 @@ fn copied(alloc: Global, quota_prices: &QuotaPrices) -> Result<QuotaPrices, Allo
     Ok(QuotaPrices(ListOf::from_vec(prices)))
 }
 
+/// What comes of a claim where its request is placed and priced so.
+fn joined(claim: &Claim, quota_prices: QuotaPrices, placing: Placing, pricing: Pricing) -> Priced
+    requires { claim.now.value + placing.gain < 2 ^ 64 }
+    ensures { result ≡ joined claim.now quota_prices placing pricing }
+{
+    let claim = Claim {
+        placements: placing.placements,
+        prices: pricing.prices,
+        quota_prices,
+        value: claim.value + placing.gain,
+        bound: pricing.bound,
+    };
+    Priced {
+        claim,
+        tables: pricing.tables,
+        displaced: placing.displaced,
+        inserted: placing.inserted,
+    }
+}
+
 /// What comes of a claim where the snapshot has one more request, the one of a `SINGLE`, at its end. Fails only for want of
 /// memory.
 fn place_and_price(
@@ -98,7 +118,6 @@ fn place_and_price(
     snapshot.recall_valid();
     value_limit(snapshot);
     let request = last_request(snapshot);
-    let number = request.request;
     let extension = Extension {
         before,
         claim,
@@ -108,20 +127,13 @@ fn place_and_price(
     };
     let quota_prices = copied(alloc, &claim.quota_prices)?;
     let pricing = price(alloc, &extension)?;
-    let placing = place(alloc, snapshot, claim.placements.as_slice(), number)?;
-    let claim = Claim {
-        placements: placing.placements,
-        prices: pricing.prices,
-        quota_prices,
-        value: claim.value + placing.gain,
-        bound: pricing.bound,
-    };
-    Ok(Priced {
-        claim,
-        tables: pricing.tables,
-        displaced: placing.displaced,
-        inserted: placing.inserted,
-    })
+    let placing = place(
+        alloc,
+        snapshot,
+        claim.placements.as_slice(),
+        request.request,
+    )?;
+    Ok(joined(claim, quota_prices, placing, pricing))
 }
 
 /// What the insertion of a group into a snapshot and a claim that is certified for it makes.

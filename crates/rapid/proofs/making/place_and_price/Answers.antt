@@ -1,5 +1,8 @@
 use Rattle.std.proofs.Common.{List, refl, sym, subst, arith}
 use Rattle.plan_base.specs.declared.claim.Placement.{Placement}
+use Rattle.rapid.specs.declared.making.Priced.{Priced}
+use Rattle.rapid.specs.Tables.{AreTables}
+use Rattle.rapid.specs.Inside.{IsMadeOf}
 use Rattle.rapid.specs.Placing.{IsReady, IsPlacedSo}
 use Rattle.rapid.proofs.Made.{some_listed, only_last, value_fits, the_last, ready, value_same, insertion}
 use Rattle.rapid.proofs.making.place_and_price.Goals as goal
@@ -27,8 +30,8 @@ place-requires c =
     (the_last c.args.before.now c.args.snapshot.now c.args.claim.now c.requires.extended.group c.requires.extended.single c.requires.extended.whole c.recall_valid.ensures.orderly c.recall_valid-2.ensures.orderly c.requires.certified
     c.last_request-request.result.now c.last_request-request.ensures))
 
-pub overflow_add-claim : goal.overflow_add-claim
-overflow_add-claim c =
+pub joined-requires : goal.joined-requires
+joined-requires c =
     let small = value_fits c.args.snapshot.now c.args.claim.now.placements c.last_request-request.result.now.request.0 c.args.claim.now.value c.in_ok-placing.placing c.value_limit.ensures
     (subst (λ (xs : List Placement). IsPlacedSo c.args.snapshot.now xs c.last_request-request.result.now.request.0 c.in_ok-placing.placing) c.as_slice.ensures c.in_ok-placing.ensures)
     (value_same c.args.before.now c.args.snapshot.now c.args.claim.now c.requires.extended.group c.requires.extended.single c.requires.extended.whole c.recall_valid.ensures.orderly c.recall_valid-2.ensures.orderly c.requires.certified)
@@ -36,12 +39,13 @@ overflow_add-claim c =
     omega arith
 
 pub returns-clause-tables : goal.returns-clause-tables
-returns-clause-tables c = c.in_ok-pricing.ensures.tables
+returns-clause-tables c = subst (λ (priced : Priced). AreTables c.args.snapshot.now priced.claim.prices.0 priced.tables) (sym c.joined.ensures) c.in_ok-pricing.ensures.tables
 
 pub returns-clause-made : goal.returns-clause-made
 returns-clause-made c = λ group single whole.
-    insertion c.args.before.now c.args.snapshot.now c.args.claim.now group single whole c.recall_valid.ensures.orderly c.recall_valid-2.ensures.orderly c.requires.certified c.last_request-request.result.now
+    subst (IsMadeOf c.args.before.now c.args.claim.now group c.args.snapshot.now) (sym c.joined.ensures)
+    (insertion c.args.before.now c.args.snapshot.now c.args.claim.now group single whole c.recall_valid.ensures.orderly c.recall_valid-2.ensures.orderly c.requires.certified c.last_request-request.result.now
     (the_last c.args.before.now c.args.snapshot.now c.args.claim.now group single whole c.recall_valid.ensures.orderly c.recall_valid-2.ensures.orderly c.requires.certified c.last_request-request.result.now c.last_request-request.ensures)
     c.in_ok-placing.placing c.in_ok-pricing.pricing _
     (subst (λ (xs : List Placement). IsPlacedSo c.args.snapshot.now xs c.last_request-request.result.now.request.0 c.in_ok-placing.placing) c.as_slice.ensures c.in_ok-placing.ensures) c.in_ok-pricing.ensures refl refl c.in_ok-quota_prices.ensures
-    refl refl
+    refl refl)
