@@ -1,13 +1,13 @@
 // The greatest surplus of a telescope.
 
-ghost use Rattle.std.specs.Prelude.{◌≡◌, ◌<◌, pos, length, replicate, All, IfOk};
+ghost use Rattle.std.specs.Prelude.{◌≡◌, ◌<◌, length, All, IfOk};
 ghost use Rattle.plan_base.specs.Requests.{listed};
 ghost use Rattle.plan_base.specs.Verdict.{IsPriceInRange};
 ghost use Rattle.plan_base.specs.Bound.{IsBest};
 
 use crate::starts::starts_of;
 use crate::table::fill_table;
-use plan_base::{Prices, Snapshot, TelescopeNo};
+use plan_base::{Prices, Snapshot, TelescopeNo, repeated};
 use std::alloc::{AllocError, Global};
 
 /// The greatest sum, over all lists of possible starts of a telescope of which no two share a slice, of what the
@@ -30,12 +30,6 @@ pub fn best_of(
 {
     snapshot.recall_valid();
     let rows = starts_of(alloc, snapshot, telescope, prices)?;
-    let mut table = empty_table(alloc, rows.len() + 1)?;
+    let mut table = repeated(alloc, 0, rows.len() + 1)?;
     Ok(fill_table(rows.as_slice(), table.as_mut_slice()))
-}
-
-fn empty_table(alloc: Global, count: usize) -> Result<Vec<i64>, AllocError>
-    ensures { IfOk result (λ table. table.items ≡ replicate count (pos 0)) }
-{
-    vec![in alloc; 0; count]
 }

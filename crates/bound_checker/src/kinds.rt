@@ -1,12 +1,12 @@
 // Whether a plan obeys the kinds of the groups.
 
-ghost use Rattle.std.specs.Prelude.{◌≡◌, ◌<◌, ◌≤◌, ◌↔◌, ℕ, length, replicate, slice_index_or, MatchOption, IfOk, IsTrue};
+ghost use Rattle.std.specs.Prelude.{◌≡◌, ◌<◌, ◌≤◌, ◌↔◌, ℕ, length, MatchOption, IfOk, IsTrue};
 ghost use Rattle.plan_base.specs.Requests.{IsKnown};
 ghost use Rattle.plan_base.specs.Verdict.{IsFirst};
 ghost use Rattle.bound_checker.specs.Claims.{IsEachKnown, AreGroupCounts, IsTwice, IsPartial, HoldsOfGroup};
 
 use crate::known::known_group;
-use plan_base::{GroupPart, Op, Placement, Snapshot};
+use plan_base::{GroupPart, Op, Placement, Snapshot, repeated};
 use std::alloc::{AllocError, Global};
 
 /// How many requests of each group a plan places. Fails only for want of memory.
@@ -18,18 +18,12 @@ pub(crate) fn count_placed(
     requires { IsEachKnown snapshot.now plan.now }
     ensures { IfOk result (λ counts. AreGroupCounts snapshot.now plan.now counts.items) }
 {
-    let mut counts = no_counts(alloc, snapshot.parts().groups.len())?;
+    let mut counts = repeated(alloc, 0, snapshot.parts().groups.len())?;
     for placement in plan {
         let group = known_group(snapshot, placement.request);
         counts[group] += 1;
     }
     Ok(counts)
-}
-
-fn no_counts(alloc: Global, count: usize) -> Result<Vec<usize>, AllocError>
-    ensures { IfOk result (λ counts. counts.items ≡ replicate count 0) }
-{
-    vec![in alloc; 0; count]
 }
 
 /// The place of the first `ONEOF` with two placements or more.

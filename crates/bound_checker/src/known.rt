@@ -1,12 +1,12 @@
 // Whether the requests of a plan are known, and each placed once.
 
-ghost use Rattle.std.specs.Prelude.{◌≡◌, ◌<◌, IsTrue, MatchOption, IfOk, replicate, false, true, length, slice_index_or, ◌↔◌, ◌⊎◌, ℕ};
+ghost use Rattle.std.specs.Prelude.{◌≡◌, ◌<◌, IsTrue, MatchOption, IfOk, length, ◌↔◌};
 ghost use Rattle.plan_base.specs.Requests.{listed, place_of, group_of, IsKnown};
 ghost use Rattle.plan_base.specs.Feasible.{IsEachOnce};
 ghost use Rattle.plan_base.specs.Verdict.{IsFirst, IsUnknownAt, HasEarlier};
 ghost use Rattle.bound_checker.specs.Claims.{IsEachKnown, IsRequestOf, IsRequestInRanges};
 
-use plan_base::{Placement, RequestNo, RequestPart, Snapshot};
+use plan_base::{Placement, RequestNo, RequestPart, Snapshot, repeated};
 use std::alloc::{AllocError, Global};
 
 /// The first placement of a request that the snapshot doesn't have.
@@ -36,7 +36,7 @@ pub(crate) fn first_twice(
     requires { IsEachKnown snapshot.now plan.now }
     ensures { IfOk result (λ first. MatchOption first (IsEachOnce plan.now) (IsFirst (HasEarlier (λ p q. p.request ≡ q.request) plan.now))) }
 {
-    let mut placed = no_flags(alloc, snapshot.request_count())?;
+    let mut placed = repeated(alloc, false, snapshot.request_count())?;
     for (index, placement) in plan.iter().enumerate() {
         let place = snapshot.known_place(placement.request);
         if placed[place] {
@@ -64,11 +64,4 @@ pub fn request_of(snapshot: &Snapshot, request: RequestNo) -> &RequestPart
 {
     snapshot.recall_valid();
     snapshot.request_at(snapshot.known_place(request))
-}
-
-/// So many flags that aren't set. Fails only for want of memory.
-pub(crate) fn no_flags(alloc: Global, count: usize) -> Result<Vec<bool>, AllocError>
-    ensures { IfOk result (λ flags. flags.items ≡ replicate count false) }
-{
-    vec![in alloc; false; count]
 }

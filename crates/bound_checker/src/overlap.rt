@@ -6,8 +6,8 @@ ghost use Rattle.plan_base.specs.Feasible.{IsEachPossible, IsDisjoint};
 ghost use Rattle.plan_base.specs.Verdict.{IsFirst, HasEarlier};
 ghost use Rattle.bound_checker.specs.Slots.{first_slot, end_slot, AreSlots};
 
-use crate::known::{no_flags, request_of};
-use plan_base::{Placement, Snapshot, slices_for};
+use crate::known::request_of;
+use plan_base::{Placement, Snapshot, repeated, slices_for};
 use std::alloc::{AllocError, Global};
 
 /// The slots of a placement: slot `t * slices + i` is slice `i` of the horizon on telescope `t`.
@@ -28,7 +28,7 @@ pub(crate) fn first_overlap(
     ensures { IfOk result (λ first. MatchOption first (IsDisjoint snapshot.now plan.now) (IsFirst (HasEarlier (ShareSlice snapshot.now) plan.now))) }
 {
     let parts = snapshot.parts();
-    let mut occupied = no_flags(alloc, parts.telescopes.len() * parts.slices as usize)?;
+    let mut occupied = repeated(alloc, false, parts.telescopes.len() * parts.slices as usize)?;
     for (index, placement) in plan.iter().enumerate() {
         let slots = slots_of(snapshot, *placement);
         if !are_clear(occupied.as_slice(), slots) {

@@ -1,13 +1,13 @@
 // Whether a plan keeps within the quotas.
 
-ghost use Rattle.std.specs.Prelude.{◌≡◌, ◌<◌, ◌≤◌, ◌+◌, ◌*◌, ◌^◌, ℕ, cond, length, replicate, slice_index_or, Some, MatchOption, IfOk};
+ghost use Rattle.std.specs.Prelude.{◌≡◌, ◌<◌, ◌≤◌, ◌+◌, ◌*◌, ◌^◌, ℕ, cond, length, slice_index_or, Some, MatchOption, IfOk};
 ghost use Rattle.plan_base.specs.Requests.{quota_of, IsKnown};
 ghost use Rattle.plan_base.specs.Feasible.{is_quota};
 ghost use Rattle.plan_base.specs.Verdict.{IsFirst};
 ghost use Rattle.bound_checker.specs.Claims.{IsEachKnown, AreQuotaSums};
 
 use crate::known::{known_group, request_of};
-use plan_base::{Placement, RequestNo, Snapshot};
+use plan_base::{Placement, RequestNo, Snapshot, repeated};
 use std::alloc::{AllocError, Global};
 
 /// The seconds that a plan of at most 1,024 placements places of each quota. Fails only for want of memory.
@@ -20,19 +20,13 @@ pub(crate) fn sum_seconds(
     requires few { length plan.now ≤ 1024 }
     ensures { IfOk result (λ sums. AreQuotaSums snapshot.now plan.now sums.items) }
 {
-    let mut sums = no_seconds(alloc, snapshot.parts().quotas.len())?;
+    let mut sums = repeated(alloc, 0, snapshot.parts().quotas.len())?;
     for placement in plan {
         let quota = known_quota(snapshot, placement.request);
         let seconds = request_of(snapshot, placement.request).seconds;
         add_seconds(&mut sums, quota, u64::from(seconds));
     }
     Ok(sums)
-}
-
-fn no_seconds(alloc: Global, count: usize) -> Result<Vec<u64>, AllocError>
-    ensures { IfOk result (λ sums. sums.items ≡ replicate count 0) }
-{
-    vec![in alloc; 0; count]
 }
 
 /// The quota that the group of a request names, if it names one.
