@@ -1,7 +1,7 @@
 -- What the loops over a table keep.
-use Rattle.std.proofs.Common.{◌≡◌, ◌≢◌, ℕ, ◌+◌, ◌-◌, ◌*◌, ◌<◌, ◌≤◌, ◌⊎◌, inl, inr, ℤ, pos, ◌+ℤ◌, ◌≤ℤ◌, List, [], length, slice_index_or, slice_set, All, Contains, refl, sym, ◌∙◌, ap, subst, below_more, get_or-set_other, get_or-set_same, length-set, arith}
+use Rattle.std.proofs.Common.{◌≡◌, ◌≢◌, ℕ, ◌+◌, ◌-◌, ◌*◌, ◌<◌, ◌≤◌, ◌⊎◌, inl, inr, ℤ, pos, ◌+ℤ◌, ◌≤ℤ◌, List, [], length, replicate, slice_index_or, slice_set, All, Contains, refl, sym, ◌∙◌, ap, subst, below_more, get_or-set_other, get_or-set_same, length-set, arith}
 use Rattle.std.proofs.lemmas.Int.{ints}
-use Rattle.std.proofs.lemmas.List.{get_or_default}
+use Rattle.std.proofs.lemmas.List.{get_or_default, get_or-replicate, length-replicate}
 use Rattle.std.proofs.lemmas.List.Elements.{Contains-get_or, All-contains}
 use Rattle.bound_checker.specs.declared.table.Start.{Start}
 use Rattle.plan_base.specs.Tables.{entry, row}
@@ -43,15 +43,19 @@ pub record IsFilledFrom (rows : List (List Start)) (table : List ℤ) (k : ℕ) 
   pub at_end : entry table (length rows) ≡ pos 0
   pub each : (j : ℕ) → k ≤ j → j < length rows → IsGreatestAt rows table j
 
-pub filled_start : (rows : List (List Start)) (table : List ℤ) → length table ≡ length rows + 1 → ((j : ℕ) → j < length table → entry table j ≡ pos 0) → IsFilledFrom rows table (length rows)
-filled_start rows table count empty = record {
-  count = count;
+-- a table of 0
+pub filled_start : (rows : List (List Start)) (table : List ℤ) (n : ℕ) → n ≡ length rows + 1 → table ≡ replicate n (pos 0) → IsFilledFrom rows table (length rows)
+filled_start rows table n count is = record {
+  count = ap (λ (xs : List ℤ). length xs) is ∙ length-replicate n (pos 0) ∙ count;
   zero = λ j h. empty j (omega arith);
   low = λ j h l. let e : entry table j ≡ pos 0 = empty j (omega arith) in omega (arith, ints);
   high = λ j h l. let e : entry table j ≡ pos 0 = empty j (omega arith) in omega (arith, ints);
   at_end = empty (length rows) (omega arith);
   each = λ j h l. absurd (omega arith);
 }
+  where
+    empty : (j : ℕ) → j < n → entry table j ≡ pos 0
+    empty j h = ap (λ (xs : List ℤ). entry xs j) is ∙ get_or-replicate n j (pos 0) (pos 0) h
 
 below_or_from : (j k : ℕ) → (j < k) ⊎ (k ≤ j)
 below_or_from j k = grind arith

@@ -1,6 +1,6 @@
 // The greatest surplus from each slice on.
 
-ghost use Rattle.std.specs.Prelude.{◌≡◌, ℕ, ◌+◌, ◌<◌, ◌≤◌, ◌⊎◌, ℤ, pos, ◌≤ℤ◌, length, All, Contains};
+ghost use Rattle.std.specs.Prelude.{◌≡◌, ℕ, ◌+◌, ◌<◌, ◌≤◌, ◌⊎◌, ℤ, pos, ◌≤ℤ◌, length, replicate, All, Contains};
 ghost use Rattle.plan_base.specs.Limits.{most_slices};
 ghost use Rattle.plan_base.specs.Tables.{entry};
 ghost use Rattle.bound_checker.specs.Tables.{IsWeight, IsEntry, gain, DoRowsFit, IsRecursion};
@@ -32,13 +32,18 @@ pub fn fill_table(rows: &[ListOf<Start>], table: &mut [i64]) -> i64
     ensures recursion { IsRecursion rows.now table.new }
     ensures first { result ≡ entry table.new 0 }
 {
-    for entry in table.iter_mut() {
-        *entry = 0;
-    }
+    clear(table);
     for slice in (0..rows.len()).rev() {
         table[slice] = row_best(rows[slice].as_slice(), table, table[slice + 1]);
     }
     table[0]
+}
+
+/// Writes 0 into each entry.
+fn clear(table: &mut [i64])
+    ensures { table.new ≡ replicate (length table.old) (pos 0) }
+{
+    table.fill(0);
 }
 
 /// The greatest of `least` and of what each start in a row gives.

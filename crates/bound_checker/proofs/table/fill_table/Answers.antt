@@ -4,9 +4,12 @@ use Rattle.std.proofs.lemmas.List.{get_or_default}
 use Rattle.bound_checker.specs.declared.table.Start.{Start}
 use Rattle.plan_base.specs.Tables.{entry, row}
 use Rattle.bound_checker.specs.Tables.{IsEntry, gain, IsFitting}
-use Rattle.bound_checker.proofs.Filling.{IsMostOf, IsFilledFrom, filled_entry, filled_more, row_fits, row_read}
+use Rattle.bound_checker.proofs.Filling.{IsMostOf, IsFilledFrom, filled_start, filled_entry, filled_more, row_fits, row_read}
 use Rattle.bound_checker.proofs.table.fill_table.Goals as goal
 use mir.Val.{SFits}
+
+pub loop-slice-init : goal.loop-slice-init
+loop-slice-init c = filled_start c.args.rows.now c.clear.new.table (length c.args.table.now) c.requires.entries c.clear.ensures
 
 pub row_best-requires-clause-weights : goal.row_best-requires-clause-weights
 row_best-requires-clause-weights c = λ k d l. (row_fits c.args.rows.now (c.loop-slice.slice - 1) c.as_slice.result.now c.requires.fit (row_read c.args.rows.now (c.loop-slice.slice - 1) c.as_slice.result.now c.index-rows-slice.result (omega arith) c.index-rows-slice.is c.as_slice.ensures) k d l).weight
