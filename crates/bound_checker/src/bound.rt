@@ -1,6 +1,6 @@
 // The bound that prices give.
 
-ghost use Rattle.std.specs.Prelude.{◌≡◌, ◌*◌, ◌<◌, ◌≤◌, pos, ◌+ℤ◌, ◌≤ℤ◌, length, slice_index_or, All, IfOk};
+ghost use Rattle.std.specs.Prelude.{◌≡◌, ◌*◌, ◌<◌, ◌≤◌, pos, ◌+ℤ◌, ◌≤ℤ◌, length, All, IfOk};
 ghost use Rattle.plan_base.specs.Limits.{most_quota, most_quota_price};
 ghost use Rattle.plan_base.specs.Requests.{listed};
 ghost use Rattle.plan_base.specs.Bound.{IsBest, net_price, IsRebate, IsQuotaPart, IsBound};
@@ -8,15 +8,10 @@ ghost use Rattle.plan_base.specs.Verdict.{IsPriceInRange};
 ghost use Rattle.bound_checker.specs.Summed.{IsSummed, IsPartSum};
 
 use crate::best::best_of;
+use crate::nets::{Sum, price_at};
 use crate::rebate::rebate_of;
 use plan_base::{Prices, QuotaPrices, Snapshot, TelescopeNo};
 use std::alloc::{AllocError, Global};
-
-/// A sum that grows.
-#[derive(Clone, Copy)]
-struct Sum {
-    value: i64,
-}
 
 /// The Lagrangian dual bound: the sum of the bests of all telescopes, the rebates of all groups, and the quotas at
 /// their prices. No plan that is feasible for the snapshot is worth more. There is one price for each request, from
@@ -101,20 +96,11 @@ fn quota_part(snapshot: &Snapshot, quota_prices: &QuotaPrices, quota: usize) -> 
     ensures most { result ≤ℤ pos 20000000000000 }
 {
     let seconds = snapshot.parts().quotas.as_slice()[quota];
-    cost_of(price_at(quota_prices.0.as_slice(), quota), seconds)
+    quota_cost(price_at(quota_prices.0.as_slice(), quota), seconds)
 }
 
-/// The price of the quota at a place: 0 past the end of the list.
-fn price_at(quota_prices: &[u32], quota: usize) -> u32
-    requires { All (λ u. u ≤ most_quota_price) quota_prices.now }
-    ensures value { result ≡ slice_index_or quota_prices.now quota 0 }
-    ensures most { result ≤ most_quota_price }
-{
-    quota_prices.get(quota).copied().unwrap_or(0)
-}
-
-/// What so many seconds cost at a price.
-fn cost_of(price: u32, seconds: u64) -> i64
+/// What a quota of so many seconds costs at a price.
+fn quota_cost(price: u32, seconds: u64) -> i64
     requires price { price ≤ most_quota_price }
     requires seconds { seconds ≤ most_quota }
     ensures value { result ≡ pos (price * seconds) }

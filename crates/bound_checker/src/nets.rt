@@ -20,8 +20,8 @@ pub(crate) struct Nets<'a> {
 
 /// A number that a loop changes.
 #[derive(Clone, Copy)]
-struct Sum {
-    value: i64,
+pub(crate) struct Sum {
+    pub value: i64,
 }
 
 /// The net prices of the group at a place.
@@ -64,9 +64,18 @@ pub fn price_of(quota_prices: &[u32], quota: Option<u16>) -> u32
     ensures most { result ≤ most_quota_price }
 {
     match quota {
-        Some(quota) => quota_prices.get(usize::from(quota)).copied().unwrap_or(0),
+        Some(quota) => price_at(quota_prices, usize::from(quota)),
         None => 0,
     }
+}
+
+/// The price of a second of the quota at a place: 0 past the end of the list.
+pub(crate) fn price_at(quota_prices: &[u32], quota: usize) -> u32
+    requires { All (λ u. u ≤ most_quota_price) quota_prices.now }
+    ensures value { result ≡ slice_index_or quota_prices.now quota 0 }
+    ensures most { result ≤ most_quota_price }
+{
+    quota_prices.get(quota).copied().unwrap_or(0)
 }
 
 /// The net price of the request at a place in the group.
