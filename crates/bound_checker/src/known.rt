@@ -1,7 +1,7 @@
 // Whether the requests of a plan are known, and each placed once.
 
 ghost use Rattle.std.specs.Prelude.{◌≡◌, ◌<◌, IsTrue, MatchOption, IfOk, length, ◌↔◌};
-ghost use Rattle.plan_base.specs.Requests.{listed, place_of, group_of, IsKnown};
+ghost use Rattle.plan_base.specs.Requests.{group_of, IsKnown};
 ghost use Rattle.plan_base.specs.Feasible.{IsEachOnce};
 ghost use Rattle.plan_base.specs.Verdict.{IsFirst, IsUnknownAt, HasEarlier};
 ghost use Rattle.bound_checker.specs.Claims.{IsEachKnown, IsRequestOf, IsRequestInRanges};

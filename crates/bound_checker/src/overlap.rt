@@ -4,7 +4,7 @@ ghost use Rattle.std.specs.Prelude.{◌≡◌, ◌≤◌, ◌<◌, ◌&&◌, nat
 ghost use Rattle.plan_base.specs.Starts.{IsPossibleStart, ShareSlice};
 ghost use Rattle.plan_base.specs.Feasible.{IsEachPossible, IsDisjoint};
 ghost use Rattle.plan_base.specs.Verdict.{IsFirst, HasEarlier};
-ghost use Rattle.bound_checker.specs.Slots.{first_slot, end_slot, AreSlots};
+ghost use Rattle.bound_checker.specs.Slots.{AreSlots};
 
 use crate::known::request_of;
 use plan_base::{Placement, Snapshot, repeated, slices_for};

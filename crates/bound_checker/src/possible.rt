@@ -3,9 +3,9 @@
 ghost use Rattle.std.specs.Prelude.{◌≡◌, ◌<◌, ◌≤◌, ◌+◌, ◌*◌, ◌↔◌, ◌^◌, length, All, Contains, MatchOption, IsTrue};
 ghost use Rattle.plan_base.specs.Limits.{most_seconds};
 ghost use Rattle.plan_base.specs.Requests.{IsKnown};
-ghost use Rattle.plan_base.specs.Starts.{IsPossibleStart, site_of, slices_for};
+ghost use Rattle.plan_base.specs.Starts.{IsPossibleStart, slices_for};
 ghost use Rattle.plan_base.specs.Snapshot.{IsOrderly};
-ghost use Rattle.plan_base.specs.BySpans.{HasAll, IsVisibleThrough, usable_of};
+ghost use Rattle.plan_base.specs.BySpans.{HasAll, IsVisibleThrough};
 ghost use Rattle.plan_base.specs.Feasible.{IsEachPossible};
 ghost use Rattle.plan_base.specs.Verdict.{IsFirst, IsNotPossibleAt};
 ghost use Rattle.bound_checker.specs.Claims.{IsEachKnown, CanObserve};

@@ -15,8 +15,7 @@ use crate::worth::{Offer, offer_of, weight_at};
 use plan_base::{ListOf, Parts, Prices, Snapshot, TelescopeNo};
 use std::alloc::{AllocError, Global};
 
-/// The possible starts of a telescope: row `k` has those at slice `k` of the horizon. Each stands there once. Fails
-/// only for want of memory.
+/// The possible starts of a telescope: row `k` has those at slice `k` of the horizon. Fails only for want of memory.
 pub fn starts_of(
     alloc: Global,
     snapshot: &Snapshot,
