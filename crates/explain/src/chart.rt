@@ -1,13 +1,13 @@
 // The bests of a telescope, until each slice and from each slice on.
 
-ghost use Rattle.std.specs.Prelude.{◌≡◌, ◌<◌, pos, length, replicate, All, IfOk};
+ghost use Rattle.std.specs.Prelude.{◌≡◌, ◌<◌, length, All, IfOk};
 ghost use Rattle.plan_base.specs.Requests.{listed};
 ghost use Rattle.plan_base.specs.Verdict.{IsPriceInRange};
 ghost use Rattle.explain.specs.Steps.{IsChart};
 
 use crate::until::fill_until;
 use bound_checker::{fill_table, starts_of};
-use plan_base::{Prices, Snapshot, TelescopeNo};
+use plan_base::{Prices, Snapshot, TelescopeNo, repeated};
 use std::alloc::{AllocError, Global};
 
 /// The bests of a telescope. Each table has a number for each slice of the horizon, and one for its end.
@@ -33,16 +33,9 @@ pub(crate) fn chart_of(
 {
     snapshot.recall_valid();
     let rows = starts_of(alloc, snapshot, telescope, prices)?;
-    let mut until = empty_table(alloc, rows.len() + 1)?;
+    let mut until = repeated(alloc, 0, rows.len() + 1)?;
     fill_until(rows.as_slice(), until.as_mut_slice());
-    let mut after = empty_table(alloc, rows.len() + 1)?;
+    let mut after = repeated(alloc, 0, rows.len() + 1)?;
     fill_table(rows.as_slice(), after.as_mut_slice());
     Ok(Chart { until, after })
-}
-
-/// So many entries of 0. Fails only for want of memory.
-fn empty_table(alloc: Global, count: usize) -> Result<Vec<i64>, AllocError>
-    ensures { IfOk result (λ table. table.items ≡ replicate count (pos 0)) }
-{
-    vec![in alloc; 0; count]
 }
