@@ -1,7 +1,6 @@
 // What is said of the requests that a claim leaves out, as it is written.
 
 ghost use Rattle.std.specs.Prelude.{◌≡◌, ◌++◌, OnOk, IfOk};
-ghost use Rattle.plan_json.specs.Adds.{AddsNested};
 ghost use Rattle.plan_doc.specs.Line.{line_of};
 ghost use Rattle.plan_base.specs.declared.verdict.Verdict.TheVariants as judged;
 ghost use Rattle.plan_doc.specs.Reason.{verdict_data};

@@ -21,9 +21,9 @@ use std::alloc::{AllocError, Global};
 /// claim's. The converse isn't claimed. `No` comes exactly where [`check`] says No. Fails only for want of memory.
 ///
 /// One table forward and one backward for each telescope serve all requests. Beside the claim's check it costs time for
-/// the windows, the spans and the possible starts of each telescope, once, and for each request that is left out for its
-/// own starts and for the placements on its telescopes; and memory for the possible starts of a telescope, and two
-/// numbers for each telescope and slice.
+/// the windows, the spans and the possible starts of each telescope, once, and for each request a walk over the claim's
+/// placements, and, where it is left out, over its telescopes' slices; and memory for the possible starts of a telescope,
+/// and two numbers for each telescope and slice.
 ///
 /// [`check`]: bound_checker::check
 pub fn explain(
