@@ -8,9 +8,8 @@ ghost use Rattle.group_trees.specs.Choices.{leaves, all_leaves};
 ghost use Rattle.group_trees.specs.Forests.{forest_leaves, IsAt, IsWrongLeaf};
 ghost use Rattle.group_trees.specs.Tallies.{lesser, IsTally};
 
-use crate::standing::no_flags;
 use crate::tree::Tree;
-use plan_base::{RequestNo, Snapshot};
+use plan_base::{RequestNo, Snapshot, repeated};
 use std::alloc::{AllocError, Global};
 
 /// What is told of leaves while they are counted.
@@ -33,7 +32,7 @@ pub(crate) fn wrong_leaf(
         ((r : ℕ) → ¬ (IsWrongLeaf snapshot.now (forest_leaves (trees_seen trees.now.items)) r))
         (λ r. IsFirst (IsWrongLeaf snapshot.now (forest_leaves (trees_seen trees.now.items))) r.0)) }
 {
-    let flags = no_flags(alloc, snapshot.request_count())?;
+    let flags = repeated(alloc, false, snapshot.request_count())?;
     let mut tally = Tally { flags, wrong: None };
     tally_all(snapshot, trees, &mut tally);
     Ok(least_wrong(snapshot, &tally))

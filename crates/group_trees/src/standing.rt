@@ -1,6 +1,6 @@
 // Which trees allow what a plan places of them.
 
-ghost use Rattle.std.specs.Prelude.{◌≡◌, ◌==◌, ◌&&◌, ◌||◌, nat_le, nat_lt, length, All, MatchOption, IfOk, replicate, false, List};
+ghost use Rattle.std.specs.Prelude.{◌≡◌, ◌==◌, ◌&&◌, ◌||◌, nat_le, nat_lt, length, All, MatchOption, IfOk, List};
 ghost use Rattle.plan_base.specs.declared.claim.Placement.{Placement};
 ghost use Rattle.plan_base.specs.Requests.{listed, IsKnown};
 ghost use Rattle.plan_base.specs.Feasible.{requests_of};
@@ -15,7 +15,7 @@ ghost use Rattle.group_trees.specs.Built.{snapshot_of, trees_of};
 
 use crate::forest::Forest;
 use crate::tree::Tree;
-use plan_base::{Placement, Snapshot};
+use plan_base::{Placement, Snapshot, repeated};
 use std::alloc::{AllocError, Global};
 
 /// What is placed of a tree.
@@ -76,19 +76,12 @@ fn placed_flags(
     requires { IsEachKnown snapshot.now plan.now }
     ensures { IfOk result (λ flags. AreFlags snapshot.now (requests_of plan.now) flags.items) }
 {
-    let mut flags = no_flags(alloc, snapshot.request_count())?;
+    let mut flags = repeated(alloc, false, snapshot.request_count())?;
     for placement in plan {
         let place = snapshot.known_place(placement.request);
         flags[place] = true;
     }
     Ok(flags)
-}
-
-/// So many flags that aren't set. Fails only for want of memory.
-pub(crate) fn no_flags(alloc: Global, count: usize) -> Result<Vec<bool>, AllocError>
-    ensures { IfOk result (λ flags. flags.items ≡ replicate count false) }
-{
-    vec![in alloc; false; count]
 }
 
 /// What is placed of a tree, where the flags tell which of its requests are.
