@@ -1,7 +1,7 @@
 // Why trees aren't a forest.
 
 use plan_base::{GroupNo, RequestNo};
-use std::alloc::{AllocError, AllocFailed};
+use std::alloc::AllocError;
 use thiserror::Error;
 
 /// Why trees aren't a forest of a snapshot: the first thing in this order, each looked for in all of it before the next.

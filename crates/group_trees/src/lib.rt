@@ -27,6 +27,5 @@ pub use forest::Forest;
 pub use laws::forest_duality;
 pub use rebate::tree_rebate;
 pub use run::run_forest;
-pub use text::ForestVerdictDoc;
 pub use tree::{Children, Tree};
 pub use verdict::{ForestReason, ForestVerdict};

@@ -9,7 +9,7 @@ ghost use Rattle.plan_doc.specs.declared.fault.DocFault.TheVariants as document;
 ghost use Rattle.group_trees.specs.declared.asked.AskFault.TheVariants as asked;
 ghost use Rattle.group_trees.specs.Trees.{trees_seen};
 ghost use Rattle.group_trees.specs.Built.{snapshot_of, trees_of};
-ghost use Rattle.group_trees.specs.Documents.{opening_of, claim_given, IsOpened, IsForestJudged, IsForestRefused, IsForestAnswer, said_of};
+ghost use Rattle.group_trees.specs.Documents.{opening_of, claim_given, IsForestJudged, IsForestRefused, IsForestAnswer, said_of};
 
 use crate::asked::AskFault;
 use crate::check::check_forest;
