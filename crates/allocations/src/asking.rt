@@ -75,7 +75,7 @@ pub fn amounts_for(
 }
 
 /// What a group is to hold, and its ipp charge where there is one.
-#[derive(Debug, Drop)]
+#[derive(Drop)]
 pub struct Booking {
     pub holds: ListOf<Amount>,
     pub ipp: Option<Amount>,

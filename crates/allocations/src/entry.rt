@@ -4,7 +4,7 @@ use crate::key::Key;
 use plan_base::{GroupNo, RequestNo};
 
 /// What an entry does to the balance of its account.
-#[derive(Clone, Copy, Debug, PartialEq, Eq)]
+#[derive(Clone, Copy)]
 pub enum EntryKind {
     /// Adds seconds that the proposal may use.
     Grant,
@@ -15,7 +15,7 @@ pub enum EntryKind {
 }
 
 /// An entry of the ledger. A number that doesn't apply is 0.
-#[derive(Debug, Drop, PartialEq, Eq)]
+#[derive(Drop)]
 pub struct Entry {
     /// Whose account it is.
     pub key: Key,
@@ -30,7 +30,7 @@ pub struct Entry {
 }
 
 /// Seconds of an account that a group holds for its pending requests.
-#[derive(Debug, Drop, PartialEq, Eq)]
+#[derive(Drop)]
 pub struct Hold {
     /// The account.
     pub key: Key,

@@ -8,14 +8,14 @@ use std::alloc::{AllocError, AllocFailed};
 use thiserror::Error;
 
 /// What a ledger has a most of.
-#[derive(Clone, Copy, Debug, PartialEq, Eq)]
+#[derive(Clone, Copy, Debug)]
 pub enum FullOf {
     /// The accounts of all proposals, at most 1,024.
     Accounts,
 }
 
 /// Why the ledger refuses a grant or a hold. It is then as before.
-#[derive(Clone, Copy, Debug, PartialEq, Eq, Error)]
+#[derive(Clone, Copy, Debug, Error)]
 pub enum LedgerFault {
     /// The grant would make more accounts than there may be.
     #[error("there are {limit} {what:?} already")]

@@ -23,7 +23,7 @@ pub enum Account {
 
 /// The name of an account. Keys are in the order of their proposals' bytes, then of the accounts, then of the
 /// instrument types' bytes.
-#[derive(Clone, Debug, Drop, PartialEq, Eq, PartialOrd, Ord)]
+#[derive(Clone, Drop, PartialEq, Eq, PartialOrd, Ord)]
 pub struct Key {
     pub proposal: Name,
     pub account: Account,

@@ -5,7 +5,7 @@ use crate::sums::Amount;
 use plan_base::{GroupNo, ListOf, RequestNo};
 
 /// An entry, with its account's place.
-#[derive(Clone, Copy, Debug)]
+#[derive(Clone, Copy)]
 pub struct Posting {
     pub account: usize,
     pub kind: EntryKind,
@@ -15,7 +15,7 @@ pub struct Posting {
 }
 
 /// What a group holds, by rising keys, and its ipp charge while that stands and wasn't refunded.
-#[derive(Debug, Drop)]
+#[derive(Drop)]
 pub struct GroupState {
     pub group: GroupNo,
     pub holds: ListOf<Amount>,

@@ -14,7 +14,7 @@ use std::alloc::{AllocError, Global};
 use std::marker::Model;
 
 /// An account in the order of keys.
-#[derive(Debug, Drop)]
+#[derive(Drop)]
 pub struct Listed {
     pub key: Key,
     pub place: usize,
@@ -22,7 +22,7 @@ pub struct Listed {
 
 /// The accounts, each with a place that it keeps: places count up from 0 in the order in which accounts are added.
 /// Contracts see the keys by place, and the keys in their order.
-#[derive(Debug, Drop)]
+#[derive(Drop)]
 pub struct Register {
     keys: Vec<Key>,
     order: Vec<Listed>,

@@ -23,7 +23,7 @@ use std::marker::Model;
 use std::mem;
 
 /// Accounts, entries and groups, with the balance and the held seconds of each account.
-#[derive(Debug, Drop)]
+#[derive(Drop)]
 pub struct Store {
     register: Register,
     sums: Vec<Sums>,

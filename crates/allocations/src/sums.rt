@@ -7,14 +7,14 @@ ghost use Rattle.allocations.specs.Amounts.{amount_at, no_sums, sums_after, CanT
 use crate::entry::EntryKind;
 
 /// Seconds of the account at a place of the register.
-#[derive(Clone, Copy, Debug)]
+#[derive(Clone, Copy)]
 pub struct Amount {
     pub account: usize,
     pub seconds: u64,
 }
 
 /// What the entries leave of an account, and what groups hold of it.
-#[derive(Clone, Copy, Debug)]
+#[derive(Clone, Copy)]
 pub struct Sums {
     pub balance: u64,
     pub held: u64,

@@ -11,7 +11,7 @@ use plan_base::{Placement, Snapshot, repeated, slices_for};
 use std::alloc::{AllocError, Global};
 
 /// The slots of a placement: slot `t * slices + i` is slice `i` of the horizon on telescope `t`.
-#[derive(Clone, Copy, Debug)]
+#[derive(Clone, Copy)]
 pub(crate) struct Slots {
     pub from: usize,
     /// The slot after the last.

@@ -8,7 +8,7 @@ ghost use Rattle.bound_checker.specs.Stretches.{IsObservation, DoesFitIn, DoesFi
 use plan_base::Span;
 
 /// How long a slice is, and how long an observation takes.
-#[derive(Clone, Copy, Debug)]
+#[derive(Clone, Copy)]
 pub struct Observation {
     /// The seconds of a slice, 60 to 3,600.
     pub len: u64,
@@ -17,7 +17,7 @@ pub struct Observation {
 }
 
 /// Slices in a row that are alike: an observation that begins at any of them fits, or at none.
-#[derive(Clone, Copy, Debug)]
+#[derive(Clone, Copy)]
 pub struct Stretch {
     /// Whether it fits at each of them.
     pub fits: bool,

@@ -8,7 +8,7 @@ ghost use Rattle.bound_checker.specs.Tables.{IsWeight, IsEntry, gain, DoRowsFit,
 use plan_base::{ListOf, larger};
 
 /// A possible start, in the row of its slice.
-#[derive(Clone, Copy, Debug)]
+#[derive(Clone, Copy)]
 pub struct Start {
     /// What it is worth beyond its request's price.
     pub weight: i64,

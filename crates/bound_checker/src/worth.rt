@@ -10,7 +10,7 @@ use crate::stretches::Observation;
 use plan_base::{RequestPart, faded, least_from, slices_for};
 
 /// What a request asks for, and what it gives.
-#[derive(Clone, Copy, Debug)]
+#[derive(Clone, Copy)]
 pub struct Offer {
     /// How long it observes.
     pub observation: Observation,

@@ -24,7 +24,7 @@ use std::marker::Model;
 /// from 0. `line` takes a line's place from 0; an entry names it from 1.
 ///
 /// Each call fails only for want of memory, and then the book is as before.
-#[derive(Debug, Drop)]
+#[derive(Drop)]
 pub struct Book {
     scripts: Vec<ListOf<ScriptLine>>,
     // How many lines each caller has done.

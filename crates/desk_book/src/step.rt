@@ -4,7 +4,7 @@ use desk_events::EventEntry;
 use plan_base::Taken;
 
 /// What `Book::perform` did.
-#[derive(Debug, Drop)]
+#[derive(Drop)]
 pub enum BookStep {
     /// The caller's next line is done, and replied to.
     Replied,
@@ -18,7 +18,7 @@ pub enum BookStep {
 
 /// What `Book::call` did. The entry is the book's last one, and is read there: once a change is made, there might be no
 /// memory for a copy.
-#[derive(Debug, Drop)]
+#[derive(Drop)]
 pub enum BookCall {
     /// The line is done, and replied to.
     Replied,
@@ -27,7 +27,7 @@ pub enum BookCall {
 }
 
 /// What `Book::publish` did.
-#[derive(Debug, Drop)]
+#[derive(Drop)]
 pub enum PublishStep {
     /// What was found is published or refused, by this entry.
     Replied(EventEntry),

@@ -21,7 +21,7 @@ use site_model::{InstrumentTimes, Network};
 use std::alloc::{AllocError, Global};
 
 /// A request that is to be made.
-#[derive(Debug, Drop)]
+#[derive(Drop)]
 pub(crate) struct Made<'a> {
     /// Its part of the document.
     pub asked: &'a RequestDoc,

@@ -12,7 +12,7 @@ use request_model::{GroupDoc, Location};
 use site_model::Network;
 
 /// What a desk was opened with, beside its moment.
-#[derive(Clone, Copy, Debug)]
+#[derive(Clone, Copy)]
 pub struct Opening {
     /// How long a slice is, 60 to 3,600 seconds.
     pub slice: u32,
@@ -27,7 +27,7 @@ pub struct Opening {
 }
 
 /// What is kept of a request beside its number, its seconds and its state.
-#[derive(Debug, Drop)]
+#[derive(Drop)]
 pub struct Wanted {
     /// Where it may be observed.
     pub location: Location,
@@ -46,7 +46,7 @@ pub struct Wanted {
 }
 
 /// A group as it was submitted.
-#[derive(Debug, Drop)]
+#[derive(Drop)]
 pub struct Submitted {
     /// What it was submitted with.
     pub document: GroupDoc,
@@ -57,7 +57,7 @@ pub struct Submitted {
 }
 
 /// A claim that was published, and the snapshot that it was published for.
-#[derive(Debug, Drop)]
+#[derive(Drop)]
 pub struct Publication {
     /// What the desk had to plan then.
     pub snapshot: Snapshot,
@@ -66,7 +66,7 @@ pub struct Publication {
 }
 
 /// An opened desk. Its groups stand twice, in one order: as they were submitted, and how far they have come.
-#[derive(Debug, Drop)]
+#[derive(Drop)]
 pub struct Desk {
     pub(crate) opening: Opening,
     pub(crate) network: Network,

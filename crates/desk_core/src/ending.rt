@@ -14,7 +14,7 @@ use plan_base::{GroupNo, ListOf, RequestState};
 use std::alloc::{AllocError, Global};
 
 /// What an open group holds from now on, and its ipp charge where that is given back.
-#[derive(Debug, Drop)]
+#[derive(Drop)]
 pub(crate) struct Ending {
     pub group: GroupNo,
     pub holds: ListOf<Hold>,

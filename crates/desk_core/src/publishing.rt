@@ -20,7 +20,7 @@ use std::alloc::{AllocError, Global};
 use std::mem::replace;
 
 /// What a desk keeps of a claim that it publishes.
-#[derive(Debug, Drop)]
+#[derive(Drop)]
 struct Copies {
     /// Its placements, with the seconds of their requests.
     observations: ListOf<Observation>,

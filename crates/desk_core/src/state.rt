@@ -25,7 +25,7 @@ use std::marker::Model;
 use std::mem::replace;
 
 /// The state of a desk. A command costs what it touches, never the length of what came before.
-#[derive(Debug, Drop)]
+#[derive(Drop)]
 pub struct State {
     version: u64,
     desk: Option<Desk>,

@@ -33,7 +33,7 @@ use std::alloc::{AllocError, Global};
 const MOST_PENDING: usize = 1_024;
 
 /// A group that is to be booked.
-#[derive(Debug, Drop)]
+#[derive(Drop)]
 pub(crate) struct NewGroup {
     pub number: GroupNo,
     /// What it holds.
@@ -44,7 +44,7 @@ pub(crate) struct NewGroup {
 }
 
 /// What is told of a group that was booked.
-#[derive(Debug, Drop)]
+#[derive(Drop)]
 pub(crate) struct Booked {
     pub group: GroupNo,
     /// The seconds that its ipp account was charged.

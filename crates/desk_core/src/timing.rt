@@ -20,7 +20,7 @@ use plan_base::{GroupNo, RequestNo, Sec};
 use std::alloc::{AllocError, Global};
 
 /// Where a request stands.
-#[derive(Clone, Copy, Debug)]
+#[derive(Clone, Copy)]
 struct Place {
     group: GroupNo,
     /// At which place of the group it is.

@@ -7,7 +7,7 @@ use site_model::Scope;
 
 /// What a line asks for, by the word of its member `do`, with the members that stand after it. Texts have 1 to 128
 /// bytes; a list of spans has at most 512, each with its first second before its end.
-#[derive(Debug, Drop)]
+#[derive(Drop)]
 pub enum Command {
     /// `open`: the desk is opened.
     Open {

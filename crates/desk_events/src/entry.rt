@@ -3,7 +3,7 @@
 use crate::reply::Reply;
 
 /// Which part of its line an entry is.
-#[derive(Clone, Copy, Debug, PartialEq, Eq)]
+#[derive(Clone, Copy)]
 pub enum What {
     /// All of it.
     Line,
@@ -14,7 +14,7 @@ pub enum What {
 }
 
 /// One entry of a history.
-#[derive(Debug, Drop)]
+#[derive(Drop)]
 pub struct EventEntry {
     /// Who sent the line, 0 to 7.
     pub caller: u8,

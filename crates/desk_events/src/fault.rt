@@ -2,16 +2,13 @@
 
 use crate::refusal::Refusal;
 use std::alloc::{AllocError, AllocFailed};
-use thiserror::Error;
 
 /// Why a command isn't read, or isn't done.
-#[derive(Clone, Copy, Debug, PartialEq, Eq, Error)]
+#[derive(Clone, Copy)]
 pub enum CommandFault {
     /// The line is refused; the reply says why.
-    #[error("refused: {0:?}")]
     Refused(Refusal),
     /// Memory ran out.
-    #[error("out of memory")]
     NoMemory,
 }
 

@@ -5,7 +5,7 @@ use plan_base::{Op, Reason, RequestNo, RequestState, Sec};
 use plan_json::Member;
 
 /// What a desk has a most of.
-#[derive(Clone, Copy, Debug, PartialEq, Eq)]
+#[derive(Clone, Copy)]
 pub enum FullOf {
     /// Instrument types, 64.
     Instruments,
@@ -27,7 +27,7 @@ pub enum FullOf {
 
 /// Why a line is refused, each with the number that its entry has. An `index` is the place of a request or an
 /// instrument type in its list, from 0.
-#[derive(Clone, Copy, Debug, PartialEq, Eq)]
+#[derive(Clone, Copy)]
 pub enum Refusal {
     /// 1: the line isn't the UTF-8 of one JSON text.
     NotJson,

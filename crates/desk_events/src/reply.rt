@@ -6,7 +6,7 @@ use plan_base::{Claim, GroupNo, ListOf, RequestNo, RequestState, Snapshot, Teles
 use request_model::GroupDoc;
 
 /// What a group's ipp account gets back, written as `[group,seconds]`.
-#[derive(Clone, Copy, Debug, PartialEq, Eq)]
+#[derive(Clone, Copy)]
 pub struct GroupRefund {
     pub group: GroupNo,
     /// Above 0.
@@ -14,7 +14,7 @@ pub struct GroupRefund {
 }
 
 /// What a time account has.
-#[derive(Debug, Drop, PartialEq, Eq)]
+#[derive(Drop)]
 pub struct AccountBalance {
     /// The members `proposal`, `account` and `instrument_type`.
     pub key: Key,
@@ -25,7 +25,7 @@ pub struct AccountBalance {
 }
 
 /// How far a request has come.
-#[derive(Clone, Copy, Debug, PartialEq, Eq)]
+#[derive(Clone, Copy)]
 pub struct MemberState {
     pub request: RequestNo,
     pub state: RequestState,
@@ -33,7 +33,7 @@ pub struct MemberState {
 
 /// What is replied to a line, by the word of the member `ok`, with the further members. Lists of request numbers rise,
 /// and so do the groups of a list of refunds.
-#[derive(Debug, Drop)]
+#[derive(Drop)]
 pub enum Reply {
     /// `opened`
     Opened,

@@ -5,7 +5,7 @@ use crate::observation::Observation;
 use plan_base::{ListOf, RequestNo, Sec};
 
 /// What is other once a change is made.
-#[derive(Debug, Drop)]
+#[derive(Drop)]
 pub struct Change {
     /// The moment.
     pub now: Sec,
@@ -18,7 +18,7 @@ pub struct Change {
 }
 
 /// What a moment does. All requests are told in rising order.
-#[derive(Debug, Drop)]
+#[derive(Drop)]
 pub struct Moved {
     /// Those of which a kept observation began to run.
     pub started: ListOf<RequestNo>,
@@ -31,7 +31,7 @@ pub struct Moved {
 }
 
 /// What a report does. All requests are told in rising order.
-#[derive(Debug, Drop)]
+#[derive(Drop)]
 pub struct Reported {
     /// The other members of a `ONEOF` that were canceled.
     pub canceled: ListOf<RequestNo>,

@@ -14,7 +14,7 @@ use plan_base::{GroupNo, RequestNo, RequestState, Sec};
 use std::alloc::{AllocError, Global};
 
 /// Groups of which requests became window expired, as they then are, and these requests.
-#[derive(Debug, Drop)]
+#[derive(Drop)]
 pub struct Expiry {
     pub groups: Vec<Group>,
     pub requests: Vec<RequestNo>,

@@ -10,7 +10,7 @@ use crate::observation::{Observation, is_placed};
 use plan_base::{GroupNo, ListOf, Op, RequestNo, RequestState, Sec};
 
 /// What is asked for as a request.
-#[derive(Clone, Copy, Debug, PartialEq, Eq)]
+#[derive(Clone, Copy)]
 pub struct Ask {
     /// How long it takes, 1 to 86,400 seconds.
     pub seconds: u32,
@@ -19,7 +19,7 @@ pub struct Ask {
 }
 
 /// A request of a group.
-#[derive(Clone, Copy, Debug, PartialEq, Eq)]
+#[derive(Clone, Copy)]
 pub struct Request {
     /// From 1 on, through all groups.
     pub number: RequestNo,
@@ -32,7 +32,7 @@ pub struct Request {
 }
 
 /// A request group.
-#[derive(Debug, Drop)]
+#[derive(Drop)]
 pub struct Group {
     /// From 1 on, in the order in which groups are added.
     pub number: GroupNo,

@@ -7,7 +7,7 @@ ghost use Rattle.desk_runs.specs.Clock.{start_of, end_of, has_begun, has_ended};
 use plan_base::{RequestNo, Sec, SliceNo, TelescopeNo};
 
 /// A request that is to be observed on a telescope for so many seconds from the start of a slice on.
-#[derive(Clone, Copy, Debug, PartialEq, Eq)]
+#[derive(Clone, Copy)]
 pub struct Observation {
     /// Which request is observed.
     pub request: RequestNo,

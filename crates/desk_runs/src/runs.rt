@@ -32,7 +32,7 @@ use std::marker::Model;
 /// that are running, at a moment. Groups and requests are found by number at once, and closed groups aren't looked at again;
 /// a moment, and `make`, go over all groups that are open, and each change copies the observations. What changes is first
 /// looked for, by calls that may find no memory, and then made by `make`, which takes none.
-#[derive(Debug, Drop)]
+#[derive(Drop)]
 pub struct Runs {
     len: u32,
     moment: Sec,

@@ -142,7 +142,7 @@ pub fn requests_in(
 }
 
 /// Kept observations of which some have begun.
-#[derive(Debug, Drop)]
+#[derive(Drop)]
 pub struct Started {
     pub kept: Vec<Observation>,
     pub running: Vec<Observation>,
@@ -186,7 +186,7 @@ pub fn start(
 }
 
 /// Running observations of which some have stopped.
-#[derive(Debug, Drop)]
+#[derive(Drop)]
 pub struct Stopped {
     pub running: Vec<Observation>,
     pub requests: ListOf<RequestNo>,

@@ -6,7 +6,7 @@ use plan_base::{ListOf, Placement, Reason, RequestNo};
 use std::marker::Model;
 
 /// The most that a feasible plan may be worth if it places a request.
-#[derive(Clone, Copy, Debug, PartialEq, Eq)]
+#[derive(Clone, Copy, PartialEq, Eq)]
 pub enum Forced {
     /// The request has no possible start, so no feasible plan places it.
     NoStart,
@@ -15,7 +15,7 @@ pub enum Forced {
 }
 
 /// Placements of a claim that stand in the way of a request, in the claim's order. Contracts see them as a list.
-#[derive(Debug, Drop)]
+#[derive(Drop)]
 pub struct Blocking {
     pub(crate) placements: ListOf<Placement>,
 }
@@ -46,7 +46,7 @@ impl Blocking {
 }
 
 /// A request that a claim leaves out.
-#[derive(Debug, Drop)]
+#[derive(Drop)]
 pub struct Left {
     pub request: RequestNo,
     /// How many possible starts it has.
@@ -57,7 +57,7 @@ pub struct Left {
 }
 
 /// The requests that a claim leaves out, in the snapshot's order. Contracts see them as a list.
-#[derive(Debug, Drop)]
+#[derive(Drop)]
 pub struct Explanation {
     pub(crate) lefts: ListOf<Left>,
 }
@@ -81,7 +81,7 @@ impl Explanation {
 }
 
 /// What is said of a claim.
-#[derive(Debug, Drop)]
+#[derive(Drop)]
 pub enum ExplainAnswer {
     /// It is certified, and this is what it leaves out.
     Explained(Explanation),

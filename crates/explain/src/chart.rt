@@ -11,7 +11,7 @@ use plan_base::{Prices, Snapshot, TelescopeNo, repeated};
 use std::alloc::{AllocError, Global};
 
 /// The bests of a telescope. Each table has a number for each slice of the horizon, and one for its end.
-#[derive(Debug, Drop)]
+#[derive(Drop)]
 pub(crate) struct Chart {
     /// What ends by each slice.
     pub until: Vec<i64>,

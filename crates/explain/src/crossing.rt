@@ -16,7 +16,7 @@ use openings::Openings;
 use plan_base::{Prices, Snapshot, TelescopeNo, larger};
 
 /// What is known of a request on a telescope.
-#[derive(Clone, Copy, Debug)]
+#[derive(Clone, Copy)]
 pub(crate) struct Crossing {
     /// How many possible starts it has there.
     pub starts: u64,
@@ -25,7 +25,7 @@ pub(crate) struct Crossing {
 }
 
 /// The starts so far, and the greatest of what they give.
-#[derive(Clone, Copy, Debug)]
+#[derive(Clone, Copy)]
 struct Gains {
     starts: u64,
     greatest: Option<i64>,

@@ -13,7 +13,7 @@ use plan_base::{Prices, Snapshot, TelescopeNo};
 use std::alloc::{AllocError, Global};
 
 /// What is known of a request on all telescopes.
-#[derive(Clone, Copy, Debug)]
+#[derive(Clone, Copy)]
 pub(crate) struct Passage {
     /// How many possible starts it has.
     pub starts: u64,

@@ -7,7 +7,7 @@ use std::alloc::AllocError;
 use thiserror::Error;
 
 /// The first thing, in the order of reading, for which a document isn't a snapshot with a forest and a claim.
-#[derive(Clone, Copy, Debug, PartialEq, Eq, Error)]
+#[derive(Clone, Copy, Debug, Error)]
 pub(crate) enum AskFault {
     /// The document isn't JSON, or what it has isn't a snapshot, trees or a claim.
     #[error("{0}")]

@@ -13,7 +13,7 @@ use plan_base::Op;
 use plan_json::{Doc, JsonFault, Member};
 
 /// How the children of a node belong together.
-#[derive(Clone, Copy, Debug)]
+#[derive(Clone, Copy)]
 pub(crate) enum Branch {
     Many,
     OneOf,

@@ -6,7 +6,7 @@ use thiserror::Error;
 
 /// Why trees aren't a forest of a snapshot: the first thing in this order, each looked for in all of it before the next.
 /// A tree is named by its place, from 0.
-#[derive(Clone, Copy, Debug, PartialEq, Eq, Error)]
+#[derive(Clone, Copy, Debug, Error)]
 pub enum ForestFault {
     /// The first group that isn't a `SINGLE`.
     #[error("group {} isn't a SINGLE", group.0)]

@@ -6,7 +6,7 @@ use std::alloc::{AllocError, Global};
 
 /// The places where the requests of a tree's leaves are likely to stand among all, read from its last leaf to its first. They
 /// only save time, and may be any numbers.
-#[derive(Clone, Copy, Debug)]
+#[derive(Clone, Copy)]
 pub(crate) struct Guesses<'a> {
     /// Those that weren't read yet.
     left: &'a [usize],

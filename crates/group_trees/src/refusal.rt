@@ -9,7 +9,7 @@ use plan_json::{Json, object};
 use std::alloc::AllocError;
 
 /// The fields that a fault has beside its name, each where it has it.
-#[derive(Clone, Copy, Debug, PartialEq, Eq)]
+#[derive(Clone, Copy)]
 struct FaultFields {
     group: Option<u32>,
     request: Option<u32>,

@@ -6,7 +6,7 @@ use plan_base::RequestNo;
 pub type Children = Vec<Tree>;
 
 /// Which requests may be placed together.
-#[derive(Debug, Drop, PartialEq)]
+#[derive(Drop)]
 pub enum Tree {
     /// One request.
     Leaf(RequestNo),

@@ -7,7 +7,7 @@ use crate::verdict::ForestReason;
 use plan_base::{Reason, Verdict};
 
 /// A verdict without trees, as a check with trees takes it.
-#[derive(Clone, Copy, Debug)]
+#[derive(Clone, Copy)]
 pub(crate) enum Turned {
     /// The placements one by one and two by two are wrong: that comes before the trees.
     Placed(ForestReason),

@@ -2,7 +2,7 @@
 
 /// Why a claim isn't certified for a forest. An index is a place in the claim's list that is meant, from 0; those that a
 /// check without a forest gives too mean what they mean there.
-#[derive(Clone, Copy, Debug, PartialEq, Eq)]
+#[derive(Clone, Copy)]
 pub enum ForestReason {
     /// The first placement of a request that the snapshot doesn't have.
     UnknownRequest { index: u32 },
@@ -27,7 +27,7 @@ pub enum ForestReason {
 }
 
 /// Whether a claim is certified for a forest.
-#[derive(Clone, Copy, Debug, PartialEq, Eq)]
+#[derive(Clone, Copy)]
 pub enum ForestVerdict {
     /// It is, with its value and bound.
     Yes { value: u64, bound: u64 },

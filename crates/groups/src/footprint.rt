@@ -9,7 +9,7 @@ use crate::slots::Slots;
 use plan_base::{Op, Placement, Snapshot};
 
 /// What a placement takes up: its request, a place in its group, seconds of its group's quota, and slots.
-#[derive(Clone, Copy, Debug)]
+#[derive(Clone, Copy)]
 pub(crate) struct Footprint {
     /// The place of the request among all.
     pub place: usize,

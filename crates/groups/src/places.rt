@@ -11,7 +11,7 @@ use std::alloc::{AllocError, Global};
 const REMAINDERS: usize = 4_096;
 
 /// A request of a snapshot, and its place among all.
-#[derive(Clone, Copy, Debug)]
+#[derive(Clone, Copy)]
 pub(crate) struct Note {
     pub request: RequestNo,
     pub place: u16,
@@ -19,7 +19,7 @@ pub(crate) struct Note {
 
 /// The places of a snapshot's requests among all. Of the requests whose numbers have the same remainder by 4,096 one is
 /// noted, and found at once; the others are looked for by halves.
-#[derive(Debug, Drop)]
+#[derive(Drop)]
 pub struct Places {
     noted: Vec<Option<Note>>,
 }

@@ -10,7 +10,7 @@ use crate::places::Places;
 use plan_base::{Placement, Snapshot, slices_for};
 
 /// The slots of a placement. Slot `t * slices + i` is slice `i` of the horizon on telescope `t`.
-#[derive(Clone, Copy, Debug)]
+#[derive(Clone, Copy)]
 pub struct Slots {
     /// The first slot.
     pub from: usize,

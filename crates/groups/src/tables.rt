@@ -11,7 +11,7 @@ use plan_base::{Op, Snapshot};
 use std::alloc::{AllocError, Global};
 
 /// What placements take up.
-#[derive(Debug, Drop)]
+#[derive(Drop)]
 pub(crate) struct Tables {
     /// Whether each slot is occupied.
     pub occupied: Vec<bool>,

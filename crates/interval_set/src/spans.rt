@@ -10,7 +10,7 @@ use std::alloc::{AllocError, Global};
 use std::marker::Model;
 
 /// A set of seconds. Contracts see its list of spans, sorted with gaps between them, of which each set has one.
-#[derive(Debug, Drop)]
+#[derive(Drop)]
 pub struct Spans {
     items: Vec<Span>,
 }

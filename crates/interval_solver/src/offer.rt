@@ -8,7 +8,7 @@ ghost use Rattle.interval_solver.specs.Offers.{IsOfferRange, IsOffer, offer_wort
 use plan_base::{RequestPart, faded, least_from, slices_for};
 
 /// What a request gives, and how many slices it takes for it.
-#[derive(Clone, Copy, Debug)]
+#[derive(Clone, Copy)]
 pub(crate) struct Offer {
     /// The place of the request among all.
     pub place: u32,

@@ -1,7 +1,7 @@
 // Possible starts as the rows of a telescope have them.
 
 /// A possible start, in the row of its slice.
-#[derive(Clone, Copy, Debug)]
+#[derive(Clone, Copy)]
 pub(crate) struct Start {
     /// What it is worth: at most 288,000,000.
     pub worth: u32,

@@ -14,7 +14,7 @@ use plan_base::{ListOf, Parts, Prices, RequestNo, Snapshot, TelescopeNo};
 use std::alloc::{AllocError, Global};
 
 /// A request, what it offers at a price, and where it may start.
-#[derive(Debug, Drop)]
+#[derive(Drop)]
 pub struct Openings {
     pub request: RequestNo,
     /// What it takes, and what it is worth beyond its price.

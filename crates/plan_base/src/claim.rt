@@ -15,18 +15,18 @@ pub struct Placement {
 }
 
 /// A price for each request of a snapshot, in their order: -10^12 to 10^12 in a claim that is certified.
-#[derive(Clone, Debug, Drop, PartialEq, Eq)]
+#[derive(Clone, Drop)]
 pub struct Prices(pub ListOf<i64>);
 
 /// A price for each second of each quota of a snapshot, 0 to 200,000 in a claim that is certified; the empty list
 /// stands for all 0.
-#[derive(Clone, Debug, Drop, PartialEq, Eq)]
+#[derive(Clone, Drop)]
 pub struct QuotaPrices(pub ListOf<u32>);
 
 /// A plan with the value that it is said to have, and prices with the bound that they are said to give (the Lagrangian
 /// dual bound of the model of Lampoudi, Saunders and Eastman 2015). It is certified where that is so: then no feasible
 /// plan is worth more than the bound.
-#[derive(Clone, Debug, Drop, PartialEq, Eq)]
+#[derive(Clone, Drop)]
 pub struct Claim {
     /// The plan, in any order.
     pub placements: ListOf<Placement>,
@@ -39,7 +39,7 @@ pub struct Claim {
 }
 
 /// How a plan is sought.
-#[derive(Clone, Copy, Debug, PartialEq, Eq)]
+#[derive(Clone, Copy, PartialEq, Eq)]
 pub struct Settings {
     /// How many sequences of rounds are run, 1 to 8, each with smaller steps than the one before it.
     pub lanes: u32,

@@ -5,7 +5,7 @@ use std::alloc::AllocError;
 use thiserror::Error;
 
 /// What is counted in a snapshot's parts, in the order in which the counts are tested.
-#[derive(Clone, Copy, Debug, PartialEq, Eq)]
+#[derive(Clone, Copy, Debug)]
 pub enum Counted {
     /// All telescopes, at most 32.
     Telescopes,
@@ -30,7 +30,7 @@ pub enum Counted {
 }
 
 /// The first thing, in this order, that is wrong with a snapshot's parts. Want of memory may come in place of any.
-#[derive(Clone, Copy, Debug, PartialEq, Eq, Error)]
+#[derive(Clone, Copy, Debug, Error)]
 pub enum SnapshotFault {
     /// More is counted than the limit; of several telescopes or requests above it, the first one's count is given.
     #[error("{count} are too many of {what:?}")]

@@ -15,7 +15,7 @@ pub fn repeated<T: Copy + Drop>(alloc: Global, item: T, count: usize) -> Result<
 }
 
 /// A list, which contracts see as one.
-#[derive(Debug, Drop)]
+#[derive(Drop)]
 pub struct ListOf<T> {
     items: Vec<T>,
 }

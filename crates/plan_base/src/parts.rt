@@ -21,7 +21,7 @@ pub enum Op {
 }
 
 /// A telescope; its number is its place in the snapshot's list.
-#[derive(Clone, Debug, Drop, PartialEq, Eq)]
+#[derive(Clone, Drop, PartialEq, Eq)]
 pub struct TelescopePart {
     pub site: SiteNo,
     /// When it can observe, sorted with gaps between the spans.
@@ -29,7 +29,7 @@ pub struct TelescopePart {
 }
 
 /// When a target can be observed from a site.
-#[derive(Clone, Debug, Drop, PartialEq, Eq)]
+#[derive(Clone, Drop, PartialEq, Eq)]
 pub struct Sky {
     /// What is observed, by its number of the desk.
     pub target: TargetNo,
@@ -40,7 +40,7 @@ pub struct Sky {
 }
 
 /// An observation that is asked for.
-#[derive(Clone, Debug, Drop, PartialEq, Eq)]
+#[derive(Clone, Drop, PartialEq, Eq)]
 pub struct RequestPart {
     pub request: RequestNo,
     /// How long it takes, 1 to 86,400 seconds.
@@ -58,7 +58,7 @@ pub struct RequestPart {
 }
 
 /// A request group.
-#[derive(Debug, Drop, PartialEq, Eq)]
+#[derive(Drop, PartialEq, Eq)]
 pub struct GroupPart {
     /// Its number of the desk; numbers rise through the snapshot's list.
     pub group: GroupNo,
@@ -84,7 +84,7 @@ impl Clone for GroupPart {
 }
 
 /// The parts of a snapshot. Requests are counted through the list of groups.
-#[derive(Clone, Debug, Drop, PartialEq, Eq)]
+#[derive(Clone, Drop, PartialEq, Eq)]
 pub struct Parts {
     /// How many changes the desk had accepted, 0 to 524,288.
     pub version: u64,

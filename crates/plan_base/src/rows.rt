@@ -10,7 +10,7 @@ use crate::parts::GroupPart;
 use std::alloc::{AllocError, Global};
 
 /// Where a request stands.
-#[derive(Clone, Copy, Debug)]
+#[derive(Clone, Copy)]
 pub(crate) struct Row {
     pub request: RequestNo,
     /// The place of its group.

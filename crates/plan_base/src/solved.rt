@@ -8,7 +8,7 @@ use std::marker::Model;
 
 /// What was taken from a desk, and the claim that is planned for its snapshot and its settings, where it has at most
 /// 1,048,576 possible starts, or else their exact number. Contracts see both.
-#[derive(Debug, Drop)]
+#[derive(Drop)]
 pub struct Solved {
     taken: Taken,
     outcome: Outcome,

@@ -5,7 +5,7 @@ ghost use Rattle.plan_base.specs.States.{is_pending, is_completed, is_window_exp
 
 /// How far a request has come, and by its requests how far a group has: the states of the Las Cumbres Observatory
 /// observation portal.
-#[derive(Clone, Copy, Debug, PartialEq, Eq)]
+#[derive(Clone, Copy)]
 pub enum RequestState {
     /// `PENDING`: it may still be observed.
     Pending,

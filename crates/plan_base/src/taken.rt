@@ -4,7 +4,7 @@ use crate::claim::{Claim, Settings};
 use crate::snapshot::Snapshot;
 
 /// What a desk hands out to be planned.
-#[derive(Clone, Debug, Drop)]
+#[derive(Clone, Drop)]
 pub struct Taken {
     /// The caller whose line asked for it, counted from 0.
     pub caller: u8,
@@ -15,7 +15,7 @@ pub struct Taken {
 }
 
 /// What a solver finds.
-#[derive(Debug, Drop)]
+#[derive(Drop)]
 pub enum Outcome {
     /// A plan with its bound.
     Plan(Claim),

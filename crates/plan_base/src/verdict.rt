@@ -3,7 +3,7 @@
 use crate::number::GroupNo;
 
 /// Why a claim isn't certified. An index is a place in the claim's list that is meant, from 0.
-#[derive(Clone, Copy, Debug, PartialEq, Eq)]
+#[derive(Clone, Copy, Debug)]
 pub enum Reason {
     /// The first placement of a request that the snapshot doesn't have.
     UnknownRequest { index: u32 },
@@ -34,7 +34,7 @@ pub enum Reason {
 }
 
 /// Whether a claim is certified for a snapshot.
-#[derive(Clone, Copy, Debug, PartialEq, Eq)]
+#[derive(Clone, Copy)]
 pub enum Verdict {
     /// It is, with its value and bound.
     Yes { value: u64, bound: u64 },

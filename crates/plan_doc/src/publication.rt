@@ -3,7 +3,7 @@
 use plan_base::{Claim, Snapshot};
 
 /// A snapshot, and a claim that was made on it: what an `export` line of a desk replies, and what a check reads.
-#[derive(Debug, Drop)]
+#[derive(Drop)]
 pub struct Publication {
     pub snapshot: Snapshot,
     pub claim: Claim,

@@ -11,7 +11,7 @@ use std::alloc::AllocError;
 
 /// The fields that a reason has beside its name, each where it has it; an object that says the reason has them as
 /// members.
-#[derive(Clone, Copy, Debug, PartialEq, Eq)]
+#[derive(Clone, Copy)]
 pub struct ReasonFields {
     pub claimed: Option<u64>,
     pub found: Option<u64>,
@@ -174,7 +174,7 @@ fn write_reason(
 
 /// A verdict as an object: `{"bound":B,"ok":"yes","value":V}`, or `no`, the reason's number, `reason`, its name, and
 /// its fields.
-#[derive(Clone, Copy, Debug, PartialEq, Eq)]
+#[derive(Clone, Copy)]
 pub struct VerdictDoc(pub Verdict);
 
 fn write_yes(value: u64, bound: u64, out: &mut Vec<u8>) -> Result<(), AllocError>

@@ -14,7 +14,7 @@ use plan_json::{Json, JsonFault, Member, object};
 use std::alloc::AllocError;
 
 /// A member, which is written as its name.
-#[derive(Clone, Copy, Debug, PartialEq, Eq)]
+#[derive(Clone, Copy)]
 struct MemberWord(Member);
 
 impl Json for MemberWord {
@@ -28,7 +28,7 @@ impl Json for MemberWord {
 }
 
 /// What is counted, which is written as its name.
-#[derive(Clone, Copy, Debug, PartialEq, Eq)]
+#[derive(Clone, Copy)]
 struct CountedWord(Counted);
 
 impl Json for CountedWord {
@@ -42,7 +42,7 @@ impl Json for CountedWord {
 }
 
 /// The fields that a fault has beside its name, each where it has it.
-#[derive(Clone, Copy, Debug, PartialEq, Eq)]
+#[derive(Clone, Copy)]
 struct FaultFields {
     count: Option<u64>,
     group: Option<u32>,

@@ -4,7 +4,7 @@ ghost use Rattle.std.specs.Prelude.{◌≡◌, ◌==◌, length};
 use std::marker::Model;
 
 /// Bytes in memory.
-#[derive(Debug, Drop)]
+#[derive(Drop)]
 pub struct ByteList {
     items: Vec<u8>,
 }

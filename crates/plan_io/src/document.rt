@@ -15,7 +15,7 @@ use std::alloc::{AllocError, Global};
 const MOST_BYTES: u64 = 67_108_864;
 
 /// What an answer says of a document.
-#[derive(Clone, Copy, Debug, PartialEq, Eq)]
+#[derive(Clone, Copy)]
 pub enum Said {
     /// Its claim is certified.
     Yes,
@@ -26,7 +26,7 @@ pub enum Said {
 }
 
 /// An answer to a document.
-#[derive(Debug, Drop)]
+#[derive(Drop)]
 pub struct Answer {
     /// Whole lines, each with its newline.
     pub text: Vec<u8>,

@@ -1,7 +1,7 @@
 //! What threads pass on their way, so that a test can order them.
 
 /// A point that a thread passes.
-#[derive(Clone, Copy, Debug, PartialEq, Eq)]
+#[derive(Clone, Copy)]
 pub enum Point {
     /// A caller is about to do its line; the lock isn't held.
     BeforeLine { caller: u8, line: u32 },
@@ -22,7 +22,7 @@ pub trait Gate: Sync {
 }
 
 /// The gate of the programs, which does nothing.
-#[derive(Clone, Copy, Debug, PartialEq, Eq)]
+#[derive(Clone, Copy)]
 pub struct NoGate;
 
 impl Gate for NoGate {

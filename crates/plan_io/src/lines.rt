@@ -16,7 +16,7 @@ use std::marker::Model;
 const LONGEST: usize = 1_048_576;
 
 /// A line of a script.
-#[derive(Debug, Drop)]
+#[derive(Drop)]
 pub enum ScriptLine {
     /// Its bytes without the newline: at most 1,048,576.
     Bytes(ByteList),
@@ -25,7 +25,7 @@ pub enum ScriptLine {
 }
 
 /// What a call of `Lines::next` answers.
-#[derive(Debug, Drop)]
+#[derive(Drop)]
 pub enum LineAnswer {
     /// The next line: the bytes before a newline, or those before the end where there is at least one.
     Line(ScriptLine),

@@ -4,7 +4,7 @@ ghost use Rattle.std.specs.declared.option.Option.{Option};
 ghost use Rattle.plan_io.specs.Sink.{Writes, IsWriteCause, Puts, IsPutCause};
 
 /// What one write did.
-#[derive(Clone, Copy, Debug, PartialEq, Eq)]
+#[derive(Clone, Copy)]
 pub enum WriteAnswer {
     /// So many bytes were taken, from the front of the piece.
     Took(usize),

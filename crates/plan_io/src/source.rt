@@ -4,7 +4,7 @@ ghost use Rattle.std.specs.declared.option.Option.{Option};
 ghost use Rattle.plan_io.specs.Source.{Reads, IsReadCause};
 
 /// What one read gave.
-#[derive(Clone, Copy, Debug, PartialEq, Eq)]
+#[derive(Clone, Copy)]
 pub enum ReadAnswer {
     /// So many bytes stand at the front of the room. None, where the room isn't empty, is the end.
     Got(usize),

@@ -8,7 +8,7 @@ use super::source::{ReadAnswer, Source};
 use std::alloc::{AllocError, Global};
 
 /// What reading a source to its end gave.
-#[derive(Debug, Drop)]
+#[derive(Drop)]
 pub enum WholeAnswer {
     /// All bytes that the source gave, up to its end.
     Bytes(ByteList),

@@ -18,7 +18,7 @@ const LEAST_GROUPS: u32 = 1;
 const MOST_GROUPS: u32 = 64;
 
 /// A snapshot with a claim on it, and groups to insert.
-#[derive(Debug, Drop)]
+#[derive(Drop)]
 pub(crate) struct RapidDocument {
     pub publication: Publication,
     pub groups: ListOf<GroupPart>,

@@ -5,7 +5,7 @@ use std::alloc::AllocError;
 use thiserror::Error;
 
 /// The first thing for which a group isn't inserted.
-#[derive(Clone, Copy, Debug, PartialEq, Eq, Error)]
+#[derive(Clone, Copy, Debug, Error)]
 pub enum RapidFault {
     /// The group isn't a `SINGLE`.
     #[error("group {} isn't a SINGLE", group.0)]

@@ -12,7 +12,7 @@ use plan_base::{Op, Placement, RequestNo, Snapshot};
 use std::alloc::{AllocError, Global};
 
 /// A placement, with what is asked of it again and again.
-#[derive(Clone, Copy, Debug)]
+#[derive(Clone, Copy)]
 pub(crate) struct Held {
     pub placement: Placement,
     /// The slice after its last.

@@ -3,7 +3,7 @@
 use plan_base::Placement;
 
 /// Where the request of a group that was inserted is placed.
-#[derive(Clone, Copy, Debug, PartialEq, Eq)]
+#[derive(Clone, Copy)]
 pub enum Inserted {
     /// Here: at its earliest start, on the lowest telescope among equals, at which the plan is feasible once all that has to go
     /// for it is gone, and which is worth more than that.

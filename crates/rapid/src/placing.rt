@@ -18,7 +18,7 @@ use plan_base::{ListOf, Placement, RequestNo, Snapshot, listing_of};
 use std::alloc::{AllocError, Global};
 
 /// A plan with a new request in it, if that has a place.
-#[derive(Debug, Drop)]
+#[derive(Drop)]
 pub(crate) struct Placing {
     pub inserted: Inserted,
     /// By telescope, then slice.

@@ -14,7 +14,7 @@ use std::alloc::{AllocError, Global};
 
 /// Prices, what each telescope gives at them from each slice of the horizon on, and the bound that they give with the quota
 /// prices that stand.
-#[derive(Debug, Drop)]
+#[derive(Drop)]
 pub(crate) struct Pricing {
     pub prices: Prices,
     pub tables: ListOf<ListOf<i64>>,

@@ -21,7 +21,7 @@ use std::mem::replace;
 /// stays certified, its bound that of its prices. What each telescope gives from each slice on is kept, and an insertion makes
 /// it anew only where a start of its request gives more. Contracts see the snapshot, the claim, and the requests that the
 /// last insertion displaced.
-#[derive(Debug, Drop)]
+#[derive(Drop)]
 pub struct Rapid {
     snapshot: Snapshot,
     claim: Claim,
@@ -44,7 +44,7 @@ impl Model for Rapid {
 }
 
 /// Whether groups can be inserted into a claim.
-#[derive(Debug, Drop)]
+#[derive(Drop)]
 pub enum RapidAnswer {
     /// They can.
     Ready(Rapid),

@@ -16,7 +16,7 @@ use snapshot_starts::is_possible;
 use std::alloc::{AllocError, Global};
 
 /// A start that qualifies.
-#[derive(Debug, Drop)]
+#[derive(Drop)]
 pub(crate) struct Found {
     pub start: Placement,
     /// What has to go for it.

@@ -29,7 +29,7 @@ impl Form<RequestNo> for Numbers {
 }
 
 /// Where a request is placed: request, telescope and slice, or `null`.
-#[derive(Clone, Copy, Debug, PartialEq, Eq)]
+#[derive(Clone, Copy)]
 struct PlacedDoc(Inserted);
 
 fn write_placement(placement: Placement, out: &mut Vec<u8>) -> Result<(), AllocError>

@@ -10,7 +10,7 @@ use snapshot_starts::{Run, Starts};
 use std::alloc::{AllocError, Global};
 
 /// A request, with the runs of its possible starts.
-#[derive(Debug, Drop)]
+#[derive(Drop)]
 pub(crate) struct Entry {
     pub request: RequestNo,
     /// Its place among all.

@@ -10,7 +10,7 @@ use plan_base::{Op, RequestNo, Snapshot, least_from, slices_for};
 use std::alloc::{AllocError, Global};
 
 /// What a request is worth, and how it fades.
-#[derive(Clone, Copy, Debug)]
+#[derive(Clone, Copy)]
 pub(crate) struct Offer {
     pub request: RequestNo,
     /// Whether its group is an AND.
@@ -24,7 +24,7 @@ pub(crate) struct Offer {
 }
 
 /// The offers of all requests, by their places.
-#[derive(Debug, Drop)]
+#[derive(Drop)]
 pub(crate) struct Offers {
     pub by_place: Vec<Offer>,
     pub places: Places,

@@ -7,7 +7,7 @@ use std::alloc::{AllocError, Global};
 use std::cmp::Reverse;
 
 /// The place of a worth, ordered by the worth, falling, and then by itself.
-#[derive(Clone, Copy, Debug, PartialEq, Eq, PartialOrd, Ord)]
+#[derive(Clone, Copy, PartialEq, Eq, PartialOrd, Ord)]
 pub(crate) struct Rank {
     pub worth: Reverse<u64>,
     pub place: usize,

@@ -17,7 +17,7 @@ use plan_base::{Placement, RequestNo, SliceNo, Snapshot, TelescopeNo};
 use std::cmp::Reverse;
 
 /// A start, ordered by its worth, falling, then by request, telescope and slice.
-#[derive(Clone, Copy, Debug, PartialEq, Eq, PartialOrd, Ord)]
+#[derive(Clone, Copy, PartialEq, Eq, PartialOrd, Ord)]
 pub(crate) struct Ranked {
     pub worth: Reverse<u32>,
     pub request: RequestNo,

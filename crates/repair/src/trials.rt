@@ -16,14 +16,14 @@ use snapshot_starts::Starts;
 use std::alloc::{AllocError, Global};
 
 /// A group, with its requests in the order in which they are tried.
-#[derive(Debug, Drop)]
+#[derive(Drop)]
 pub(crate) struct Trial {
     pub op: Op,
     pub entries: Vec<Entry>,
 }
 
 /// All groups in their order, and their places in the order of a pass.
-#[derive(Debug, Drop)]
+#[derive(Drop)]
 pub(crate) struct Trials {
     pub groups: Vec<Trial>,
     pub order: Vec<usize>,

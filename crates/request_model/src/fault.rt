@@ -6,7 +6,7 @@ use std::alloc::{AllocError, AllocFailed};
 use thiserror::Error;
 
 /// The first thing, in the order of reading, for which a document isn't a request group. Places count from 0.
-#[derive(Clone, Copy, Debug, PartialEq, Eq, Error)]
+#[derive(Clone, Copy, Debug, Error)]
 pub enum GroupFault {
     /// A member isn't what the document asks for.
     #[error("{0}")]

@@ -4,7 +4,7 @@ use crate::request::RequestDoc;
 use plan_base::{ListOf, Name, Op};
 
 /// How an observation is scheduled, the portal's `observation_type`.
-#[derive(Clone, Copy, Debug, PartialEq, Eq)]
+#[derive(Clone, Copy)]
 pub enum ObsKind {
     /// `NORMAL`: whenever it fits best.
     Normal,
@@ -15,7 +15,7 @@ pub enum ObsKind {
 }
 
 /// A request group, as its document has it.
-#[derive(Clone, Debug, Drop, PartialEq, Eq)]
+#[derive(Clone, Drop)]
 pub struct GroupDoc {
     pub name: Name,
     /// The proposal that is charged.

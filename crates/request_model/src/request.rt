@@ -7,7 +7,7 @@ use std::alloc::AllocError;
 
 /// Where a request may be observed: on telescopes of a class and, where they are named, at that site, in that
 /// enclosure, on that telescope.
-#[derive(Clone, Debug, Drop, PartialEq, Eq)]
+#[derive(Clone, Drop)]
 pub struct Location {
     pub class: Name,
     pub site: Option<Name>,
@@ -17,7 +17,7 @@ pub struct Location {
 
 /// Moments at an even distance, round each of which an observation is asked for: `start`, and from there every
 /// `period` seconds, before `end`.
-#[derive(Clone, Copy, Debug, PartialEq, Eq)]
+#[derive(Clone, Copy)]
 pub struct Cadence {
     pub start: Sec,
     pub end: Sec,
@@ -28,7 +28,7 @@ pub struct Cadence {
 }
 
 /// When a request may be observed.
-#[derive(Clone, Debug, Drop, PartialEq, Eq)]
+#[derive(Clone, Drop)]
 pub enum When {
     /// Inside one of these, 1 to 32, each of which has a second.
     Windows(ListOf<Span>),
@@ -37,7 +37,7 @@ pub enum When {
 }
 
 /// Exposures of one length, the portal's instrument configuration.
-#[derive(Clone, Copy, Debug, PartialEq, Eq)]
+#[derive(Clone, Copy)]
 pub struct Exposure {
     /// How long each one is, 1 to 86,400,000 milliseconds.
     pub ms: u32,
@@ -46,7 +46,7 @@ pub struct Exposure {
 }
 
 /// What is taken of one target.
-#[derive(Clone, Debug, Drop, PartialEq, Eq)]
+#[derive(Clone, Drop)]
 pub struct ConfigDoc {
     pub target: Name,
     /// 1 to 16, taken in this order.
@@ -54,7 +54,7 @@ pub struct ConfigDoc {
 }
 
 /// A request: one observation that is asked for, or with a cadence one round each centre.
-#[derive(Debug, Drop, PartialEq, Eq)]
+#[derive(Drop)]
 pub struct RequestDoc {
     pub location: Location,
     pub when: When,

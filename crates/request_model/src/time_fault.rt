@@ -4,7 +4,7 @@ use std::alloc::{AllocError, AllocFailed};
 use thiserror::Error;
 
 /// Why a request has no duration, or a cadence no windows.
-#[derive(Clone, Copy, Debug, PartialEq, Eq, Error)]
+#[derive(Clone, Copy, Debug, Error)]
 pub enum TimeFault {
     /// The request takes more than a day of 86,400 seconds.
     #[error("the request takes {seconds} seconds, more than a day")]

@@ -1,7 +1,7 @@
 // What an instrument type takes besides its exposures.
 
 /// The overheads of an instrument type, each 0 to 86,400,000 milliseconds.
-#[derive(Clone, Copy, Debug, PartialEq, Eq)]
+#[derive(Clone, Copy)]
 pub struct Instrument {
     /// Before all else, once a request.
     pub front_ms: u32,

@@ -5,7 +5,7 @@ use std::alloc::AllocError;
 use thiserror::Error;
 
 /// Why a sample has no snapshot.
-#[derive(Clone, Copy, Debug, PartialEq, Eq, Error)]
+#[derive(Clone, Copy, Debug, Error)]
 pub enum SampleFault {
     /// One of its numbers is not in the range that a document allows it.
     #[error("a number is out of its range")]

@@ -8,7 +8,7 @@ use plan_json::{json_text, object};
 use std::alloc::{AllocError, Global};
 
 /// What was replied to some lines.
-#[derive(Clone, Copy, Debug)]
+#[derive(Clone, Copy)]
 pub(crate) struct Summary {
     /// The bound of the last claim that was published, or 0.
     pub bound: u64,

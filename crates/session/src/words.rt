@@ -5,7 +5,7 @@ ghost use Rattle.std.specs.List.{list_all};
 ghost use Rattle.session.specs.Words.{is_numeral, number_of, mode_named, mode_of};
 
 /// What the words ask for.
-#[derive(Clone, Copy, Debug)]
+#[derive(Clone, Copy)]
 pub(crate) enum Mode {
     /// A session: the lines of the source are done.
     Session,

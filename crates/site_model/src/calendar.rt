@@ -17,7 +17,7 @@ use std::alloc::{AllocError, Global};
 use std::marker::Model;
 
 /// A target at a site.
-#[derive(Clone, Copy, Debug, PartialEq, Eq, Hash)]
+#[derive(Clone, Copy, PartialEq, Eq, Hash)]
 pub struct SkyKey {
     pub target: TargetNo,
     pub site: SiteNo,
@@ -25,7 +25,7 @@ pub struct SkyKey {
 
 /// The night of each site, the closures of each telescope, and the sky of each target at each site. There is a night and
 /// there are closures for every number that there may be, without seconds at first.
-#[derive(Debug, Drop)]
+#[derive(Drop)]
 pub struct Calendar {
     nights: Vec<Spans>,
     closures: Vec<Spans>,

@@ -12,7 +12,7 @@ use plan_base::TelescopeNo;
 use std::alloc::Global;
 
 /// What a line does with the closures of telescopes.
-#[derive(Clone, Copy, Debug, PartialEq, Eq)]
+#[derive(Clone, Copy)]
 pub enum Change {
     /// Its seconds are added.
     Close,
@@ -21,7 +21,7 @@ pub enum Change {
 }
 
 /// The closed seconds that a telescope is to have.
-#[derive(Debug, Drop)]
+#[derive(Drop)]
 pub struct Closed {
     pub telescope: TelescopeNo,
     pub spans: Spans,

@@ -5,7 +5,7 @@ ghost use Rattle.std.specs.Prelude.{◌≤◌};
 use plan_base::Name;
 
 /// The three names of a telescope.
-#[derive(Debug, Drop, PartialEq, Eq, Hash)]
+#[derive(Drop, PartialEq, Eq, Hash)]
 pub struct Code {
     /// The site, such as `coj`.
     pub site: Name,
@@ -16,7 +16,7 @@ pub struct Code {
 }
 
 /// Which telescopes a closure or a reopening is about.
-#[derive(Debug, Drop)]
+#[derive(Drop)]
 pub enum Scope {
     /// The telescope of this code.
     Telescope(Code),
@@ -25,7 +25,7 @@ pub enum Scope {
 }
 
 /// What an instrument type needs beside the exposures, in milliseconds, each at most a day.
-#[derive(Clone, Copy, Debug, PartialEq, Eq)]
+#[derive(Clone, Copy)]
 pub struct InstrumentTimes {
     /// Before all else, once a request.
     pub front_ms: u32,

@@ -8,7 +8,7 @@ use std::alloc::{AllocError, AllocFailed};
 use thiserror::Error;
 
 /// What a network has a most of.
-#[derive(Clone, Copy, Debug, PartialEq, Eq)]
+#[derive(Clone, Copy, Debug)]
 pub enum FullOf {
     /// The instrument types.
     Instruments,
@@ -52,7 +52,7 @@ impl FullOf {
 }
 
 /// Why the network refuses a call. It is then as before.
-#[derive(Clone, Copy, Debug, PartialEq, Eq, Error)]
+#[derive(Clone, Copy, Debug, Error)]
 pub enum SiteFault {
     /// No telescope has this code.
     #[error("there is no such telescope")]

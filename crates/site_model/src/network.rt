@@ -28,7 +28,7 @@ use std::marker::Model;
 
 /// The network: instruments, sites, telescopes and targets, each numbered from 0 in the order in which they are first
 /// named, and when telescopes may observe. A refusal, or want of memory, leaves it as before.
-#[derive(Debug, Drop)]
+#[derive(Drop)]
 pub struct Network {
     instruments: IndexMap<Name, InstrumentTimes>,
     sites: IndexSet<Name>,

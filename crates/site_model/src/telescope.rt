@@ -17,7 +17,7 @@ use plan_base::{ListOf, Name, SiteNo, TelescopeNo};
 use std::alloc::Global;
 
 /// What is kept of a telescope beside its code: the number of its site, its class, and the places of its instruments.
-#[derive(Debug, Drop)]
+#[derive(Drop)]
 pub struct Telescope {
     pub site: SiteNo,
     pub class: Name,

@@ -7,7 +7,7 @@ use std::alloc::{AllocError, AllocFailed};
 use thiserror::Error;
 
 /// Why possible starts aren't listed.
-#[derive(Clone, Copy, Debug, PartialEq, Eq, Error)]
+#[derive(Clone, Copy, Debug, Error)]
 pub enum StartFault {
     /// There are more than [`plan_base::MOST_STARTS`]; the count is exact.
     #[error("{count} possible starts are too many")]

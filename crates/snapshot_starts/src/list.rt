@@ -12,7 +12,7 @@ use std::alloc::{AllocError, Global};
 use std::marker::Model;
 
 /// Possible starts in the order of request, telescope and slice. Contracts see the list of them; kept are their runs.
-#[derive(Debug, Drop)]
+#[derive(Drop)]
 pub struct Starts {
     runs: Vec<Run>,
     /// How many starts each run has together with those before it.

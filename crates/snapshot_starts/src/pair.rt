@@ -9,7 +9,7 @@ use plan_base::{RequestNo, RequestPart, Snapshot, TelescopeNo};
 use std::alloc::{AllocError, Global};
 
 /// A request on one of its telescopes.
-#[derive(Clone, Copy, Debug)]
+#[derive(Clone, Copy)]
 pub(crate) struct Pair {
     pub request: RequestNo,
     pub telescope: TelescopeNo,

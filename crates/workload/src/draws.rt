@@ -4,7 +4,7 @@ ghost use Rattle.std.specs.Prelude.{◌≡◌, ◌<◌};
 ghost use Rattle.workload.specs.Generator.{next_number, drawn_at};
 
 /// The generator: a number, which each draw replaces by the next.
-#[derive(Debug, Drop)]
+#[derive(Drop)]
 pub(crate) struct Draws {
     pub x: u64,
 }

@@ -14,7 +14,7 @@ use plan_json::{Form, Json, object};
 use std::alloc::{AllocError, Global};
 
 /// A request as it is drawn: an exposure of a target by telescopes of a class, within a window of seconds.
-#[derive(Clone, Copy, Debug)]
+#[derive(Clone, Copy)]
 pub(crate) struct Request {
     pub class: Class,
     pub target: u32,

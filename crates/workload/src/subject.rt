@@ -8,7 +8,7 @@ use crate::class::Class;
 use plan_base::Op;
 
 /// What a line is about. Sites, targets, proposals and groups are counted from 0.
-#[derive(Clone, Copy, Debug)]
+#[derive(Clone, Copy)]
 pub(crate) enum Subject {
     Open,
     Instrument { class: Class },

@@ -15,7 +15,7 @@ const LINES: u32 = 211;
 /// The lines of a realistic night, drawn from one number: 6 telescopes at three sites, 40 targets, 4 proposals, 70 groups of
 /// all kinds with 120 requests in all, and at last a plan. Contracts see the number, the workers, and how many lines were
 /// given.
-#[derive(Debug, Drop)]
+#[derive(Drop)]
 pub struct Workload {
     number: u32,
     workers: u32,

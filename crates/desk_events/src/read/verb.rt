@@ -11,7 +11,7 @@ use plan_json::{Doc, Member};
 use std::alloc::Global;
 
 /// Which command a line is.
-#[derive(Clone, Copy, Debug, PartialEq, Eq)]
+#[derive(Clone, Copy)]
 pub(crate) enum Verb {
     Open,
     Instrument,
