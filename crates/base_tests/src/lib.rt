@@ -1,4 +1,4 @@
-// Tests of bytes and lines, documents, boards, and of how long and when requests are observed.
+// Tests of bytes and lines, documents, boards, and of when cadences are observed.
 #![tactic(auto)]
 
 #[cfg(test)]

@@ -1,4 +1,3 @@
-// How long requests take and which windows cadences have, by the rules and worked out by hand.
+// Which windows cadences have, worked out by hand.
 
 mod cadences;
-mod durations;

@@ -3,7 +3,7 @@ ghost use Rattle.std.specs.Prelude.{◌≡◌};
 ghost use Rattle.plan_io.specs.Exit.{status_number};
 
 /// How a run ended. The number of a status is the program's exit status.
-#[derive(Clone, Copy)]
+#[derive(Clone, Copy, PartialEq, Eq)]
 pub enum Status {
     /// Everything was written, and the input was read to its end.
     Done = 0,

@@ -1,8 +1,6 @@
-// Tests of what seeks plans: groups, possible starts, telescopes at prices, repairs, rounds and lanes.
+// Tests of what seeks plans: possible starts, telescopes at prices, repairs, rounds and lanes.
 #![tactic(auto)]
 
-#[cfg(test)]
-mod groups_tests;
 #[cfg(test)]
 mod interval_solver_tests;
 #[cfg(test)]

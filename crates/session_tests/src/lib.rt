@@ -1,9 +1,7 @@
-// Tests of a whole session, of a book of two callers, and of the lines of a night.
+// Tests of a whole session, and of a book of two callers.
 #![tactic(auto)]
 
 #[cfg(test)]
 mod book_tests;
 #[cfg(test)]
 mod session_tests;
-#[cfg(test)]
-mod workload_tests;
