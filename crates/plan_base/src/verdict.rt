@@ -3,7 +3,7 @@
 use crate::number::GroupNo;
 
 /// Why a claim isn't certified. An index is a place in the claim's list that is meant, from 0.
-#[derive(Clone, Copy, Debug)]
+#[derive(Clone, Copy)]
 pub enum Reason {
     /// The first placement of a request that the snapshot doesn't have.
     UnknownRequest { index: u32 },
