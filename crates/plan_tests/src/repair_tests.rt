@@ -9,7 +9,6 @@ mod repairs;
 
 /// A telescope that can be used in the whole horizon.
 const DISH: TelescopeWish = TelescopeWish {
-    site: 0,
     usable: &[WHOLE_HORIZON],
 };
 
@@ -20,7 +19,6 @@ const WISH: Wish = Wish {
     fade: 0,
     windows: &[WHOLE_HORIZON],
     telescopes: &[TelescopeNo(0)],
-    targets: &[],
 };
 
 /// Telescopes 0 and 1.
@@ -56,7 +54,6 @@ fn snapshot_of(
         first: 0,
         slices: 12,
         telescopes,
-        views: &[],
         groups: Groups::Of(groups),
         quotas,
     };

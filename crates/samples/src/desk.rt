@@ -1,31 +1,18 @@
 // What a small desk has, and its snapshot. Spans are pairs: from the first second until before the second one.
 
 use crate::fault::SampleFault;
-use crate::make::{groups_of, skies_of, snapshot_of, telescopes_of};
-use plan_base::{ListOf, Op, Parts, SliceNo, Snapshot, TargetNo, TelescopeNo};
+use crate::make::{groups_of, snapshot_of, telescopes_of};
+use plan_base::{ListOf, Op, Parts, SliceNo, Snapshot, TelescopeNo};
 use std::alloc::{AllocError, Global};
 
-/// A telescope.
+/// A telescope, at site 0.
 #[derive(Clone, Copy)]
 pub struct TelescopeWish<'a> {
-    /// The number of the site that it is at.
-    pub site: u16,
     /// The seconds in which it can be used: spans, sorted with gaps between them.
     pub usable: &'a [(u64, u64)],
 }
 
-/// A target as it is seen from a site.
-#[derive(Clone, Copy)]
-pub struct View<'a> {
-    /// The number of the target.
-    pub target: u16,
-    /// The number of the site.
-    pub site: u16,
-    /// The seconds in which the target is visible from the site: spans, sorted with gaps between them.
-    pub spans: &'a [(u64, u64)],
-}
-
-/// A request that is wished for.
+/// A request that is wished for, of no target.
 #[derive(Clone, Copy)]
 pub struct Wish<'a> {
     /// How many seconds it takes.
@@ -38,8 +25,6 @@ pub struct Wish<'a> {
     pub windows: &'a [(u64, u64)],
     /// The telescopes that can take it, in rising order.
     pub telescopes: &'a [TelescopeNo],
-    /// The targets that have to be visible in each of its seconds.
-    pub targets: &'a [TargetNo],
 }
 
 /// A group that is wished for.
@@ -73,8 +58,6 @@ pub struct Desk<'a> {
     pub slices: u32,
     /// The telescopes, numbered from 0 on.
     pub telescopes: &'a [TelescopeWish<'a>],
-    /// The skies, in rising order of target, then site.
-    pub views: &'a [View<'a>],
     /// The groups with their requests.
     pub groups: Groups<'a>,
     /// The seconds of each quota.
@@ -98,7 +81,7 @@ fn parts_of(alloc: Global, desk: &Desk) -> Result<Box<Parts>, AllocError> {
             first: SliceNo(desk.first),
             slices: desk.slices,
             telescopes: Box::into_inner(telescopes_of(alloc, desk.telescopes)?),
-            skies: Box::into_inner(skies_of(alloc, desk.views)?),
+            skies: ListOf::new(alloc),
             groups: Box::into_inner(groups_of(alloc, desk.groups)?),
             quotas: ListOf::from_vec(Vec::from_slice(alloc, desk.quotas)?),
         },

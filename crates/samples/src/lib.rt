@@ -11,7 +11,7 @@ mod ranges;
 mod sample;
 mod seconds;
 
-pub use desk::{Desk, GroupWish, Groups, TelescopeWish, View, Wish};
+pub use desk::{Desk, GroupWish, Groups, TelescopeWish, Wish};
 pub use fault::SampleFault;
 pub use lists::{Found, best_of_all, find_starts};
 pub use random::Random;

@@ -1,10 +1,10 @@
 // The parts that snapshots are made of. What is made is boxed, so that no proof looks into it.
 
-use crate::desk::{GroupWish, Groups, TelescopeWish, View, Wish};
+use crate::desk::{GroupWish, Groups, TelescopeWish, Wish};
 use crate::fault::SampleFault;
 use plan_base::{
-    GroupNo, GroupPart, ListOf, Op, Parts, RequestNo, RequestPart, Sec, SiteNo, Sky, Snapshot,
-    Span, TargetNo, TelescopePart,
+    GroupNo, GroupPart, ListOf, Op, Parts, RequestNo, RequestPart, Sec, SiteNo, Snapshot, Span,
+    TelescopePart,
 };
 use std::alloc::{AllocError, Global};
 
@@ -35,23 +35,11 @@ pub(crate) fn telescopes_of(
     let mut telescopes = ListOf::new(alloc);
     for wish in wished {
         telescopes.push(TelescopePart {
-            site: SiteNo(wish.site),
+            site: SiteNo(0),
             usable: Box::into_inner(spans_of(alloc, wish.usable)?),
         })?;
     }
     Ok(Box::new(alloc, telescopes)?)
-}
-
-pub(crate) fn skies_of(alloc: Global, views: &[View]) -> Result<Box<ListOf<Sky>>, AllocError> {
-    let mut skies = ListOf::new(alloc);
-    for view in views {
-        skies.push(Sky {
-            target: TargetNo(view.target),
-            site: SiteNo(view.site),
-            spans: Box::into_inner(spans_of(alloc, view.spans)?),
-        })?;
-    }
-    Ok(Box::new(alloc, skies)?)
 }
 
 /// The groups, numbered from 1 on, as their requests are.
@@ -132,7 +120,7 @@ fn request_of(alloc: Global, number: u32, wish: &Wish) -> Result<Box<RequestPart
             value: wish.value,
             windows: Box::into_inner(spans_of(alloc, wish.windows)?),
             telescopes: ListOf::from_vec(Vec::from_slice(alloc, wish.telescopes)?),
-            targets: ListOf::from_vec(Vec::from_slice(alloc, wish.targets)?),
+            targets: ListOf::new(alloc),
             fade: wish.fade,
         },
     )?)

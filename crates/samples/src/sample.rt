@@ -57,7 +57,6 @@ impl<'a> Sample<'a> {
             fade: self.fade,
             windows: &windows,
             telescopes: telescopes.as_slice(),
-            targets: &[],
         };
         self.snapshot_of(alloc, wish)
     }
@@ -76,10 +75,7 @@ impl<'a> Sample<'a> {
         groups: &[GroupWish],
     ) -> Result<Box<Snapshot>, SampleFault> {
         let usable = [self.usable];
-        let telescope = TelescopeWish {
-            site: 0,
-            usable: &usable,
-        };
+        let telescope = TelescopeWish { usable: &usable };
         let wished = repeated(alloc, telescope, usize::from(self.telescopes))?;
         let quotas = self.quotas(alloc)?;
         let desk = Desk {
@@ -87,7 +83,6 @@ impl<'a> Sample<'a> {
             first: 0,
             slices: 12,
             telescopes: wished.as_slice(),
-            views: &[],
             groups: Groups::Of(groups),
             quotas: quotas.as_slice(),
         };

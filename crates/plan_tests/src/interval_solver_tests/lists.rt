@@ -48,7 +48,6 @@ impl Drawn {
             fade: self.fade,
             windows: &self.windows,
             telescopes: self.telescopes,
-            targets: &[],
         }
     }
 }
@@ -194,14 +193,8 @@ fn snapshot(
     usable: &[[(u64, u64); 2]; 2],
 ) -> Result<Box<Snapshot>, SampleFault> {
     let telescopes = [
-        TelescopeWish {
-            site: 0,
-            usable: &usable[0],
-        },
-        TelescopeWish {
-            site: 0,
-            usable: &usable[1],
-        },
+        TelescopeWish { usable: &usable[0] },
+        TelescopeWish { usable: &usable[1] },
     ];
     let wishes = [drawn[0].wish(), drawn[1].wish(), drawn[2].wish()];
     snapshot_of(alloc, &telescopes, &wishes)
@@ -218,7 +211,6 @@ fn snapshot_of<'a>(
         first: FIRST,
         slices: END - FIRST,
         telescopes,
-        views: &[],
         groups: Groups::Singles(wishes),
         quotas: &[],
     };

@@ -28,10 +28,8 @@ const MINUTES: Desk = Desk {
     first: 0,
     slices: 3,
     telescopes: &[TelescopeWish {
-        site: 0,
         usable: &[(0, 180)],
     }; 2],
-    views: &[],
     groups: Groups::Singles(&[]),
     quotas: &[],
 };
@@ -42,7 +40,6 @@ const LATE: Desk = Desk {
     first: 0,
     slices: 12,
     telescopes: &[TelescopeWish {
-        site: 0,
         usable: &[(900, 3_600)],
     }; 2],
     ..MINUTES
@@ -55,7 +52,6 @@ fn wish(seconds: u32, value: u32, fade: u16) -> Wish<'static> {
         fade,
         windows: &[(0, 3_600)],
         telescopes: &[TelescopeNo(0)],
-        targets: &[],
     }
 }
 
@@ -186,7 +182,6 @@ fn a_fading_request_starts_early(rt: HostRuntime) -> Result<(), Fail> {
 fn nothing_starts_in_a_gap(rt: HostRuntime) -> Result<(), Fail> {
     let desk = Desk {
         telescopes: &[TelescopeWish {
-            site: 0,
             usable: &[(0, 119), (120, 180)],
         }; 2],
         ..MINUTES

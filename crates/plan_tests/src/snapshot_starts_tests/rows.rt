@@ -19,7 +19,7 @@ fn run(first: u32, count: u32) -> Run {
 }
 
 fn telescope_of(usable: &[(u64, u64)]) -> TelescopeWish {
-    TelescopeWish { site: 0, usable }
+    TelescopeWish { usable }
 }
 
 /// A request of value 1 that doesn't fade.
@@ -34,7 +34,6 @@ fn wish_for<'a>(
         fade: 0,
         windows,
         telescopes,
-        targets: &[],
     }
 }
 
@@ -52,7 +51,6 @@ fn check_runs<R: Threads + Sync + Abort>(
         first: 0,
         slices: 12,
         telescopes: &[telescope_of(usable)],
-        views: &[],
         groups: Groups::Singles(&[wish_for(600, &NIGHT, &[TelescopeNo(0)])]),
         quotas: &[],
     };
@@ -84,7 +82,6 @@ fn full_desk<'a>(telescopes: &'a [TelescopeWish<'a>], wishes: &'a [Wish<'a>]) ->
         first: 0,
         slices: 1440,
         telescopes,
-        views: &[],
         groups: Groups::Singles(wishes),
         quotas: &[],
     }
