@@ -39,19 +39,20 @@ fn wish_for<'a>(
 
 const NIGHT: [(u64, u64); 1] = [(0, 3600)];
 
-/// Asserts that a request of two slices in the night has these runs on a telescope that can be used then.
-fn check_runs<R: Threads + Sync + Abort>(
+/// Asserts that a request of two slices in the night has these runs, with twelve slices of 300 seconds.
+fn check_runs<'a, R: Threads + Sync + Abort>(
     rt: &R,
     alloc: Global,
-    usable: &[(u64, u64)],
+    telescopes: &'a [TelescopeWish<'a>],
+    wish: Wish<'a>,
     runs: &[Run],
 ) -> Result<(), Fail> {
     let desk = Desk {
         len: 300,
         first: 0,
         slices: 12,
-        telescopes: &[telescope_of(usable)],
-        groups: Groups::Singles(&[wish_for(600, &NIGHT, &[TelescopeNo(0)])]),
+        telescopes,
+        groups: Groups::Singles(&[wish]),
         quotas: &[],
     };
     let snapshot = desk.snapshot(alloc)?;
@@ -60,11 +61,17 @@ fn check_runs<R: Threads + Sync + Abort>(
     Ok(())
 }
 
+const ONE: [TelescopeNo; 1] = [TelescopeNo(0)];
+
 #[test]
 fn a_closure_cuts_a_run_in_two(rt: HostRuntime) -> Result<(), Fail> {
     let around = [(0, 900), (1800, 3600)];
-    check_runs(&rt, rt.alloc(), &around, &[run(0, 2), run(6, 5)])?;
-    check_runs(&rt, rt.alloc(), &NIGHT, &[run(0, 11)])
+    let closed = [telescope_of(&around)];
+    let reopened = [telescope_of(&NIGHT)];
+    let request = wish_for(600, &NIGHT, &ONE);
+    let alloc = rt.alloc();
+    check_runs(&rt, alloc, &closed, request, &[run(0, 2), run(6, 5)])?;
+    check_runs(&rt, alloc, &reopened, request, &[run(0, 11)])
 }
 
 fn all_telescopes(alloc: Global) -> Result<Vec<TelescopeNo>, AllocError> {
