@@ -113,14 +113,22 @@ pub fn publish_found(state: &mut State, taken: Taken, outcome: Outcome) -> Resul
     let asked = taken.snapshot.parts().version;
     let newer = state.version();
     if newer != asked {
+        drop(taken);
+        drop(outcome);
         return Ok(Reply::Refused(Refusal::Stale { asked, newer }));
     }
     match outcome {
         Outcome::Plan(claim) => {
             taken.snapshot.recall_valid();
-            state.publish_certified(taken.snapshot, &claim)?;
+            if state.publish_certified(taken.snapshot, &claim).is_err() {
+                drop(claim);
+                return Err(AllocError);
+            }
             Ok(Reply::Published { claim })
         }
-        Outcome::TooManyStarts(count) => Ok(Reply::Refused(Refusal::TooManyStarts { count })),
+        Outcome::TooManyStarts(count) => {
+            drop(taken);
+            Ok(Reply::Refused(Refusal::TooManyStarts { count }))
+        }
     }
 }

@@ -1,4 +1,6 @@
 // A caller's next line.
+//
+// Great values are dropped by calls, as in `doing.rt`.
 
 ghost use Rattle.std.specs.Prelude.{◌≡◌, ◌<◌, ◌-◌, length, take, None, IfOk, OnOk, OnErr, IfSome, MatchOption};
 ghost use Rattle.desk_core.specs.History.{script_of, IsPlanning};
@@ -53,7 +55,10 @@ impl Book {
         let place = usize::from(caller);
         let line = self.done[place] + 1;
         let version = self.state.version();
-        self.history.reserve(1)?;
+        if self.history.reserve(1).is_err() {
+            drop(read);
+            return Err(AllocError);
+        }
         let reply = apply_read(&mut self.state, read)?;
         let entry = EventEntry {
             caller,
@@ -81,8 +86,12 @@ impl Book {
         ensures err { OnErr result (self.new ≡ self.old) }
     {
         let place = usize::from(caller);
+        self.history.reserve(1)?;
         let taken = take_for(caller, &self.state)?;
-        let kept = taken.copy()?;
+        let Ok(kept) = taken.copy() else {
+            drop(taken);
+            return Err(AllocError);
+        };
         let entry = EventEntry {
             caller,
             line: self.done[place] + 1,
@@ -90,8 +99,8 @@ impl Book {
             version: self.state.version(),
             reply: Reply::Taken,
         };
-        self.history.push(entry)?;
-        self.takes[place] = Some(kept);
+        self.history.push(entry).unwrap();
+        drop(mem::replace(&mut self.takes[place], Some(kept)));
         Ok(taken)
     }
 
@@ -156,8 +165,14 @@ impl Book {
         ensures ok { IfOk result (λ answer. IsDone (with_line self.old caller line) caller (command_of_line line) answer self.new) }
         ensures err { OnErr result (self.new ≡ self.old) }
     {
-        let read = read_line(self.alloc, &line)?;
-        self.push(caller, line)?;
+        let Ok(read) = read_line(self.alloc, &line) else {
+            drop(line);
+            return Err(AllocError);
+        };
+        let Ok(()) = self.push(caller, line) else {
+            drop(read);
+            return Err(AllocError);
+        };
         let answer = self.do_next(caller, read);
         if answer.is_err() {
             self.take_back(caller);

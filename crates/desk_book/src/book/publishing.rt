@@ -1,4 +1,6 @@
 // The plan of a caller's open Take.
+//
+// Great values are dropped by calls, as in `doing.rt`.
 
 ghost use Rattle.std.specs.Prelude.{◌≡◌, Some, IfOk, OnErr};
 ghost use Rattle.desk_book.specs.Seen.{take_of};
@@ -10,19 +12,19 @@ use crate::same::is_same;
 use crate::step::PublishStep;
 use desk_core::State;
 use desk_events::{EventEntry, Refusal, Reply, What};
-use plan_base::{Outcome, Solved, Taken};
+use plan_base::{Outcome, Solved};
 use std::alloc::AllocError;
 
 // What is going to be replied to what was found for a Take.
-fn publish_reply(state: &State, taken: &Taken, outcome: &Outcome) -> Result<Reply, AllocError>
-    ensures { IfOk result (λ reply. reply ≡ publish_reply state.now record { taken = taken.now; outcome = outcome.now }) }
+fn publish_reply(state: &State, solved: &Solved) -> Result<Reply, AllocError>
+    ensures { IfOk result (λ reply. reply ≡ publish_reply state.now solved.now) }
 {
-    let asked = taken.snapshot.parts().version;
+    let asked = solved.taken().snapshot.parts().version;
     let newer = state.version();
     if newer != asked {
         return Ok(Reply::Refused(Refusal::Stale { asked, newer }));
     }
-    match outcome {
+    match solved.outcome() {
         Outcome::Plan(claim) => Ok(Reply::Published {
             claim: claim.copy()?,
         }),
@@ -39,15 +41,24 @@ impl Book {
         ensures ok { IfOk result (λ entry. IsPublished self.old solved entry self.new) }
         ensures err { OnErr result (self.new ≡ self.old) }
     {
-        let (taken, outcome) = solved.into_parts();
-        let caller = taken.caller;
+        let caller = solved.taken().caller;
         let place = usize::from(caller);
         let line = self.done[place] + 1;
         let version = self.state.version();
+        if self.history.reserve(1).is_err() {
+            drop(solved);
+            return Err(AllocError);
+        }
         // The entry that is answered gets its reply before anything changes.
-        let told = publish_reply(&self.state, &taken, &outcome)?;
-        self.history.reserve(1)?;
-        let reply = publish_found(&mut self.state, taken, outcome)?;
+        let Ok(told) = publish_reply(&self.state, &solved) else {
+            drop(solved);
+            return Err(AllocError);
+        };
+        let (taken, outcome) = solved.into_parts();
+        let Ok(reply) = publish_found(&mut self.state, taken, outcome) else {
+            drop(told);
+            return Err(AllocError);
+        };
         let entry = EventEntry {
             caller,
             line,
@@ -57,7 +68,7 @@ impl Book {
         };
         self.history.push(entry).unwrap();
         self.done[place] = line;
-        self.takes[place] = None;
+        drop(self.takes[place].take());
         Ok(EventEntry {
             caller,
             line,
@@ -75,9 +86,11 @@ impl Book {
         ensures err { OnErr result (self.new ≡ self.old) }
     {
         let Some(kept) = self.kept(solved.taken().caller) else {
+            drop(solved);
             return Ok(PublishStep::NotTaken);
         };
         if !is_same(kept, solved.taken()) {
+            drop(solved);
             return Ok(PublishStep::OtherTake);
         }
         let entry = self.publish_kept(solved)?;
