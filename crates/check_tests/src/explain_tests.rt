@@ -1,10 +1,11 @@
 // What no clause says: that there is memory for each call, and that a run ends as it should. What is found of whole
 // documents stands in the files of cases/explain, at the top of the repository.
 
+use crate::ends::{is_ending, sink_of, source_of};
 use explain::{ExplainAnswer, Forced, explain, run_explain};
 use plan_base::{RequestNo, SliceNo, TelescopeNo};
 use plan_doc::{DocFault, Publication, read_publication};
-use plan_io::{MemSink, MemSource, Status};
+use plan_io::Status;
 use plan_json::parse_object;
 use std::alloc::{AllocError, Global};
 use std::test::Fail;
@@ -48,19 +49,20 @@ fn a_claim_is_explained(rt: HostRuntime) -> Result<(), Fail> {
         return Err(Fail::new("the document isn't read"));
     };
     let answer = explain(rt.alloc(), &publication.snapshot, &publication.claim)?;
-    assert!(rt; is_told(&answer));
+    let told = is_told(&answer);
+    drop(answer);
+    assert!(rt; told);
     Ok(())
 }
 
 /// Whether an explanation of the document ends so, and writes so many bytes of its reply, where each read gives at most
 /// 256 bytes and each write takes at most 64, and these calls fail.
 fn ends_so(alloc: Global, fails: (u32, u32), ending: (Status, usize)) -> Result<bool, AllocError> {
+    let mut source = source_of(alloc, DOCUMENT, 256, fails.0)?;
+    let mut sink = sink_of(alloc, 64, fails.1)?;
     let words = vec![in alloc; String::from_str(alloc, "explain")?]?;
-    let failing = Vec::from_slice(alloc, &[fails.0])?;
-    let mut source = MemSource::new(Vec::from_slice(alloc, DOCUMENT)?, 256, failing);
-    let mut sink = MemSink::new(alloc, 64, 1_000, Vec::from_slice(alloc, &[fails.1])?)?;
-    let status = run_explain(alloc, words.as_slice(), &mut source, &mut sink);
-    Ok(status == ending.0 && sink.bytes() == &REPLY[..ending.1.min(REPLY.len())])
+    let status = run_explain(alloc, words.as_slice(), &mut *source, &mut *sink);
+    Ok(is_ending(status, &sink, REPLY, ending))
 }
 
 #[test]

@@ -2,6 +2,8 @@
 #![tactic(auto)]
 
 #[cfg(test)]
+mod ends;
+#[cfg(test)]
 mod explain_tests;
 #[cfg(test)]
 mod plan_doc_tests;

@@ -1,7 +1,8 @@
 // What no clause says: that there is memory for a run, and how one ends where a read or a write fails. What comes of whole
 // documents stands in the files of cases/rapid, at the top of the repository.
 
-use plan_io::{MemSink, MemSource, Status};
+use crate::ends::{is_ending, sink_of, source_of};
+use plan_io::Status;
 use rapid::run_rapid;
 use std::alloc::{AllocError, Global};
 use std::test::Fail;
@@ -16,12 +17,11 @@ const REPLY: &[u8] =
 /// Whether a run over the document ends so, and writes so many bytes of its reply, where each read gives at most 256 bytes
 /// and each write takes at most 64, and these calls fail.
 fn ends_so(alloc: Global, fails: (u32, u32), ending: (Status, usize)) -> Result<bool, AllocError> {
+    let mut source = source_of(alloc, DOCUMENT, 256, fails.0)?;
+    let mut sink = sink_of(alloc, 64, fails.1)?;
     let words = vec![in alloc; String::from_str(alloc, "rapid")?]?;
-    let failing = Vec::from_slice(alloc, &[fails.0])?;
-    let mut source = MemSource::new(Vec::from_slice(alloc, DOCUMENT)?, 256, failing);
-    let mut sink = MemSink::new(alloc, 64, 1_000, Vec::from_slice(alloc, &[fails.1])?)?;
-    let status = run_rapid(alloc, words.as_slice(), &mut source, &mut sink);
-    Ok(status == ending.0 && sink.bytes() == &REPLY[..ending.1.min(REPLY.len())])
+    let status = run_rapid(alloc, words.as_slice(), &mut *source, &mut *sink);
+    Ok(is_ending(status, &sink, REPLY, ending))
 }
 
 #[test]

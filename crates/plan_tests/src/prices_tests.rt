@@ -73,17 +73,3 @@ fn steps_are_shared_by_rounds_and_halved_by_lanes(rt: HostRuntime) -> Result<(),
     }
     Ok(())
 }
-
-#[test]
-fn first_prices_are_0(rt: HostRuntime) -> Result<(), Fail> {
-    assert_eq!(rt;
-        zero_prices(rt.alloc(), 3)?.0.as_slice(),
-        [0, 0, 0].as_slice()
-    );
-    assert_eq!(rt;
-        zero_quota_prices(rt.alloc(), 2)?.0.as_slice(),
-        [0, 0].as_slice()
-    );
-    assert!(rt; zero_prices(rt.alloc(), 0)?.0.is_empty());
-    Ok(())
-}

@@ -1,7 +1,7 @@
 //! Two callers of one book: what is answered while a Take is open, once a change came between it and its Publish, to what was
 //! found for another Take, and where none is open.
 use desk_book::{Book, BookStep, PublishStep};
-use desk_events::write_entry;
+use desk_events::{EventEntry, write_entry};
 use lanes::solve_plan;
 use plan_base::{Settings, Solved, Taken};
 use plan_io::{ByteList, NoGate, ScriptLine};
@@ -53,13 +53,19 @@ fn text_of(alloc: Global, text: &str) -> Result<Vec<u8>, AllocError> {
     Vec::from_slice(alloc, text.as_bytes())
 }
 
+/// The text of an entry.
+fn entry_text(alloc: Global, entry: &EventEntry) -> Result<Vec<u8>, AllocError> {
+    let mut text = Vec::new(alloc);
+    write_entry(entry, &mut text)?;
+    Ok(text)
+}
+
 /// The text of the entry that was added last.
 fn last_text(alloc: Global, book: &Book) -> Result<Vec<u8>, AllocError> {
-    let mut text = Vec::new(alloc);
-    if let Some(entry) = book.last() {
-        write_entry(entry, &mut text)?;
+    match book.last() {
+        Some(entry) => entry_text(alloc, entry),
+        None => text_of(alloc, "no entry"),
     }
-    Ok(text)
 }
 
 /// Adds a line to the script of a caller, where there is one with room.
@@ -109,9 +115,10 @@ fn solve<R: Threads + Sync>(rt: &R, alloc: Global, taken: &Taken) -> Result<Solv
 fn publish(alloc: Global, book: &mut Book, solved: Solved) -> Result<Vec<u8>, AllocError> {
     match book.publish(solved)? {
         PublishStep::Replied(entry) => {
-            let mut text = Vec::new(alloc);
-            write_entry(&entry, &mut text)?;
-            Ok(text)
+            let text = entry_text(alloc, &entry);
+            // A call drops it. Else it would be dropped here, piece by piece, which the proof would have to follow.
+            drop(entry);
+            text
         }
         PublishStep::NotTaken => text_of(alloc, "not taken"),
         PublishStep::OtherTake => text_of(alloc, "other take"),

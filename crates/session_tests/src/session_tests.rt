@@ -17,16 +17,17 @@ const REPLIES: &[u8] = b"\
     {\"caller\":0,\"claim\":{\"bound\":0,\"placements\":[],\"prices\":[],\"value\":0},\"line\":2,\"ok\":\"published\",\"version\":1}\n\
     {\"balances\":[],\"caller\":0,\"line\":3,\"ok\":\"balances\",\"version\":2}\n";
 
-/// A source of these bytes, 40 a call, of which the call with this number fails.
-fn source_of(alloc: Global, bytes: &[u8], failing: u32) -> Result<MemSource, AllocError> {
+/// A source of these bytes, 40 a call, of which the call with this number fails. It is boxed, so that no proof looks into it.
+fn source_of(alloc: Global, bytes: &[u8], failing: u32) -> Result<Box<MemSource>, AllocError> {
     let failing = Vec::from_slice(alloc, &[failing])?;
-    Ok(MemSource::new(Vec::from_slice(alloc, bytes)?, 40, failing))
+    let bytes = Vec::from_slice(alloc, bytes)?;
+    Ok(Box::new(alloc, MemSource::new(bytes, 40, failing))?)
 }
 
-/// A sink that takes 40 bytes a call, and fails the call with this number.
-fn sink_of(alloc: Global, failing: u32) -> Result<MemSink, AllocError> {
+/// A sink that takes 40 bytes a call, and fails the call with this number. It is boxed for the same reason.
+fn sink_of(alloc: Global, failing: u32) -> Result<Box<MemSink>, AllocError> {
     let failing = Vec::from_slice(alloc, &[failing])?;
-    MemSink::new(alloc, 40, 1_000, failing)
+    Ok(Box::new(alloc, MemSink::new(alloc, 40, 1_000, failing)?)?)
 }
 
 /// The status of a session.
@@ -92,7 +93,8 @@ fn spaces_end_so<R: Threads + Sync>(
     count: usize,
     ending: (Status, usize),
 ) -> Result<bool, AllocError> {
-    let mut source = MemSource::new(spaces(alloc, count)?, 65_536, Vec::new(alloc));
+    let source = MemSource::new(spaces(alloc, count)?, 65_536, Vec::new(alloc));
+    let mut source = Box::new(alloc, source)?;
     let mut sink = sink_of(alloc, 99)?;
     let status = status_of(rt, alloc, &mut source, &mut sink)?;
     Ok(status == ending.0 && sink.bytes().len() == ending.1)

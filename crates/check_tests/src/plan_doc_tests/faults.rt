@@ -1,7 +1,8 @@
 // Checks over a source and a sink in memory that fail in mid-stream.
 
+use crate::ends::{is_ending, sink_of, source_of};
 use plan_doc::run_check;
-use plan_io::{MemSink, MemSource, Status};
+use plan_io::Status;
 use std::alloc::{AllocError, Global};
 use std::test::Fail;
 
@@ -14,12 +15,11 @@ const REPLY: &[u8] = b"{\"claimed\":1,\"found\":0,\"no\":10,\"reason\":\"BoundDi
 /// Whether a check of the document ends so, and writes so many bytes of its reply, where each read gives at most 64
 /// bytes and each write takes at most 16, and these calls fail.
 fn ends_so(alloc: Global, fails: (u32, u32), ending: (Status, usize)) -> Result<bool, AllocError> {
+    let mut source = source_of(alloc, DOCUMENT, 64, fails.0)?;
+    let mut sink = sink_of(alloc, 16, fails.1)?;
     let words = vec![in alloc; String::from_str(alloc, "check")?]?;
-    let failing = Vec::from_slice(alloc, &[fails.0])?;
-    let mut source = MemSource::new(Vec::from_slice(alloc, DOCUMENT)?, 64, failing);
-    let mut sink = MemSink::new(alloc, 16, 1_000, Vec::from_slice(alloc, &[fails.1])?)?;
-    let status = run_check(alloc, words.as_slice(), &mut source, &mut sink);
-    Ok(status == ending.0 && sink.bytes() == &REPLY[..ending.1.min(REPLY.len())])
+    let status = run_check(alloc, words.as_slice(), &mut *source, &mut *sink);
+    Ok(is_ending(status, &sink, REPLY, ending))
 }
 
 #[test]

@@ -8,12 +8,16 @@ use std::test::Fail;
 
 fn rewritten_claim(alloc: Global, text: &str) -> Result<Vec<u8>, Fail> {
     let claim = read_claim(alloc, &parse_object(alloc, text.as_bytes())?)?;
-    Ok(write_claim(alloc, &claim)?)
+    let written = write_claim(alloc, &claim);
+    drop(claim);
+    Ok(written?)
 }
 
 fn rewritten_snapshot(alloc: Global, text: &str) -> Result<Vec<u8>, Fail> {
     let snapshot = read_snapshot(alloc, &parse_object(alloc, text.as_bytes())?)?;
-    Ok(write_snapshot(alloc, &snapshot)?)
+    let written = write_snapshot(alloc, &snapshot);
+    drop(snapshot);
+    Ok(written?)
 }
 
 #[test]

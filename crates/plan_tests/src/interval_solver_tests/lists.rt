@@ -1,5 +1,7 @@
 // Bests and starts of random snapshots, beside those of all lists of starts.
 
+ghost use Rattle.std.specs.Prelude.{◌≡◌};
+
 use super::{Answer, assert_answer};
 use interval_solver::Solver;
 use plan_base::{Placement, Snapshot, TelescopeNo};
@@ -155,7 +157,45 @@ fn answer_of(
     })
 }
 
-/// Asserts what the solver of a telescope answers at prices, and then at others: how many starts it chose in all.
+/// Asserts what the solver of a telescope answers at prices: how many starts it chose.
+fn assert_prices(
+    rt: &impl Abort,
+    alloc: Global,
+    snapshot: &Snapshot,
+    telescope: TelescopeNo,
+    solver: &mut Solver<'_>,
+    prices: &[i64],
+) -> Result<usize, Fail>
+    requires { solver.old.snapshot ≡ snapshot.now }
+    ensures { solver.new.snapshot ≡ solver.old.snapshot }
+{
+    let answer = answer_of(alloc, snapshot, telescope, prices)?;
+    let asserted = assert_answer(rt, alloc, snapshot, solver, prices, &answer);
+    let count = answer.starts.len();
+    drop(answer);
+    asserted?;
+    Ok(count)
+}
+
+/// Asserts this at prices, and then at others: how many starts it chose in all.
+fn assert_draws(
+    rt: &impl Abort,
+    alloc: Global,
+    random: &mut Random,
+    snapshot: &Snapshot,
+    telescope: TelescopeNo,
+    solver: &mut Solver<'_>,
+) -> Result<usize, Fail>
+    requires { solver.old.snapshot ≡ snapshot.now }
+{
+    let prices = draw_prices(random);
+    let first = assert_prices(rt, alloc, snapshot, telescope, solver, &prices)?;
+    let prices = draw_prices(random);
+    let second = assert_prices(rt, alloc, snapshot, telescope, solver, &prices)?;
+    Ok(first.saturating_add(second))
+}
+
+/// Asserts this of the solver that is made for a telescope.
 fn assert_telescope<R: Threads + Sync + Abort>(
     rt: &R,
     alloc: Global,
@@ -165,13 +205,11 @@ fn assert_telescope<R: Threads + Sync + Abort>(
 ) -> Result<usize, Fail> {
     let list = starts(rt, alloc, snapshot)?;
     let mut solver = Solver::new(alloc, telescope, snapshot, &list)?;
-    let prices = draw_prices(random);
-    let first = answer_of(alloc, snapshot, telescope, &prices)?;
-    assert_answer(rt, alloc, snapshot, &mut solver, &prices, &first)?;
-    let prices = draw_prices(random);
-    let second = answer_of(alloc, snapshot, telescope, &prices)?;
-    assert_answer(rt, alloc, snapshot, &mut solver, &prices, &second)?;
-    Ok(first.starts.len().saturating_add(second.starts.len()))
+    let count = assert_draws(rt, alloc, random, snapshot, telescope, &mut solver);
+    // Calls drop these. Else they would be dropped here, piece by piece, which the proof would have to follow.
+    drop(solver);
+    drop(list);
+    count
 }
 
 /// Asserts this of both telescopes: how many starts they chose in all.

@@ -83,7 +83,9 @@ fn assert_rows(
 {
     for row in rows {
         let expected = expected(alloc, row)?;
-        assert_answer(rt, alloc, snapshot, solver, row.prices, &expected)?;
+        let asserted = assert_answer(rt, alloc, snapshot, solver, row.prices, &expected);
+        drop(expected);
+        asserted?;
     }
     Ok(())
 }
@@ -101,7 +103,11 @@ fn assert_desk<R: Threads + Sync + Abort>(
     let list = starts(rt, alloc, &snapshot)?;
     let mut solver = Solver::new(alloc, TelescopeNo(0), &snapshot, &list)?;
     assert!(rt; solver.chosen().is_empty());
-    assert_rows(rt, alloc, &snapshot, &mut solver, rows)
+    let asserted = assert_rows(rt, alloc, &snapshot, &mut solver, rows);
+    // Calls drop these. Else they would be dropped here, piece by piece, which the proof would have to follow.
+    drop(solver);
+    drop(list);
+    asserted
 }
 
 #[test]

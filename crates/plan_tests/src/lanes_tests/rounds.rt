@@ -1,5 +1,6 @@
 // The bounds of a lane's first eight rounds, worked out by hand.
 
+ghost use Rattle.std.specs.Prelude.{◌≡◌};
 ghost use Rattle.snapshot_starts.specs.Runs.{AreAllStarts};
 
 use interval_solver::Rows;
@@ -7,10 +8,21 @@ use lanes::Lane;
 use plan_base::Snapshot;
 use samples::{Sample, TWO};
 use snapshot_starts::{Starts, starts};
-use std::alloc::Global;
+use std::alloc::{AllocError, Global};
 use std::process::Abort;
 use std::test::Fail;
 use std::thread::Threads;
+
+/// The bounds of the first rounds of a lane that has made none.
+fn rounds_of(alloc: Global, lane: &mut Lane<'_>) -> Result<Vec<u64>, AllocError>
+    requires { lane.old.made ≡ 0 }
+{
+    let mut bounds = Vec::new(alloc);
+    for _ in 0..8u32 {
+        bounds.push(lane.round().bound)?;
+    }
+    Ok(bounds)
+}
 
 /// The bounds of the first rounds of lane 0.
 fn bounds_of(alloc: Global, snapshot: &Snapshot, starts: &Starts) -> Result<Vec<u64>, Fail>
@@ -19,11 +31,11 @@ fn bounds_of(alloc: Global, snapshot: &Snapshot, starts: &Starts) -> Result<Vec<
     let rows = Rows::of_all(alloc, snapshot, starts)?;
     let mut lane = Lane::new(alloc, snapshot, starts, rows.as_slice())?;
     lane.begin(0);
-    let mut bounds = Vec::new(alloc);
-    for _ in 0..8u32 {
-        bounds.push(lane.round().bound)?;
-    }
-    Ok(bounds)
+    let bounds = rounds_of(alloc, &mut lane);
+    // Calls drop these. Else they would be dropped here, piece by piece, which the proof would have to follow.
+    drop(lane);
+    drop(rows);
+    Ok(bounds?)
 }
 
 /// Asserts the bounds of a sample.

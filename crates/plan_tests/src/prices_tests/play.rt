@@ -76,11 +76,24 @@ fn assert_bound(
     let prices = prices_of(alloc, round.prices)?;
     let quota_prices = quota_prices_of(alloc, round.quota_prices)?;
     let nets = nets_of(alloc, snapshot, &prices, &quota_prices)?;
-    assert_eq!(rt; round.rebates.len(), snapshot.parts().groups.len());
-    for (group, gives) in round.rebates.iter().enumerate() {
-        assert_eq!(rt; rebate_of(snapshot, group, &nets)?, *gives);
-    }
+    let asserted = assert_rebates(rt, snapshot, &nets, round.rebates);
+    drop(nets);
+    asserted?;
     assert_eq!(rt; bound_of(round)?, round.bound);
+    Ok(())
+}
+
+/// Asserts what each group gives at net prices.
+fn assert_rebates(
+    rt: &impl Abort,
+    snapshot: &Snapshot,
+    nets: &Prices,
+    rebates: &[i64],
+) -> Result<(), Fail> {
+    assert_eq!(rt; rebates.len(), snapshot.parts().groups.len());
+    for (group, gives) in rebates.iter().enumerate() {
+        assert_eq!(rt; rebate_of(snapshot, group, nets)?, *gives);
+    }
     Ok(())
 }
 

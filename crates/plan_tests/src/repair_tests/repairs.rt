@@ -81,7 +81,7 @@ fn assert_run(
     if !are_possible(snapshot, chosen) {
         return Err(Fail::new("a start isn't possible"));
     }
-    let places = Places::new(alloc, snapshot)?;
+    let places = Box::new(alloc, Places::new(alloc, snapshot)?)?;
     if !are_apart(snapshot, &places, chosen) {
         return Err(Fail::new("two starts share a slice"));
     }
@@ -92,7 +92,23 @@ fn assert_run(
     Ok(())
 }
 
-/// Asserts the rows, one after another with the same repairer.
+/// Asserts the rows, one after another.
+fn assert_runs(
+    rt: &impl Abort,
+    alloc: Global,
+    snapshot: &Snapshot,
+    repairer: &mut Repairer<'_>,
+    rows: &[Row],
+) -> Result<(), Fail>
+    requires { repairer.old.snapshot ≡ snapshot.now }
+{
+    for row in rows {
+        assert_run(rt, alloc, snapshot, repairer, row)?;
+    }
+    Ok(())
+}
+
+/// Asserts the rows with one repairer.
 fn assert_rows<R: Threads + Sync + Abort>(
     rt: &R,
     alloc: Global,
@@ -101,10 +117,11 @@ fn assert_rows<R: Threads + Sync + Abort>(
 ) -> Result<(), Fail> {
     let starts = starts(rt, alloc, snapshot)?;
     let mut repairer = Repairer::new(alloc, snapshot, &starts)?;
-    for row in rows {
-        assert_run(rt, alloc, snapshot, &mut repairer, row)?;
-    }
-    Ok(())
+    let asserted = assert_runs(rt, alloc, snapshot, &mut repairer, rows);
+    // Calls drop these. Else they would be dropped here, piece by piece, which the proof would have to follow.
+    drop(repairer);
+    drop(starts);
+    asserted
 }
 
 #[test]

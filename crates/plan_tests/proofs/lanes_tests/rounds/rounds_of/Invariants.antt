@@ -1,5 +1,5 @@
 use Rattle.std.proofs.Common.{◌≡◌}
-use Rattle.plan_tests.proofs.lanes_tests.rounds.bounds_of.Given as goal
+use Rattle.plan_tests.proofs.lanes_tests.rounds.rounds_of.Given as goal
 
 abbrev pub invariant-loop : goal.invariant-loop
 invariant-loop l = l.lane.made ≡ l.counter
