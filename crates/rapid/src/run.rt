@@ -100,7 +100,9 @@ fn answer_to(alloc: Global, document: &RapidDocument) -> Result<Answer, AllocErr
     let claim = publication.claim.copy()?;
     match Rapid::new(alloc, &publication.snapshot, claim)? {
         RapidAnswer::Ready(mut rapid) => {
-            answer_from(alloc, &mut rapid, document.groups.as_slice())
+            let answer = answer_from(alloc, &mut rapid, document.groups.as_slice());
+            drop(rapid);
+            answer
         }
         RapidAnswer::No(reason) => answer_line(alloc, &VerdictDoc(Verdict::No(reason)), Said::No),
     }
@@ -114,7 +116,11 @@ impl Answers for Insert {
 
     fn answer(&self, alloc: Global, input: &[u8]) -> Result<Answer, AllocError> {
         match read_bytes(alloc, input) {
-            Ok(document) => answer_to(alloc, &document),
+            Ok(document) => {
+                let answer = answer_to(alloc, &document);
+                drop(document);
+                answer
+            }
             Err(DocFault::NoMemory) => Err(AllocError),
             Err(fault) => answer_line(alloc, &fault, Said::NoDocument),
         }
