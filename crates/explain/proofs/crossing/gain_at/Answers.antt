@@ -1,4 +1,5 @@
-use Rattle.std.proofs.Common.{◌≡◌, ℕ, ◌+◌, w64, ◌+ℤ◌, length, ◌∙◌, ap}
+use Rattle.std.proofs.Common.{◌≡◌, ℕ, ◌+◌, w64, ◌+ℤ◌, length, ◌∙◌, ap, arith}
+use Rattle.std.proofs.lemmas.Grind.{common_steps}
 use Rattle.std.proofs.lemmas.Int.{to_z-of_z}
 use Rattle.plan_base.specs.declared.parts.Parts.{Parts}
 use Rattle.bound_checker.specs.Offers.{offer_weight}
@@ -42,3 +43,12 @@ returns c =
     let both : SFits w64 (c.index-until.result.now +ℤ c.weight_at-weight.result) = two_fit c.args.snapshot.now c.args.prices.now.0 c.args.telescope.0 c.args.openings.now.request.0 c.args.index c.args.openings.now.offer c.parts.ensures.orderly c.requires.openings.offer can c.args.chart.now c.requires.prices c.requires.chart c.index-until.result.now c.weight_at-weight.result c.index-after.result.now c.index-until.ensures weight c.index-after.ensures in
     let all : SFits w64 (c.index-until.result.now +ℤ c.weight_at-weight.result +ℤ c.index-after.result.now) = all_fit c.args.snapshot.now c.args.prices.now.0 c.args.telescope.0 c.args.openings.now.request.0 c.args.index c.args.openings.now.offer c.parts.ensures.orderly c.requires.openings.offer can c.args.chart.now c.requires.prices c.requires.chart c.index-until.result.now c.weight_at-weight.result c.index-after.result.now c.index-until.ensures weight c.index-after.ensures in
     simp to_z-of_z (gain_here c.args.snapshot.now c.args.prices.now.0 c.args.telescope.0 c.args.openings.now.request.0 c.args.index c.args.openings.now.offer c.parts.ensures.orderly c.requires.openings.offer can c.args.chart.now c.requires.prices c.requires.chart c.index-until.result.now c.weight_at-weight.result c.index-after.result.now c.index-until.ensures weight c.index-after.ensures)
+
+pub bounds-flags-index : goal.bounds-flags-index
+bounds-flags-index c = grind (arith, common_steps)
+
+pub returns-then-not-flags-index : goal.returns-then-not-flags-index
+returns-then-not-flags-index c = grind (arith, common_steps)
+
+pub index-after-requires : goal.index-after-requires
+index-after-requires c = grind (arith, common_steps)

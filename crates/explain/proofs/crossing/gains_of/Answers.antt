@@ -1,4 +1,5 @@
 use Rattle.std.proofs.Common.{◌≡◌, ℕ, ◌+◌, ◌≤◌, Bool, Option, Some, None, ℤ, List, length, ap, subst, arith}
+use Rattle.std.proofs.lemmas.Grind.{common_steps, elements}
 use Rattle.plan_base.specs.Tables.{row}
 use Rattle.explain.specs.Crossings.{count_of, AreGainsTo}
 use Rattle.openings.proofs.Flags.{row_read, start_before}
@@ -29,3 +30,12 @@ returns-clause-gains c =
     let end : c.len-index-end.result ≡ length c.index.result.now = c.len-index-end.ensures in
     gains_all c.args.snapshot.now c.args.prices.now.0 c.args.telescope.0 c.args.openings.now.request.0 c.recall_valid.ensures.orderly (c.args.snapshot.now.first.0 + c.loop-index.index) c.loop-index.gains.starts c.loop-index.gains.greatest
     (start_before c.args.snapshot.now c.args.telescope.0 c.args.openings.now.request.0 c.loop-index.index (row c.args.openings.now.rows.items c.args.telescope.0) (c.requires.openings.rows.each c.args.telescope.0 c.requires.telescope) (omega (arith, c.loop-index-test.false))) c.loop-index.invariant.gains
+
+pub gain_at-gain-requires-clause-index : goal.gain_at-gain-requires-clause-index
+gain_at-gain-requires-clause-index c = grind (arith, common_steps)
+
+pub with_gain-gains-requires : goal.with_gain-gains-requires
+with_gain-gains-requires c = grind (arith, elements)
+
+pub returns-clause-few : goal.returns-clause-few
+returns-clause-few c = grind (arith, elements)

@@ -1,4 +1,5 @@
 use Rattle.std.proofs.Common.{rules, ◌≡◌, ◌<◌, ℕ, length, ◌∙◌, ap, subst, arith}
+use Rattle.std.proofs.lemmas.Grind.{common_steps, elements}
 use Rattle.plan_base.specs.declared.parts.Parts.{Parts}
 use Rattle.interval_solver.specs.Solving.{RowsOf, AreLanesSolved}
 use Rattle.lanes.proofs.Solved.{lanes_more, lanes_all}
@@ -29,3 +30,9 @@ pub returns-clause-solved : goal.returns-clause-solved
 returns-clause-solved g c =
     let count : c.len-telescope-end.result ≡ length c.args.snapshot.now.telescopes = c.len-telescope-end.ensures ∙ ap (λ (p : Parts). length p.telescopes) c.parts.ensures.value in
     lanes_all c.args.snapshot.now g.row.L c.loop-telescope.telescope c.args.prices.now c.loop-telescope.uses c.loop-telescope.bests (omega arith) c.loop-telescope.invariant.solved
+
+pub solve-requires : goal.solve-requires
+solve-requires g c = grind (arith, common_steps)
+
+pub loop-telescope-init : goal.loop-telescope-init
+loop-telescope-init g c = grind (arith, elements)

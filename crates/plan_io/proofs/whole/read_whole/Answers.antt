@@ -1,4 +1,5 @@
 use Rattle.std.proofs.Common.{◌≤◌, ◌+◌, ◌++◌, length, length-append, arith}
+use Rattle.std.proofs.lemmas.Grind.{common_steps}
 use Rattle.std.proofs.KnownBytes.{Consumes-trans}
 use Rattle.std.proofs.lemmas.Result.{err_from_is_err_and}
 use Rattle.plan_io.proofs.whole.read_whole.Goals as goal
@@ -19,3 +20,9 @@ returns-in_err-read_more-clause-err g c =
       ),
       omega (arith, stopped.1, was.later),
     ))
+
+pub returns-then-len-most_bytes-clause-whole : goal.returns-then-len-most_bytes-clause-whole
+returns-then-len-most_bytes-clause-whole g c = grind (arith, common_steps)
+
+pub loop-turn-preserved : goal.loop-turn-preserved
+loop-turn-preserved g c = grind (arith, common_steps)

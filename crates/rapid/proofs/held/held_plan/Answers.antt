@@ -1,4 +1,5 @@
-use Rattle.std.proofs.Common.{◌≤◌, length}
+use Rattle.std.proofs.Common.{◌≤◌, length, arith}
+use Rattle.std.proofs.lemmas.Grind.{common_steps}
 use Rattle.rapid.specs.Held.{HasPlaceBelow}
 use Rattle.rapid.proofs.Steps.{mapped_more, all_more}
 use Rattle.rapid.proofs.held.held_plan.Goals as goal
@@ -10,3 +11,6 @@ loop-placement-preserved c = (
   all_more (λ h. h.worth ≤ 288000000) c.loop-placement.held.items c.push.new.self.items c.held_of.result c.loop-placement.invariant.2 c.held_of.ensures.worth c.in_ok-push.ensures.items,
   all_more (λ h. h.counted ≤ 86400) c.loop-placement.held.items c.push.new.self.items c.held_of.result c.loop-placement.invariant.3 c.held_of.ensures.counted c.in_ok-push.ensures.items,
 )
+
+pub returns-clause-value : goal.returns-clause-value
+returns-clause-value c = grind (arith, common_steps)

@@ -1,4 +1,5 @@
-use Rattle.std.proofs.Common.{◌≡◌, ℤ, pos, w64, ◌+ℤ◌, ◌-ℤ◌, length, sym, ◌∙◌, ap, subst}
+use Rattle.std.proofs.Common.{◌≡◌, ℤ, pos, w64, ◌+ℤ◌, ◌-ℤ◌, length, sym, ◌∙◌, ap, subst, arith}
+use Rattle.std.proofs.lemmas.Grind.{common_steps}
 use Rattle.std.proofs.lemmas.Int.{to_z-of_z}
 use Rattle.plan_base.specs.declared.parts.Parts.{Parts}
 use Rattle.plan_base.specs.Bound.{IsBound}
@@ -65,3 +66,9 @@ returns c =
     in
     let is : pos c.mended_bound.result ≡ (pos c.args.extension.now.claim.now.bound -ℤ c.best_sum-old.result +ℤ c.best_sum-new.result +ℤ c.rebate_of-rebate.result) = simp to_z-of_z at c.mended_bound.ensures in
     subst (λ (b : ℤ). IsBound c.args.extension.now.snapshot.now c.args.prices.now.0 c.args.extension.now.claim.now.quota_prices.0 b) (sym is) whole
+
+pub bound_limit-requires-2-clause-prices : goal.bound_limit-requires-2-clause-prices
+bound_limit-requires-2-clause-prices c = grind (arith, common_steps)
+
+pub best_sum-new-requires-clause-range : goal.best_sum-new-requires-clause-range
+best_sum-new-requires-clause-range c = grind (arith, common_steps)

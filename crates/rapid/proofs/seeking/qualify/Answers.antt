@@ -1,4 +1,5 @@
-use Rattle.std.proofs.Common.{refl, length}
+use Rattle.std.proofs.Common.{refl, length, arith}
+use Rattle.std.proofs.lemmas.Grind.{elements}
 use Rattle.std.proofs.lemmas.Bool.{both_ways}
 use Rattle.rapid.specs.Held.{goes_by}
 use Rattle.rapid.proofs.Qualifying.{places_within, sum_fits, loses, passes_quota, is_worth_it}
@@ -26,3 +27,6 @@ returns c =
     is_worth_it c.args.snapshot.now c.args.held.now c.args.start c.recall_valid.ensures.orderly c.requires.stage (c.is_possible.ensures.0 c.if-not-is_possible.false) c.known_quota-quota.result c.held_of-new.result c.strike_ands.new.flags (length c.args.flags.now)
     c.known_quota-quota.ensures.value c.held_of-new.ensures.value c.requires.flags c.strike_ands.ensures c.worth_gone-lost.result c.counted_kept.result _
     c.worth_gone-lost.ensures c.counted_kept.ensures c.if-lost-new.false (c.is_within.ensures.0 c.if-not-is_within.false) refl c.in_ok-gone.ensures c.in_ok-kept.ensures refl
+
+pub returns-then-not-is_possible : goal.returns-then-not-is_possible
+returns-then-not-is_possible c = grind (arith, elements)

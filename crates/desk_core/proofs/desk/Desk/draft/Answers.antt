@@ -1,4 +1,5 @@
 use Rattle.std.proofs.Common.{◌≡◌, ◌∙◌, ap, sym, subst, ◌+◌, ◌<◌, ◌≤◌, List, All, length, map, arith}
+use Rattle.std.proofs.lemmas.Grind.{common_steps}
 use Rattle.std.proofs.lemmas.List.{length-map}
 use Rattle.plan_base.specs.declared.number.GroupNo.{GroupNo}
 use Rattle.plan_base.specs.declared.parts.Op.{Op}
@@ -68,3 +69,21 @@ returns-clause-unchanged c =
     let one : IsOneMore before.runs c.add.new.self = record { sound = c.requires.sound; op = c.op_of-op.result; asks = c.as_slice-2.result.now; some = some; added = c.in_ok-number.ensures.added } in
     let of : List Submitted → Progress → DeskSeen = λ groups progress. record { opening = before.opening; network = before.network; books = before.ledger.books; groups = groups; progress = progress; published = before.published } in
     ap (λ (l : List Submitted). of l c.forget_last.new.self) c.in_ok-reserve.ensures.items ∙ ap (of before.submitted.items) (c.forget_last.ensures before.runs one)
+
+pub add-requires-clause-some : goal.add-requires-clause-some
+add-requires-clause-some c = grind (arith, common_steps)
+
+pub add-requires-clause-few : goal.add-requires-clause-few
+add-requires-clause-few c = grind (arith, common_steps)
+
+pub new_group-requires-clause-there : goal.new_group-requires-clause-there
+new_group-requires-clause-there c = grind (arith, common_steps)
+
+pub returns-in-Ok-clause-new : goal.returns-in-Ok-clause-new
+returns-in-Ok-clause-new c = grind (arith, common_steps)
+
+pub returns-in-Ok-clause-added : goal.returns-in-Ok-clause-added
+returns-in-Ok-clause-added c = grind (arith, common_steps)
+
+pub forget_last-requires : goal.forget_last-requires
+forget_last-requires c = grind (arith, common_steps)

@@ -1,4 +1,5 @@
 use Rattle.std.proofs.Common.{◌≡◌, ◌∙◌, ap, sym, ◌<◌, List, length, map, get_or, arith}
+use Rattle.std.proofs.lemmas.Grind.{common_steps}
 use Rattle.std.specs.Result.{result_err}
 use Rattle.request_model.specs.declared.request.RequestDoc.{RequestDoc}
 use Rattle.desk_core.specs.Desk.{seen}
@@ -20,3 +21,9 @@ returns-in_err-more c =
     ap result_err c.loop-index.invariant
     ∙ gathered_stops d op rs i c.asked-item.result (map seen_made c.loop-index.made.items) fault l memory
     (ap (λ (q : RequestDoc). result_err (made_from d op (i, q))) (sym place) ∙ c.in_err-more.ensures.refused memory))
+
+pub loop-index-preserved : goal.loop-index-preserved
+loop-index-preserved c = grind (arith, common_steps)
+
+pub returns : goal.returns
+returns c = grind (arith, common_steps)

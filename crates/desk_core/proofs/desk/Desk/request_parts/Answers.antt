@@ -1,4 +1,5 @@
-use Rattle.std.proofs.Common.{◌≡◌, ◌∙◌, ap, sym, inl, inr, ◌++◌, [], List, map}
+use Rattle.std.proofs.Common.{◌≡◌, ◌∙◌, ap, sym, inl, inr, ◌++◌, [], List, map, arith}
+use Rattle.std.proofs.lemmas.Grind.{common_steps}
 use Rattle.std.specs.Prelude.{filter}
 use Rattle.std.specs.List.{zip}
 use Rattle.std.proofs.lemmas.List.{append-nil}
@@ -19,3 +20,6 @@ returns c =
     in
     sym (append-nil c.loop-request.parts)
     ∙ sym (ap (λ l. c.loop-request.parts ++ map (request_part (seen c.args.self.now)) (filter (λ m. is_waiting c.args.self.now.runs.running m.0) l)) none) ∙ c.loop-request.invariant
+
+pub loop-request-preserved-in_ok-push : goal.loop-request-preserved-in_ok-push
+loop-request-preserved-in_ok-push c = grind (arith, common_steps)

@@ -1,4 +1,5 @@
 use Rattle.std.proofs.Common.{◌≡◌, ◌∙◌, ap, sym, subst, ◌+◌, nat_lt, false, List, length, map, Ok, Err, arith, rules}
+use Rattle.std.proofs.lemmas.Grind.{common_steps}
 use Rattle.std.proofs.lemmas.List.{length-map}
 use Rattle.allocations.specs.Books.{Books, total_seconds}
 use Rattle.allocations.specs.declared.entry.Hold.{Hold}
@@ -90,3 +91,12 @@ returns-in-Err c =
     ∙ ap (λ (h : List Hold). refusal_of c.enter.new.self.ledger.books h (charge_for d c.args.document.now made)) (sym holds)
     ∙ ap (refusal_of c.enter.new.self.ledger.books c.as_slice.result.now) (sym charged) ∙ c.in-Err.ensures.refused memory)
     (c.forget.ensures d entered))
+
+pub returns-in_err-has_room : goal.returns-in_err-has_room
+returns-in_err-has_room c = grind (arith, common_steps)
+
+pub returns-in_err-new : goal.returns-in_err-new
+returns-in_err-new c = grind (arith, common_steps)
+
+pub returns : goal.returns
+returns c = grind (arith, common_steps)

@@ -1,4 +1,5 @@
 use Rattle.std.proofs.Common.{◌≡◌, ◌∙◌, ap, List, arith}
+use Rattle.std.proofs.lemmas.Grind.{common_steps}
 use Rattle.std.specs.List.{zip}
 use Rattle.allocations.specs.Ledger.{seconds_of_holds}
 use Rattle.desk_core.specs.declared.desk.Wanted.{Wanted}
@@ -16,3 +17,6 @@ ipp_charge-charged-requires c =
     let same : seconds_of_holds c.as_slice-2.result.now ≡ seconds_of_holds (holds_of group.op needs) =
     ap seconds_of_holds (c.as_slice-2.ensures.value ∙ c.in_ok-holds.ensures ∙ ap (λ (ws : List Wanted). holds_of group.op (needs_of c.args.document (zip group.requests ws))) c.as_slice.ensures) in
     omega (arith, small, most, same)
+
+pub returns : goal.returns
+returns c = grind (arith, common_steps)

@@ -1,4 +1,5 @@
 use Rattle.std.proofs.Common.{rules, ◌≡◌, ℕ, ℤ, pos, w64, to_z, of_z, map, All, refl, sym, ◌∙◌, ap, subst, arith}
+use Rattle.std.proofs.lemmas.Grind.{common_steps}
 use Rattle.std.proofs.lemmas.Int.{ints, to_z-of_z}
 use Rattle.plan_base.specs.declared.parts.Parts.{Parts}
 use Rattle.plan_base.specs.Requests.{listed}
@@ -43,3 +44,9 @@ returns-clause-is_lane c =
     next_lane s l c.args.uses.now.starts c.recall_valid.ensures.orderly c.requires.lane c.requires.starts _ c.requires.made refl refl
     (c.advance.ensures.next c.args.uses.now.starts (omega (arith, ints, is)) are ∙ ap (λ (n : ℕ). next_prices s n l.prices.0 (net_price s l.prices.0 l.quota_prices.0) c.args.uses.now.starts) size)
     (c.advance.ensures.quotas ∙ ap (λ (n : ℕ). next_quota_prices s n l.quota_prices.0 (net_price s l.prices.0 l.quota_prices.0)) size)
+
+pub advance-requires-clause-uses : goal.advance-requires-clause-uses
+advance-requires-clause-uses c = grind (arith, common_steps)
+
+pub returns-clause-room : goal.returns-clause-room
+returns-clause-room c = grind (arith, common_steps)

@@ -1,4 +1,5 @@
 use Rattle.std.proofs.Common.{◌≡◌, ◌<◌, pos, ◌≤ℤ◌, [], length, slice_index_or, All, sym, ◌∙◌, ap, subst, arith}
+use Rattle.std.proofs.lemmas.Grind.{common_steps}
 use Rattle.std.proofs.lemmas.Int.{ints}
 use Rattle.std.proofs.lemmas.List.{get_or_default}
 use Rattle.plan_base.specs.declared.parts.Parts.{Parts}
@@ -76,3 +77,6 @@ returns-clause-answer g c = λ d.
     in
     subst (λ (p : Parts). IsAnswer p (slice_index_or c.args.self.now.lanes c.args.place d) c.bound-bound.result c.run-value.result plan) (ap (λ (x : Stepping). x.snapshot) c.self.view_is)
     (subst (λ (b : LanePrices). IsAnswer s b c.bound-bound.result c.run-value.result plan) same_lane here)
+
+pub bound-bound-requires-clause-room : goal.bound-bound-requires-clause-room
+bound-bound-requires-clause-room g c = grind (arith, common_steps)

@@ -1,4 +1,5 @@
-use Rattle.std.proofs.Common.{◌+◌, ◌<◌, List, length, take}
+use Rattle.std.proofs.Common.{◌+◌, ◌<◌, List, length, take, arith}
+use Rattle.std.proofs.lemmas.Grind.{common_steps}
 use Rattle.lanes.specs.declared.worker.LaneFound.{LaneFound}
 use Rattle.lanes.proofs.Among.{min_among, max_among}
 use Rattle.lanes.proofs.worker.Worker.has_met.Goals as goal
@@ -12,3 +13,6 @@ loop-lane-preserved g c =
       max_among (λ (y : LaneFound). y.found.value) items c.args.self.now.found.value c.loop-lane.lane-index c.lane-item.result lt c.loop-lane.value c.value.result c.max-value.result
           c.lane-item.is c.value.ensures c.max-value.ensures c.loop-lane.invariant.1,
     )
+
+pub returns : goal.returns
+returns g c = grind (arith, common_steps)

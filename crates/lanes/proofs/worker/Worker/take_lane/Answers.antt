@@ -1,4 +1,5 @@
 use Rattle.std.proofs.Common.{false, ◌≡◌, refl, sym, ap, subst, ◌∙◌, List, length, slice_index_or, arith}
+use Rattle.std.proofs.lemmas.Grind.{common_steps}
 use Rattle.std.proofs.lemmas.List.{length-set, get_or_default}
 use Rattle.std.proofs.lemmas.List.Elements.{All-set}
 use Rattle.board.specs.declared.seat.SeatView.{SeatView}
@@ -36,3 +37,12 @@ returns-clause-working g c =
           c.claim-number.result y c.requires.working.in_step c.begin.ensures.same_snapshot c.claim-number.ensures.claimed c.claim-number.ensures.before (omega arith) (omega arith) (omega arith)
           c.begin.ensures.begun refl found c.requires.working.equipped.prices;
     }
+
+pub returns-then-number-from-clause-more : goal.returns-then-number-from-clause-more
+returns-then-number-from-clause-more g c = grind (arith, common_steps)
+
+pub returns-clause-more : goal.returns-clause-more
+returns-clause-more g c = grind (arith, common_steps)
+
+pub returns-clause-few : goal.returns-clause-few
+returns-clause-few g c = grind (arith, common_steps)

@@ -1,4 +1,5 @@
-use Rattle.std.proofs.Common.{rules, ◌≡◌, ◌+◌, ◌≤◌, ◌<◌, true, false, subst}
+use Rattle.std.proofs.Common.{rules, ◌≡◌, ◌+◌, ◌≤◌, ◌<◌, true, false, subst, arith}
+use Rattle.std.proofs.lemmas.Grind.{common_steps}
 use Rattle.std.proofs.lemmas.Result.{IfOk-weaker}
 use Rattle.plan_io.specs.Newline.{NoNewline}
 use Rattle.plan_io.specs.LinesSeen.{LinesSeen, IsWithin}
@@ -29,3 +30,6 @@ returns-in-None-clause-at_hand g c =
     let cut = subst (IsCut s c.cut.new.self) c.in-None.is c.in_ok-line.ensures.cut in
     let opened : s.ended ≡ false = subst (λ (v : LinesSeen). v.ended ≡ false) c.self.view_is c.if-self-2.false in
     λ has. absurd (no_line_at_hand s c.cut.new.self opened cut has)
+
+pub returns-in-None-clause-err : goal.returns-in-None-clause-err
+returns-in-None-clause-err g c = grind (arith, common_steps)

@@ -1,4 +1,5 @@
-use Rattle.std.proofs.Common.{rules, ◌≡◌, ◌-◌, ◌+◌, ◌≤◌, ◌<◌, max, length, ap, sym, subst}
+use Rattle.std.proofs.Common.{rules, ◌≡◌, ◌-◌, ◌+◌, ◌≤◌, ◌<◌, max, length, ap, sym, subst, arith}
+use Rattle.std.proofs.lemmas.Grind.{common_steps}
 use Rattle.plan_io.specs.declared.lines.Turn.TheVariants as turn
 use Rattle.plan_io.specs.LinesSeen.{LinesSeen}
 use Rattle.plan_io.specs.Next.{IsTurn}
@@ -16,3 +17,9 @@ returns-then-count-allowed-clause-turn g c =
     let is = ap (λ (v : LinesSeen). record v { held = c.make_room.new.self.bytes; taken = v.taken + n }) c.self.view_is in
     subst (λ (t : LinesSeen). IsTurn s (g.S.Source.left c.args.source.now) t (g.S.Source.left c.read_block.new.source) turn.Over) (sym is)
     (read_over s c.make_room.new.self.bytes c.read_block.new.room n c.read_size.result _ _ c.requires.within c.requires.clear c.requires.steady c.requires.open held c.in-Got.ensures.bytes.0 size over given c.in-Got.ensures.bytes.1)
+
+pub returns-then-self-clause-turn : goal.returns-then-self-clause-turn
+returns-then-self-clause-turn g c = grind (arith, common_steps)
+
+pub returns-else-self-clause-turn : goal.returns-else-self-clause-turn
+returns-else-self-clause-turn g c = grind (arith, common_steps)
