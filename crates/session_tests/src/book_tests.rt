@@ -1,7 +1,7 @@
 //! Two callers of one book: what is answered while a Take is open, once a change came between it and its Publish, to what was
 //! found for another Take, and where none is open.
 use desk_book::{Book, BookStep, PublishStep};
-use desk_events::{EventEntry, write_entry};
+use desk_events::entry_text;
 use lanes::solve_plan;
 use plan_base::{Settings, Solved, Taken};
 use plan_io::{ByteList, NoGate, ScriptLine};
@@ -51,13 +51,6 @@ const SETTINGS: Settings = Settings {
 /// A text of its own.
 fn text_of(alloc: Global, text: &str) -> Result<Vec<u8>, AllocError> {
     Vec::from_slice(alloc, text.as_bytes())
-}
-
-/// The text of an entry.
-fn entry_text(alloc: Global, entry: &EventEntry) -> Result<Vec<u8>, AllocError> {
-    let mut text = Vec::new(alloc);
-    write_entry(entry, &mut text)?;
-    Ok(text)
 }
 
 /// The text of the entry that was added last.
