@@ -1,0 +1,71 @@
+// What a thread does of a desk that it shares.
+
+ghost use Rattle.lanes.specs.Solving.{IsInRange};
+
+use crate::desk::{Desk, Sending};
+use desk_book::BookStep;
+use lanes::solve_plan;
+use plan_base::Taken;
+use plan_io::{Gate, Point};
+use std::alloc::{AllocError, Global};
+use std::sync::Wait;
+use std::thread::Threads;
+
+/// The most lines of a caller.
+const MOST_LINES: u32 = 65_536;
+
+/// Seeks the plan of what was taken, with the lock free, and publishes it.
+fn publish<S: Sending, R: Threads + Wait + Sync, G: Gate>(
+    rt: &R,
+    alloc: Global,
+    desk: &Desk<S>,
+    taken: Taken,
+    gate: &G,
+) -> Result<(), AllocError>
+    requires { IsInRange taken.settings }
+{
+    let solved = solve_plan(rt, alloc, taken, gate)?;
+    desk.held().lock(rt).publish(rt, alloc, solved)
+}
+
+/// Does one line of a caller, if it is left.
+fn do_line<S: Sending, R: Threads + Wait + Sync, G: Gate>(
+    rt: &R,
+    alloc: Global,
+    desk: &Desk<S>,
+    caller: u8,
+    line: u32,
+    gate: &G,
+) -> Result<(), AllocError> {
+    let step = desk.held().lock(rt).perform(caller)?;
+    match step {
+        BookStep::Replied | BookStep::Over => Ok(()),
+        BookStep::Taken(taken) => {
+            gate.pass(Point::AfterTake { caller, line });
+            publish(rt, alloc, desk, taken, gate)
+        }
+        BookStep::TakeOpen => desk.held().lock(rt).publish_kept(rt, alloc, caller),
+    }
+}
+
+/// Does the lines of a caller, one after another, as far as no other thread did them; none where there is no such caller. For a
+/// plan the snapshot is taken under the lock, and the plan is sought with the lock free: so other callers' lines may come between,
+/// and the plan may be stale. Lines are counted from 1 at the gate. Waits for the lock. Fails only for want of memory, and then
+/// leaves the other lines to [`finish`](crate::finish).
+pub fn work<S: Sending, R: Threads + Wait + Sync, G: Gate>(
+    rt: &R,
+    alloc: Global,
+    desk: &Desk<S>,
+    caller: u8,
+    gate: &G,
+) -> Result<(), AllocError> {
+    for line in 1..=MOST_LINES {
+        if !desk.held().lock(rt).has_line(caller, line - 1) {
+            break;
+        }
+        gate.pass(Point::BeforeLine { caller, line });
+        do_line(rt, alloc, desk, caller, line, gate)?;
+        gate.pass(Point::AfterLine { caller, line });
+    }
+    Ok(())
+}
