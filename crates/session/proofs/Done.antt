@@ -38,11 +38,11 @@ done_none = record { sound = sound_new 1 (record { low = omega arith; high = ome
 
 -- ---- what is known of lines that are done
 
-sound_book : (lines : List ScriptLine) (h : List EventEntry) (s : StateSeen) (t : Option TakenParts) → IsSoundBook (book_of_one lines h s t) → IsSound lines h
+sound_book : (lines : List ScriptLine) (h : List EventEntry) (s : StateSeen) (t : Option TakenParts) → IsSoundBook (book_of_one lines h s t) → IsSound (lines ∷ []) h
 sound_book lines h s t sound = let book : IsBook (book_of_one lines h s t) = book_of (book_of_one lines h s t) sound in record { legal = book.legal; bounded = book.claims }
 
 -- the lines that are done have a sound history
-pub sound_done : (lines : List ScriptLine) (h : List EventEntry) (s : StateSeen) → AreDone lines h s → IsSound lines h
+pub sound_done : (lines : List ScriptLine) (h : List EventEntry) (s : StateSeen) → AreDone lines h s → IsSound (lines ∷ []) h
 sound_done lines h s d = sound_book lines h s None d.sound
 
 -- no caller has a line left
@@ -134,13 +134,13 @@ are_more lines line h es s t d room (inr does) =
 
 -- with the entries of the line, or the first of them
 pub sound_begun : (lines : List ScriptLine) (line : ScriptLine) (h es : List EventEntry) (s : StateSeen) → AreDone lines h s → length lines < 65536
-    → BeginsLine s (length lines + 1) (command_of_line line) es → IsSound (lines ++ line ∷ []) (h ++ es)
+    → BeginsLine s (length lines + 1) (command_of_line line) es → IsSound ((lines ++ line ∷ []) ∷ []) (h ++ es)
 sound_begun lines line h es s d room (inl none) =
-    subst (λ (xs : List EventEntry). IsSound (lines ++ line ∷ []) xs) (sym (ap (λ (ys : List EventEntry). h ++ ys) none ∙ append-nil h))
+    subst (λ (xs : List EventEntry). IsSound ((lines ++ line ∷ []) ∷ []) xs) (sym (ap (λ (ys : List EventEntry). h ++ ys) none ∙ append-nil h))
     (sound_book (lines ++ line ∷ []) h s None (sound_sent lines line h s d room))
 sound_begun lines line h es s d room (inr (inl begun)) =
     let desk = desk_of s.desk begun.0.1 in
-    subst (λ (xs : List EventEntry). IsSound (lines ++ line ∷ []) (h ++ xs)) (sym begun.1)
+    subst (λ (xs : List EventEntry). IsSound ((lines ++ line ∷ []) ∷ []) (h ++ xs)) (sym begun.1)
     (sound_book (lines ++ line ∷ []) (h ++ take_entry s (length lines + 1) ∷ []) s (Some (taken_of s desk.0)) (sound_taken lines line h s desk.0 d room begun.0 desk.1))
 sound_begun lines line h es s d room (inr (inr does)) = sound_done (lines ++ line ∷ []) (h ++ es) does.0 (are_more lines line h es s does.0 d room does.1)
 

@@ -9,7 +9,6 @@ use Rattle.plan_io.specs.declared.lines.LineAnswer.{LineAnswer}
 use Rattle.plan_io.specs.declared.lines.LineAnswer.TheVariants as answer
 use Rattle.plan_io.specs.declared.sink.PutAnswer.{PutAnswer}
 use Rattle.plan_io.specs.declared.sink.PutAnswer.TheVariants as put
-use Rattle.plan_io.specs.declared.status.Status.{Status}
 use Rattle.plan_io.specs.LinesSeen.{LinesSeen, IsFresh, IsWithin, HasLine}
 use Rattle.plan_io.specs.Next.{ReadsOn, IsNext, IsNextCause, IsLine}
 use Rattle.plan_io.specs.Reading.{HasAnswered}
@@ -97,19 +96,20 @@ text_more : (xs ys : List EventEntry) → text_of_history (xs ++ ys) ≡ text_of
 text_more [] ys = refl
 text_more (x ∷ xs) ys = ap (λ (text : List ℕ). text_of_entry x ++ text) (text_more xs ys) ∙ sym (append_assoc (text_of_entry x) (text_of_history xs) (text_of_history ys))
 
-gathers_more : (w w' : Option (List ℕ)) (old new : List ℕ) (h es : List EventEntry) → Gathers w w' old (text_of_history h) → new ≡ old ++ text_of_history es
+pub gathers_more : (w w' : Option (List ℕ)) (old new : List ℕ) (h es : List EventEntry) → Gathers w w' old (text_of_history h) → new ≡ old ++ text_of_history es
     → Gathers w w' new (text_of_history (h ++ es))
 gathers_more w w' old new h es g e =
     (g.0, g.1, text_more h es ∙ ap (λ (text : List ℕ). text ++ text_of_history es) g.2 ∙ append_assoc g.0 old (text_of_history es) ∙ ap (λ (text : List ℕ). g.0 ++ text) (sym e))
 
 -- so many lines were answered
-answered_count : (a b : Option (List ℕ)) (lines : List ScriptLine) (reader : LinesSeen) → HasAnswered first_reader a lines reader b → reader.answered ≡ length lines
-answered_count a b lines reader (inl h) = omega (arith, h.0.2.answered)
-answered_count a b lines reader (inr h) = omega (arith, h.answered)
+pub answered_count : (first : LinesSeen) (a b : Option (List ℕ)) (lines : List ScriptLine) (reader : LinesSeen) → HasAnswered first a lines reader b
+    → reader.answered ≡ first.answered + length lines
+answered_count first a b lines reader (inl h) = h.0.2.answered
+answered_count first a b lines reader (inr h) = h.answered
 
-most_stays : (a b : Option (List ℕ)) (lines : List ScriptLine) (reader : LinesSeen) → HasAnswered first_reader a lines reader b → reader.most_lines ≡ 65536
-most_stays a b lines reader (inl h) = h.0.2.most_lines
-most_stays a b lines reader (inr h) = h.most_lines
+pub most_stays : (first : LinesSeen) (a b : Option (List ℕ)) (lines : List ScriptLine) (reader : LinesSeen) → HasAnswered first a lines reader b → reader.most_lines ≡ first.most_lines
+most_stays first a b lines reader (inl h) = h.0.2.most_lines
+most_stays first a b lines reader (inr h) = h.most_lines
 
 -- once the reader came to the end it says so again, and takes nothing
 abbrev pub StaysEnded : LinesSeen → Option (List ℕ) → Option (List ℕ) → LineAnswer → Type 0
@@ -136,7 +136,7 @@ next_line a b c w w' old new replies done s line found is d next stays =
     record {
       going = d;
       read = read;
-      few = omega (arith, answered_count a c (d.lines ++ line ∷ []) new read, most_stays a c (d.lines ++ line ∷ []) new read, within);
+      few = omega (arith, answered_count first_reader a c (d.lines ++ line ∷ []) new read, most_stays first_reader a c (d.lines ++ line ∷ []) new read, within);
       bytes = here.1;
       within = within;
       steady = here.3;
@@ -240,8 +240,8 @@ cut_by_due a b w x y reader old new done s found is d h =
     cut_by_fault a b w x y old (gathered_here a b w x reader old done s d) (subst (λ (f : PutAnswer). IsWrittenOn x y f old new) is h)
 
 -- what is gathered where memory is wanting
-pub on_err : (P : Type 0) (result : Result Status AllocError) → P → OnErr result P
-on_err P (Ok status) h = tt
+pub on_err : {T : Type 0} (P : Type 0) (result : Result T AllocError) → P → OnErr result P
+on_err P (Ok found) h = tt
 on_err P (Err error) h = h
 
 pub cut_by_memory : (a b w x y : Option (List ℕ)) (replies : List ℕ) (found : PutAnswer) → IsGathered a b w x replies → Puts x y found replies → IsCutOff a b w y

@@ -21,7 +21,7 @@ use Rattle.session.proofs.Telling.{line_shows, publication_shows}
 one_text : (e : EventEntry) → text_of_history (e ∷ []) ≡ text_of_entry e
 one_text e = append-nil (text_of_entry e)
 
-adds_one : (old new : List ℕ) (e : EventEntry) → new ≡ old ++ text_of_entry e → new ≡ old ++ text_of_history (e ∷ [])
+pub adds_one : (old new : List ℕ) (e : EventEntry) → new ≡ old ++ text_of_entry e → new ≡ old ++ text_of_history (e ∷ [])
 adds_one old new e h = h ∙ ap (λ (text : List ℕ). old ++ text) (sym (one_text e))
 
 adds_two : (old between new : List ℕ) (d e : EventEntry) → between ≡ old ++ text_of_entry d → new ≡ between ++ text_of_entry e → new ≡ old ++ text_of_history (d ∷ e ∷ [])

@@ -156,7 +156,7 @@ said_at lines n = command_of_line (slice_index_or lines (n - 1) TooLong)
 -- the entries from line n on, after others
 record Rest (lines : List ScriptLine) (before h : List EventEntry) (n : ℕ) : Type 0 where
   counted : 1 ≤ n
-  sound : IsSound lines (before ++ h)
+  sound : IsSound (lines ∷ []) (before ++ h)
   mine : AreMine h
   answers : AreTurnsOf n (turns h) (length lines + 1)
 
@@ -165,7 +165,7 @@ read_of lines x n caller line =
     let script : List (List ScriptLine) → ℕ → ℕ → Result Command CommandFault = λ scripts c l. command_of_line (slice_index_or (slice_index_or scripts c []) (l - 1) TooLong) in
     ap (λ (c : ℕ). script (lines ∷ []) c x.line) caller ∙ ap (λ (l : ℕ). script (lines ∷ []) 0 l) line
 
-entry_of : (lines : List ScriptLine) (before h : List EventEntry) (x : EventEntry) → IsSound lines (before ++ x ∷ h) → IsEntry (lines ∷ []) before x
+entry_of : (lines : List ScriptLine) (before h : List EventEntry) (x : EventEntry) → IsSound (lines ∷ []) (before ++ x ∷ h) → IsEntry (lines ∷ []) before x
 entry_of lines before h x sound = sound.legal.each before h x refl
 
 same_entry : (x y : EventEntry) → x.caller ≡ y.caller → x.line ≡ y.line → x.what ≡ y.what → x.version ≡ y.version → x.reply ≡ y.reply → x ≡ y
@@ -178,7 +178,7 @@ same_entry x y caller line what version reply =
 rest_after : (lines : List ScriptLine) (before h : List EventEntry) (x : EventEntry) (n : ℕ) → Rest lines before (x ∷ h) n → AreTurnsOf (n + 1) (turns h) (length lines + 1) → Rest lines (before ++ x ∷ []) h (n + 1)
 rest_after lines before h x n r answers = record {
   counted = omega arith;
-  sound = subst (λ (es : List EventEntry). IsSound lines es) (sym (append_assoc before (x ∷ []) h)) r.sound;
+  sound = subst (λ (es : List EventEntry). IsSound (lines ∷ []) es) (sym (append_assoc before (x ∷ []) h)) r.sound;
   mine = r.mine.1;
   answers = answers;
 }
@@ -209,7 +209,7 @@ same_some : (a b : EventEntry) → Some a ≡ Some b → a ≡ b
 same_some a b h = cc
 
 -- what the Publish after a Take says
-publish_said : (lines : List ScriptLine) (before : List EventEntry) (x p : EventEntry) → IsSound lines (before ++ x ∷ p ∷ []) → AreMine before → AreMine (x ∷ p ∷ []) → x.what ≡ Take → p.what ≡ Publish
+publish_said : (lines : List ScriptLine) (before : List EventEntry) (x p : EventEntry) → IsSound (lines ∷ []) (before ++ x ∷ p ∷ []) → AreMine before → AreMine (x ∷ p ∷ []) → x.what ≡ Take → p.what ≡ Publish
     → PlanSaid (replay (lines ∷ []) before) p.reply
 publish_said lines before x p sound mine both take publish =
     let scripts : List (List ScriptLine) = lines ∷ [] in
@@ -268,8 +268,8 @@ plans_alike lines before h k x y n plans mine r q is is' g g' =
     let end : length lines + 1 ≡ n + 1 = omega (arith, last) in
     let eh : h ≡ a.entry ∷ [] = only_publish n x.line (length lines + 1) h a end in
     let ek : k ≡ b.entry ∷ [] = only_publish n y.line (length lines + 1) k b end in
-    let sx : IsSound lines (before ++ x ∷ a.entry ∷ []) = subst (λ (es : List EventEntry). IsSound lines (before ++ x ∷ es)) eh r.sound in
-    let sy : IsSound lines (before ++ y ∷ b.entry ∷ []) = subst (λ (es : List EventEntry). IsSound lines (before ++ y ∷ es)) ek q.sound in
+    let sx : IsSound (lines ∷ []) (before ++ x ∷ a.entry ∷ []) = subst (λ (es : List EventEntry). IsSound (lines ∷ []) (before ++ x ∷ es)) eh r.sound in
+    let sy : IsSound (lines ∷ []) (before ++ y ∷ b.entry ∷ []) = subst (λ (es : List EventEntry). IsSound (lines ∷ []) (before ++ y ∷ es)) ek q.sound in
     let mx : AreMine (x ∷ a.entry ∷ []) = subst (λ (es : List EventEntry). AreMine (x ∷ es)) eh r.mine in
     let my : AreMine (y ∷ b.entry ∷ []) = subst (λ (es : List EventEntry). AreMine (y ∷ es)) ek q.mine in
     let rx : IsReply scripts before x Take = subst (λ (w : What). IsReply scripts before x w) is (entry_of lines before h x r.sound).reply in
@@ -333,7 +333,7 @@ same_from lines before (x ∷ h) (y ∷ k) n plans mine r q =
     let longer : AreMine (before ++ x ∷ []) = mine_more before (x ∷ []) mine (r.mine.0, tt) in
     alike_by lines before h k x y n x.what y.what plans mine (λ ks s t. same_from lines (before ++ x ∷ []) h ks (n + 1) plans longer s t) r q refl refl r.answers q.answers
 
-pub one_history : (lines : List ScriptLine) (h k : List EventEntry) → PlansLast lines → IsSound lines h → IsWhole (lines ∷ []) h → IsSound lines k → IsWhole (lines ∷ []) k → AllAlike h k
+pub one_history : (lines : List ScriptLine) (h k : List EventEntry) → PlansLast lines → IsSound (lines ∷ []) h → IsWhole (lines ∷ []) h → IsSound (lines ∷ []) k → IsWhole (lines ∷ []) k → AllAlike h k
 one_history lines h k plans sound whole sound' whole' =
     let mine = whole_mine lines h whole in
     let mine' = whole_mine lines k whole' in

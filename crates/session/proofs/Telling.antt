@@ -127,7 +127,7 @@ same_after : (held xs ys : List ℕ) → held ++ xs ≡ held ++ ys → xs ≡ ys
 same_after [] xs ys h = h
 same_after (b ∷ held) xs ys h = same_after held xs ys (ap (drop 1) h)
 
--- of the same lines, what is written tells what was done
+-- of the same scripts, what is written tells what was done
 pub text_has_one : TextHasOneHistory
-text_has_one lines held now a b =
-    text_tells_history (lines ∷ []) a.history b.history a.sound.legal b.sound.legal a.telling b.telling (same_after held (text_of_history a.history) (text_of_history b.history) (sym a.written ∙ b.written))
+text_has_one scripts held now a b =
+    text_tells_history scripts a.history b.history a.sound.legal b.sound.legal a.telling b.telling (same_after held (text_of_history a.history) (text_of_history b.history) (sym a.written ∙ b.written))

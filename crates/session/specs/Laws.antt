@@ -11,10 +11,10 @@ use Rattle.session.specs.declared.summary.Summary.{Summary}
 use Rattle.session.specs.Session.{IsSound, IsAnswered}
 use Rattle.session.specs.Summary.{summary_of, IsSummary, IsWorkloadRun}
 
--- what is written of lines tells what was done: two sessions of the same lines that write the same had one history
+-- what is written of scripts tells what was done: two sessions of the same scripts that write the same had one history
 abbrev pub TextHasOneHistory : Type 0
 TextHasOneHistory =
-    (lines : List ScriptLine) (held now : List ℕ) (a b : IsAnswered lines (Some held) (Some now)) → a.history ≡ b.history
+    (scripts : List (List ScriptLine)) (held now : List ℕ) (a b : IsAnswered scripts (Some held) (Some now)) → a.history ≡ b.history
 
 -- no line before the last asks for a plan
 abbrev pub PlansLast : List ScriptLine → Type 0
@@ -24,7 +24,8 @@ PlansLast lines = (place : ℕ) → place + 1 < length lines → ¬ (command_of_
 -- planned claims for one snapshot differ in prices and placements alone. Replies to lines after a plan may depend on these.
 abbrev pub LinesHaveOneSummary : Type 0
 LinesHaveOneSummary =
-    (lines : List ScriptLine) (h k : List EventEntry) → PlansLast lines → IsSound lines h → IsWhole (lines ∷ []) h → IsSound lines k → IsWhole (lines ∷ []) k
+    (lines : List ScriptLine) (h k : List EventEntry) → PlansLast lines
+    → IsSound (lines ∷ []) h → IsWhole (lines ∷ []) h → IsSound (lines ∷ []) k → IsWhole (lines ∷ []) k
     → summary_of (length lines) h ≡ summary_of (length lines) k
 
 -- a number has one summary

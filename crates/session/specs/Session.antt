@@ -20,27 +20,27 @@ use Rattle.desk_book.specs.Claims.{IsClaimEntry}
 
 -- ---- the history of a session
 
--- a legal history of these lines, the script of the one caller; each claim that it publishes, whether it was planned or sent, is
--- bounded for the snapshot of its version
-pub record IsSound (lines : List ScriptLine) (history : List EventEntry) : Type 0 where
-  pub legal : IsLegal (lines ∷ []) history
-  pub bounded : EachAfter (IsClaimEntry (lines ∷ [])) history
+-- a legal history of the callers' scripts; each claim that it publishes, whether it was planned or sent, is bounded for the
+-- snapshot of its version
+pub record IsSound (scripts : List (List ScriptLine)) (history : List EventEntry) : Type 0 where
+  pub legal : IsLegal scripts history
+  pub bounded : EachAfter (IsClaimEntry scripts) history
 
 -- ---- what is read and written
 
--- the text of a sound history of these lines, of each of them, was written, and tells that history
-pub record IsAnswered (lines : List ScriptLine) (held held' : Option (List ℕ)) : Type 0 where
+-- the text of a sound history of the callers' scripts, of each of their lines, was written, and tells that history
+pub record IsAnswered (scripts : List (List ScriptLine)) (held held' : Option (List ℕ)) : Type 0 where
   pub history : List EventEntry
-  pub sound : IsSound lines history
-  pub whole : IsWhole (lines ∷ []) history
+  pub sound : IsSound scripts history
+  pub whole : IsWhole scripts history
   pub telling : AllByRecursion IsTelling history
   pub written : Adds held held' (text_of_history history)
 
--- the lines up to this ending, within the limits, were read and answered
+-- the lines up to this ending, within the limits, were read and answered; they are the script of the one caller
 pub record IsEnded (ending : LineAnswer) (left left' held held' : Option (List ℕ)) : Type 0 where
   pub lines : List ScriptLine
   pub read : ReadsAll 67108864 65536 left lines ending left'
-  pub answered : IsAnswered lines held held'
+  pub answered : IsAnswered (lines ∷ []) held held'
 
 -- a front of the text was written
 abbrev pub WritesFront : Option (List ℕ) → Option (List ℕ) → List ℕ → Type 0
@@ -51,7 +51,7 @@ pub record IsCutOff (left left' held held' : Option (List ℕ)) : Type 0 where
   pub lines : List ScriptLine
   pub read : ReadsFirst 67108864 65536 left lines left'
   pub history : List EventEntry
-  pub sound : IsSound lines history
+  pub sound : IsSound (lines ∷ []) history
   pub telling : AllByRecursion IsTelling history
   pub front : WritesFront held held' (text_of_history history)
 
@@ -73,6 +73,11 @@ IsSessionCause reads reads' writes writes' ReadFault = Rose reads reads'
 IsSessionCause reads reads' writes writes' WriteFault = Rose writes writes'
 IsSessionCause reads reads' writes writes' _ = Unit {0}
 
+-- the sink's count of faults rose, where the status says so
+abbrev pub IsWritingCause : ℕ → ℕ → Status → Type 0
+IsWritingCause writes writes' WriteFault = Rose writes writes'
+IsWritingCause writes writes' _ = Unit {0}
+
 -- ---- replies that are gathered
 
 -- of this text a front was written, and the rest are the replies that are gathered
@@ -84,7 +89,7 @@ pub record IsGathered (left left' held held' : Option (List ℕ)) (replies : Lis
   pub lines : List ScriptLine
   pub read : ReadsFirst 67108864 65536 left lines left'
   pub history : List EventEntry
-  pub sound : IsSound lines history
+  pub sound : IsSound (lines ∷ []) history
   pub telling : AllByRecursion IsTelling history
   pub gathers : Gathers held held' replies (text_of_history history)
 

@@ -10,7 +10,6 @@ use Rattle.plan_io.specs.declared.lines.ScriptLine.{ScriptLine}
 use Rattle.plan_io.specs.declared.lines.ScriptLine.TheVariants.{Bytes}
 use Rattle.plan_io.specs.declared.status.Status.{Status}
 use Rattle.plan_io.specs.declared.status.Status.TheVariants.{Done, WriteFault, NoMemory}
-use Rattle.plan_io.specs.Source.{Rose}
 use Rattle.plan_io.specs.Sink.{Adds}
 use Rattle.desk_events.specs.declared.entry.EventEntry.{EventEntry}
 use Rattle.desk_events.specs.declared.reply.Reply.{Reply}
@@ -76,7 +75,7 @@ workload_script number = map (λ bytes. Bytes bytes) (workload_lines number 4)
 -- the summary of a sound history of these lines, of each of them
 pub record IsSummary (number : ℕ) (summary : Summary) : Type 0 where
   pub history : List EventEntry
-  pub sound : IsSound (workload_script number) history
+  pub sound : IsSound (workload_script number ∷ []) history
   pub whole : IsWhole (workload_script number ∷ []) history
   pub summed : summary ≡ summary_of (length (workload_script number)) history
 
@@ -96,11 +95,6 @@ abbrev pub WritesSummary : Option (List ℕ) → Option (List ℕ) → List ℕ 
 WritesSummary held held' text Done = Adds held held' text
 WritesSummary held held' text WriteFault = WritesFront held held' text
 WritesSummary held held' text _ = ⊥
-
--- the sink's count of faults rose, where the status says so
-abbrev pub IsWorkloadCause : ℕ → ℕ → Status → Type 0
-IsWorkloadCause writes writes' WriteFault = Rose writes writes'
-IsWorkloadCause writes writes' _ = Unit {0}
 
 -- ---- counting
 

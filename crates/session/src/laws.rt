@@ -1,7 +1,7 @@
 //! Laws of sessions, each the contract of a function that does nothing.
 ghost use Rattle.session.specs.Laws.{TextHasOneHistory, LinesHaveOneSummary, NumberHasOneSummary, RunsWriteOneLine};
 
-/// A law: what a session writes of its lines tells the history that it is the text of.
+/// A law: what a session writes of its callers' lines tells the history that it is the text of.
 pub fn one_history()
     ensures { TextHasOneHistory }
 {}

@@ -3,6 +3,7 @@
 
 mod laws;
 mod line;
+mod replies;
 mod run;
 mod summary;
 mod tally;

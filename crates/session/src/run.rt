@@ -1,14 +1,15 @@
 //! A session from its words to its status.
 ghost use Rattle.std.specs.Prelude.{◌≡◌, ◌≢◌, ◌⊎◌, ◌↔◌, ℕ, [], map, false, Some, None, IfOk, OnErr, string_bytes};
 ghost use Rattle.plan_io.specs.LinesSeen.{HasLine};
-ghost use Rattle.plan_io.specs.Sink.{Puts, IsPutCause};
+ghost use Rattle.plan_io.specs.Sink.{IsPutCause};
 ghost use Rattle.desk_core.specs.Desk.{start};
 ghost use Rattle.session.specs.declared.words.Mode.TheVariants.{Session, Workload};
 ghost use Rattle.session.specs.Words.{mode_of};
-ghost use Rattle.session.specs.Summary.{WritesSummary, IsWorkloadRun, IsWorkloadCause};
-ghost use Rattle.session.specs.Session.{IsSession, IsSessionCause, IsGathered, IsWrittenOn};
+ghost use Rattle.session.specs.Summary.{WritesSummary, IsWorkloadRun};
+ghost use Rattle.session.specs.Session.{IsSession, IsSessionCause, IsWritingCause, IsGathered, IsWrittenOn};
 
 use crate::line::do_line;
+use crate::replies::{GATHERED, write_replies};
 use crate::tally::tell_workload;
 use crate::words::{Mode, mode_of};
 use desk_core::State;
@@ -22,26 +23,12 @@ const MOST_BYTES: u64 = 67_108_864;
 /// The most lines that a session takes.
 const MOST_LINES: u64 = 65_536;
 
-/// Replies are written once they have so many bytes.
-const GATHERED: usize = 65_536;
-
 /// Whether replies are to be written before the next line: where a caller may wait for them, since no whole line is at hand,
 /// or where they are many.
 fn is_due(reader: &Lines, replies: &[u8]) -> bool
     ensures { result ≡ false → HasLine reader.now }
 {
     !reader.has_line() || replies.len() >= GATHERED
-}
-
-/// Writes the replies, and keeps none.
-fn write_replies<K: Sink>(sink: &mut K, replies: &mut Vec<u8>) -> PutAnswer
-    ensures bytes { Puts (K.written sink.old) (K.written sink.new) result replies.old.items }
-    ensures cause { IsPutCause (K.faults sink.old) (K.faults sink.new) result }
-    ensures none { replies.new.items ≡ [] }
-{
-    let answer = put(sink, replies.as_slice());
-    replies.clear();
-    answer
 }
 
 /// Writes the replies where they are due.
@@ -121,7 +108,7 @@ fn play<R: Threads + Sync, S: Source, K: Sink>(
 /// Writes the line that sums up a workload.
 fn write_summary<K: Sink>(sink: &mut K, text: &[u8]) -> Status
     ensures written { WritesSummary (K.written sink.old) (K.written sink.new) text.now result }
-    ensures cause { IsWorkloadCause (K.faults sink.old) (K.faults sink.new) result }
+    ensures cause { IsWritingCause (K.faults sink.old) (K.faults sink.new) result }
 {
     match put(sink, text) {
         PutAnswer::Done => Status::Done,
@@ -137,7 +124,7 @@ fn run_workload<R: Threads + Sync, K: Sink>(
     sink: &mut K,
 ) -> Status
     ensures written { IsWorkloadRun number (K.written sink.old) (K.written sink.new) result }
-    ensures cause { IsWorkloadCause (K.faults sink.old) (K.faults sink.new) result }
+    ensures cause { IsWritingCause (K.faults sink.old) (K.faults sink.new) result }
 {
     let mut state = State::empty(alloc);
     let told = tell_workload(rt, alloc, number, &mut state);
