@@ -1,5 +1,7 @@
 pub mod Words
 pub mod Line
 pub mod Session
+pub mod Live
+pub mod LiveParts
 pub mod Summary
 pub mod Laws

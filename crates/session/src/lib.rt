@@ -3,6 +3,7 @@
 
 mod laws;
 mod line;
+mod live;
 mod replies;
 mod run;
 mod summary;

@@ -1,0 +1,130 @@
+-- The first entries of a history: what was written of their text, and what is gathered.
+use Rattle.std.proofs.Common.{◌≡◌, ℕ, zero, suc, ◌+◌, List, [], ◌∷◌, ◌++◌, length, take, slice_get, refl, sym, ◌∙◌, ap, subst, arith, add-one, append_assoc, Some}
+use Rattle.std.specs.declared.option.Option.{Option}
+use Rattle.std.specs.List.{AllByRecursion}
+use Rattle.std.proofs.Math.Seq.{take-length}
+use Rattle.plan_io.specs.declared.lines.ScriptLine.{ScriptLine}
+use Rattle.plan_io.specs.declared.sink.PutAnswer.{PutAnswer}
+use Rattle.plan_io.specs.declared.sink.PutAnswer.TheVariants as put
+use Rattle.plan_io.specs.Sink.{Adds, Puts}
+use Rattle.desk_events.specs.declared.entry.EventEntry.{EventEntry}
+use Rattle.desk_events.specs.Entry.{text_of_history}
+use Rattle.desk_events.specs.Laws.{IsExactEntry}
+use Rattle.desk_core.specs.Kept.{IsState}
+use Rattle.desk_book.specs.Kept.{IsBook}
+use Rattle.desk_book.specs.Seen.{BookSeen, IsOver}
+use Rattle.desk_book.proofs.Whole.{over_is_whole}
+use Rattle.session.specs.Session.{IsAnswered, WritesFront, Gathers, IsWrittenOn}
+use Rattle.session.specs.Live.{IsPartlyAnswered}
+use Rattle.session.specs.LiveParts.{AddsEntryAt, HasGathered, TellsHistory}
+use Rattle.session.proofs.Fronts.{book_sound, front_sound, none_sound}
+use Rattle.session.proofs.Going.{gathers_more}
+use Rattle.session.proofs.LineTexts.{adds_one}
+use Rattle.session.proofs.Shows.{book_tells, front_tells}
+use Rattle.session.proofs.Written.{adds_none, adds_twice, front_all, front_after, front_put}
+
+-- of so many entries, which are exact, a front of the text was written and the rest is gathered
+pub record Gathered (w w' : Option (List ℕ)) (history : List EventEntry) (count : ℕ) (replies : List ℕ) : Type 0 where
+  pub exact : AllByRecursion IsExactEntry (take count history)
+  pub gathers : Gathers w w' replies (text_of_history (take count history))
+
+pub gathered_none : (w : Option (List ℕ)) (history : List EventEntry) (replies : List ℕ) → replies ≡ [] → Gathered w w history 0 replies
+gathered_none w history replies none = record { exact = tt; gathers = ([], adds_none w, sym none) }
+
+-- ---- an entry more
+
+take_next : (xs : List EventEntry) (n : ℕ) (x : EventEntry) → slice_get xs n ≡ Some x → take (suc n) xs ≡ take n xs ++ x ∷ []
+take_next [] n x h = cc
+take_next (y ∷ xs) zero x h = let same : y ≡ x = cc in ap (λ (z : EventEntry). z ∷ []) same
+take_next (y ∷ xs) (suc n) x h = ap (λ (zs : List EventEntry). y ∷ zs) (take_next xs n x h)
+
+exact_more : (xs : List EventEntry) (x : EventEntry) → AllByRecursion IsExactEntry xs → IsExactEntry x → AllByRecursion IsExactEntry (xs ++ x ∷ [])
+exact_more [] x h g = (g, tt)
+exact_more (y ∷ xs) x h g = (h.0, exact_more xs x h.1 g)
+
+pub gathered_entry : (w w' : Option (List ℕ)) (history : List EventEntry) (n : ℕ) (old new : List ℕ) → Gathered w w' history n old → AddsEntryAt history n old new
+    → Gathered w w' history (n + 1) new
+gathered_entry w w' history n old new g a =
+    let longer : take n history ++ a.0 ∷ [] ≡ take (n + 1) history = sym (take_next history n a.0 a.1) ∙ ap (λ (k : ℕ). take k history) (sym (add-one n)) in
+    record {
+      exact = subst (λ (es : List EventEntry). AllByRecursion IsExactEntry es) longer (exact_more (take n history) a.0 g.exact a.2);
+      gathers = subst (λ (es : List EventEntry). Gathers w w' new (text_of_history es)) longer
+          (gathers_more w w' old new (take n history) (a.0 ∷ []) g.gathers (adds_one old new a.0 a.3));
+    }
+
+-- ---- replies are written
+
+pub gathered_written : (w x y : Option (List ℕ)) (history : List EventEntry) (n : ℕ) (old new : List ℕ) (found : PutAnswer) → found ≡ put.Done → Gathered w x history n old
+    → IsWrittenOn x y found old new → Gathered w y history n new
+gathered_written w x y history n old new found is g h =
+    let told = g.gathers.0 in
+    let written : IsWrittenOn x y put.Done old new = subst (λ (f : PutAnswer). IsWrittenOn x y f old new) is h in
+    record {
+      exact = g.exact;
+      gathers = (
+        told ++ written.0,
+        adds_twice w x y told written.0 g.gathers.1 written.1,
+        g.gathers.2 ∙ ap (λ (text : List ℕ). told ++ text) written.2 ∙ sym (append_assoc told written.0 new),
+      );
+    }
+
+-- a write failed
+pub told_fault : (w x y : Option (List ℕ)) (history : List EventEntry) (n : ℕ) (old new : List ℕ) (found : PutAnswer) → found ≡ put.WriteFault → Gathered w x history n old
+    → IsWrittenOn x y found old new → TellsHistory w y history put.WriteFault
+told_fault w x y history n old new found is g h =
+    let failed : Puts x y put.WriteFault old = subst (λ (f : PutAnswer). IsWrittenOn x y f old new) is h in (
+      n,
+      g.exact,
+      subst (λ (text : List ℕ). WritesFront w y text) (sym g.gathers.2) (front_after w x y g.gathers.0 old g.gathers.1 (front_put x y old failed)),
+    )
+
+-- all entries are gathered, and what is left of their text is written
+pub told_last : (w x y : Option (List ℕ)) (history : List EventEntry) (n : ℕ) (replies : List ℕ) (found : PutAnswer) → n ≡ length history → Gathered w x history n replies
+    → Puts x y found replies → TellsHistory w y history found
+told_last w x y history n replies put.Done all g h =
+    let whole : take n history ≡ history = ap (λ (k : ℕ). take k history) all ∙ take-length history in (
+      subst (λ (es : List EventEntry). AllByRecursion IsExactEntry es) whole g.exact,
+      subst (λ (es : List EventEntry). Adds w y (text_of_history es)) whole
+          (subst (λ (text : List ℕ). Adds w y text) (sym g.gathers.2) (adds_twice w x y g.gathers.0 replies g.gathers.1 h)),
+    )
+told_last w x y history n replies put.WriteFault all g h = told_fault w x y history n replies [] put.WriteFault refl g h
+
+-- memory was wanting: what is gathered stays
+pub has_gathered : (w x : Option (List ℕ)) (history : List EventEntry) (n : ℕ) (old new : List ℕ) → Gathered w x history n old → new ≡ old → HasGathered w x history new
+has_gathered w x history n old new g same = record {
+  count = n;
+  exact = g.exact;
+  gathers = subst (λ (replies : List ℕ). Gathers w x replies (text_of_history (take n history))) (sym same) g.gathers;
+}
+
+-- ---- what that says of a book in which nothing is left to do
+
+pub answered : (b : BookSeen) (w y : Option (List ℕ)) (found : PutAnswer) → found ≡ put.Done → IsBook b → IsState b.state → ((caller : ℕ) → IsOver b caller) → TellsHistory w y b.history found
+    → IsAnswered b.scripts w y
+answered b w y found is k state over h =
+    let told : TellsHistory w y b.history put.Done = subst (TellsHistory w y b.history) is h in
+    record { history = b.history; sound = book_sound b k; whole = over_is_whole b k over; telling = book_tells b k state told.0; written = told.1 }
+
+pub partly : (b : BookSeen) (w y : Option (List ℕ)) (found : PutAnswer) → found ≡ put.WriteFault → IsBook b → IsState b.state → ((caller : ℕ) → IsOver b caller)
+    → TellsHistory w y b.history found → IsPartlyAnswered b.scripts w y
+partly b w y found is k state over h =
+    let told : TellsHistory w y b.history put.WriteFault = subst (TellsHistory w y b.history) is h in
+    record { history = take told.0 b.history; sound = front_sound b told.0 k over; telling = front_tells b told.0 k state told.1; front = told.2 }
+
+-- all that could be written of what is gathered
+front_most : (a b : Option (List ℕ)) (text : List ℕ) (found : PutAnswer) → Puts a b found text → WritesFront a b text
+front_most a b text put.Done h = front_all a b text h
+front_most a b text put.WriteFault h = front_put a b text h
+
+pub partly_gathered : (b : BookSeen) (w x y : Option (List ℕ)) (replies : List ℕ) (found : PutAnswer) → IsBook b → IsState b.state → ((caller : ℕ) → IsOver b caller)
+    → HasGathered w x b.history replies → Puts x y found replies → IsPartlyAnswered b.scripts w y
+partly_gathered b w x y replies found k state over g h = record {
+  history = take g.count b.history;
+  sound = front_sound b g.count k over;
+  telling = front_tells b g.count k state g.exact;
+  front = subst (λ (text : List ℕ). WritesFront w y text) (sym g.gathers.2) (front_after w x y g.gathers.0 replies g.gathers.1 (front_most x y replies found h));
+}
+
+-- no entry
+pub partly_none : (scripts : List (List ScriptLine)) (w : Option (List ℕ)) → IsPartlyAnswered scripts w w
+partly_none scripts w = record { history = []; sound = none_sound scripts; telling = tt; front = (0, omega arith, adds_none w) }

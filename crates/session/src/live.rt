@@ -1,0 +1,4 @@
+//! A session of several callers.
+
+mod reading;
+mod writing;
