@@ -17,4 +17,5 @@ pub mod Tallies
 pub mod Telling
 pub mod Told
 pub mod Turns
+pub mod Undone
 pub mod Written

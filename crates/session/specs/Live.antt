@@ -79,11 +79,11 @@ pub record HasNoCaller (left left' : Option (List ℕ)) (lines : List ScriptLine
 unfoldable pub no_caller_data : ℕ → Data
 no_caller_data number = object_of (has (codes "line") (whole number) ∷ has (codes "no") (whole 8) ∷ [])
 
--- one line
+-- its text, one line
 abbrev pub no_caller_text : ℕ → List ℕ
 no_caller_text number = text_of (no_caller_data number) ++ 10 ∷ []
 
--- a front of the text of a sound history of these scripts was written, and tells that history
+-- a front of the text of a sound history of these scripts was written; the whole text tells that history
 pub record IsPartlyAnswered (scripts : List (List ScriptLine)) (held held' : Option (List ℕ)) : Type 0 where
   pub history : List EventEntry
   pub sound : IsSound scripts history
@@ -104,7 +104,7 @@ IsLiveUndone ending left left' held held' = (lines : List ScriptLine) × HasRead
 abbrev pub IsLiveRefused : Option (List ℕ) → Option (List ℕ) → Option (List ℕ) → Option (List ℕ) → Type 0
 IsLiveRefused left left' held held' = (lines : List ScriptLine) × HasNoCaller left left' lines × Adds held held' (no_caller_text (length lines + 1))
 
--- a front of one of both was written
+-- a front of the text of a history was written, or of that on the first line without a caller
 abbrev pub IsLiveCutOff : Option (List ℕ) → Option (List ℕ) → Option (List ℕ) → Option (List ℕ) → Type 0
 IsLiveCutOff left left' held held' =
     ((lines : List ScriptLine) × HasReadFirst left left' lines × IsPartlyAnswered (scripts_of lines) held held')

@@ -1,4 +1,5 @@
-//! A session of the desk: lines are read, done in order, and each answered by the text of its entries.
+//! Sessions of the desk. Lines of one caller are read, done in order, and each answered by the text of its entries. Those of several
+//! callers are read first, then done at once, and answered by the text of the whole history.
 #![tactic(auto)]
 
 mod laws;
@@ -11,4 +12,5 @@ mod tally;
 mod words;
 
 pub use laws::{one_history, one_summary};
+pub use live::run_live;
 pub use run::run_session;

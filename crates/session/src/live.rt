@@ -1,4 +1,120 @@
-//! A session of several callers.
+//! A session of several callers, from its words to its status.
+ghost use Rattle.std.specs.Prelude.{◌≡◌, ◌≢◌, ◌↔◌, codes, IsTrue};
+ghost use Rattle.plan_io.specs.Words.{IsOneWord};
+ghost use Rattle.session.specs.Session.{IsSessionCause, IsWritingCause};
+ghost use Rattle.session.specs.Live.{IsLive};
+ghost use Rattle.session.specs.LiveParts.{IsTold};
 
 mod reading;
 mod writing;
+
+use desk_book::Book;
+use plan_io::{Gate, Sink, Source, Status};
+use reading::{Input, read_input};
+use std::alloc::Global;
+use std::sync::Wait;
+use std::thread::Threads;
+use writing::{write_history, write_refusal};
+
+/// How many callers a session may have.
+const CALLERS: u8 = 8;
+
+/// Whether the words are the one word `live`.
+fn is_live(words: &[String]) -> bool
+    ensures { IsTrue result ↔ IsOneWord (codes "live") words.now }
+{
+    match words {
+        [only] => only.as_str() == "live",
+        _ => false,
+    }
+}
+
+/// Does the lines of a book, each caller's in a thread of its own, and writes what was done.
+fn do_lines<R: Threads + Wait + Sync, K: Sink, G: Gate>(
+    rt: &R,
+    alloc: Global,
+    book: Book,
+    sink: &mut K,
+    gate: &G,
+) -> Status
+    ensures told { IsTold book.scripts (K.written sink.old) (K.written sink.new) result }
+    ensures cause { IsWritingCause (K.faults sink.old) (K.faults sink.new) result }
+{
+    let Ok(done) = desk_lock::play(rt, alloc, book, gate) else {
+        return Status::NoMemory;
+    };
+    let status = write_history(alloc, &done, sink);
+    drop(done);
+    status
+}
+
+/// Drops a book of which nothing is done. A call drops it: else each way out would drop it piece by piece, which the proof would
+/// have to follow.
+fn leave(book: Book, status: Status) -> Status
+    ensures { result ≡ status }
+{
+    drop(book);
+    status
+}
+
+/// Reads all lines, and then does them and writes what was done.
+fn play<R: Threads + Wait + Sync, S: Source, K: Sink, G: Gate>(
+    rt: &R,
+    alloc: Global,
+    source: &mut S,
+    sink: &mut K,
+    gate: &G,
+) -> Status
+    ensures live { IsLive (S.left source.old) (S.left source.new) (K.written sink.old) (K.written sink.new) result }
+    ensures words { result ≢ Status.Words }
+    ensures unread { result ≡ Status.ReadFault → sink.new ≡ sink.old }
+    ensures over { result ≡ Status.InputOver → sink.new ≡ sink.old }
+    ensures cause { IsSessionCause (S.faults source.old) (S.faults source.new) (K.faults sink.old) (K.faults sink.new) result }
+{
+    let Ok(mut book) = Book::new(alloc, CALLERS) else {
+        return Status::NoMemory;
+    };
+    match read_input(alloc, source, &mut book) {
+        Ok(Input::Whole) => do_lines(rt, alloc, book, sink, gate),
+        Ok(Input::NoCaller(number)) => {
+            drop(book);
+            write_refusal(alloc, number, sink)
+        }
+        Ok(Input::ReadFault) => leave(book, Status::ReadFault),
+        Ok(Input::InputOver) => leave(book, Status::InputOver),
+        Err(_) => leave(book, Status::NoMemory),
+    }
+}
+
+/// Runs a session of eight callers. The words are the one word `live`; else the status is `Words` and nothing is read or written.
+///
+/// Each line is an object with a `caller`, a whole number from 0 to 7. All lines are read first, at most 16,777,216 bytes and
+/// 65,536 lines. Where a read fails or there is more, the status is `ReadFault` or `InputOver`, and nothing is done or written.
+/// At the first line that names no caller, since it is too long, no object, or its `caller` isn't there or is another value, the
+/// status is `NoCaller`: `{"line":n,"no":8}` is written and a newline, `n` being the line's number from 1, and nothing is done.
+///
+/// Then each caller's lines are done in their order, by a thread of its own where one can be made, and the text of the whole
+/// history is written. Which of the histories it is that the scripts may have depends on the threads. It may wait for them, and
+/// its contract holds if it returns.
+///
+/// The threads pass the gate at each [`Point`](plan_io::Point).
+pub fn run_live<R: Threads + Wait + Sync, S: Source, K: Sink, G: Gate>(
+    rt: &R,
+    alloc: Global,
+    words: &[String],
+    source: &mut S,
+    sink: &mut K,
+    gate: &G,
+) -> Status
+    ensures words { (result ≡ Status.Words) ↔ ¬ (IsOneWord (codes "live") words.now) }
+    ensures untouched { result ≡ Status.Words → (source.new ≡ source.old) × (sink.new ≡ sink.old) }
+    ensures unread { result ≡ Status.ReadFault → sink.new ≡ sink.old }
+    ensures over { result ≡ Status.InputOver → sink.new ≡ sink.old }
+    ensures live { IsLive (S.left source.old) (S.left source.new) (K.written sink.old) (K.written sink.new) result }
+    ensures cause { IsSessionCause (S.faults source.old) (S.faults source.new) (K.faults sink.old) (K.faults sink.new) result }
+{
+    if !is_live(words) {
+        return Status::Words;
+    }
+    play(rt, alloc, source, sink, gate)
+}

@@ -1,0 +1,10 @@
+use Rattle.session.proofs.Undone.{undone_first, undone_memory}
+use Rattle.session.proofs.live.play.Goals as goal
+
+pub returns-in_default-clause-live : goal.returns-in_default-clause-live
+returns-in_default-clause-live g c = undone_first (g.S.Source.left c.args.source.now) (g.K.Sink.written c.args.sink.now)
+
+pub returns-in-Err-clause-live : goal.returns-in-Err-clause-live
+returns-in-Err-clause-live g c =
+    undone_memory (g.S.Source.left c.args.source.now) (g.S.Source.left c.read_input.new.source) (g.K.Sink.written c.args.sink.now) c.leave-in-Err.result c.leave-in-Err.ensures
+    c.in-Err.ensures.first
