@@ -1,5 +1,6 @@
 //! Two callers of one book: what is answered while a Take is open, once a change came between it and its Publish, to what was
 //! found for another Take, and where none is open.
+use crate::script::{GRANT, INSTRUMENT, NIGHT, OPEN, PLAN, SKY, SUBMIT, TELESCOPE};
 use desk_book::{Book, BookStep, PublishStep};
 use desk_events::entry_text;
 use lanes::solve_plan;
@@ -19,27 +20,6 @@ enum Act<'a> {
     /// What is found for the Take with this place, counted from 0, is published.
     Publish(usize),
 }
-
-const OPEN: &str =
-    r#"{"do":"open","now":0,"slice":300,"horizon":12,"semester":[0,15552000],"lanes":1,"rounds":8,"workers":1}"#;
-
-const INSTRUMENT: &str =
-    r#"{"do":"instrument","type":"1M0-SCICAM-SINISTRO","front_ms":0,"config_ms":0,"readout_ms":0,"change_ms":0}"#;
-
-const TELESCOPE: &str =
-    r#"{"do":"telescope","site":"coj","enclosure":"doma","telescope":"1m0a","class":"1m0","instruments":["1M0-SCICAM-SINISTRO"]}"#;
-
-const NIGHT: &str = r#"{"do":"night","site":"coj","spans":[[0,3600]]}"#;
-
-const SKY: &str = r#"{"do":"visibility","target":"M51","site":"coj","spans":[[0,3600]]}"#;
-
-const GRANT: &str =
-    r#"{"do":"grant","proposal":"P1","account":"standard","instrument_type":"1M0-SCICAM-SINISTRO","seconds":1000}"#;
-
-const SUBMIT: &str =
-    r#"{"do":"submit","group":{"name":"g","proposal":"P1","operator":"SINGLE","observation_type":"NORMAL","requests":[{"location":{"telescope_class":"1m0"},"windows":[{"start":0,"end":3600}],"configurations":[{"instrument_type":"1M0-SCICAM-SINISTRO","target":{"name":"M51"},"instrument_configs":[{"exposure_time_ms":300000,"exposure_count":1}]}]}]}}"#;
-
-const PLAN: &str = r#"{"do":"plan"}"#;
 
 /// What the desk is opened with.
 const SETTINGS: Settings = Settings {

@@ -1,5 +1,6 @@
 //! Sessions over a source and a sink in memory: faults in mid-stream, and the limit of bytes at its edge. What whole sessions
 //! write stands in the files of cases/session, at the top of the repository.
+use crate::ends::{sink_of, source_of};
 use plan_io::{MemSink, MemSource, Status};
 use session::*;
 use std::alloc::{AllocError, Global};
@@ -16,19 +17,6 @@ const REPLIES: &[u8] = b"\
     {\"caller\":0,\"line\":2,\"ok\":\"taken\",\"version\":1}\n\
     {\"caller\":0,\"claim\":{\"bound\":0,\"placements\":[],\"prices\":[],\"value\":0},\"line\":2,\"ok\":\"published\",\"version\":1}\n\
     {\"balances\":[],\"caller\":0,\"line\":3,\"ok\":\"balances\",\"version\":2}\n";
-
-/// A source of these bytes, 40 a call, of which the call with this number fails. It is boxed, so that no proof looks into it.
-fn source_of(alloc: Global, bytes: &[u8], failing: u32) -> Result<Box<MemSource>, AllocError> {
-    let failing = Vec::from_slice(alloc, &[failing])?;
-    let bytes = Vec::from_slice(alloc, bytes)?;
-    Ok(Box::new(alloc, MemSource::new(bytes, 40, failing))?)
-}
-
-/// A sink that takes 40 bytes a call, and fails the call with this number. It is boxed for the same reason.
-fn sink_of(alloc: Global, failing: u32) -> Result<Box<MemSink>, AllocError> {
-    let failing = Vec::from_slice(alloc, &[failing])?;
-    Ok(Box::new(alloc, MemSink::new(alloc, 40, 1_000, failing)?)?)
-}
 
 /// The status of a session.
 fn status_of<R: Threads + Sync>(

@@ -1,0 +1,168 @@
+//! Sessions of several callers over a source and a sink in memory: the order of two callers' lines, which a gate holds, and faults in
+//! mid-stream. What other sessions write stands in the files of cases/live, at the top of the repository.
+use crate::ends::{sink_of, source_of};
+use crate::script::{GRANT, INSTRUMENT, NIGHT, OPEN, PLAN, SKY, SUBMIT, TELESCOPE};
+use plan_io::{Gate, MemSink, MemSource, NoGate, Point, Status};
+use session::*;
+use std::alloc::{AllocError, Global};
+use std::hint::spin_loop;
+use std::sync::Wait;
+use std::sync::atomic::{AtomicU32, Ordering};
+use std::test::Fail;
+use std::thread::Threads;
+
+/// How often a hold turns at most.
+const MOST_TURNS: u32 = 100_000_000;
+
+/// The status of a session of several callers.
+fn status_of<R: Threads + Wait + Sync, G: Gate>(
+    rt: &R,
+    alloc: Global,
+    source: &mut MemSource,
+    sink: &mut MemSink,
+    gate: &G,
+) -> Result<Status, AllocError> {
+    let words = vec![in alloc; String::from_str(alloc, "live")?]?;
+    Ok(run_live(rt, alloc, words.as_slice(), source, sink, gate))
+}
+
+/// Whether a session of these lines ends so, where this call of the source and this call of the sink fail, and writes the first
+/// bytes of the replies.
+fn ends_so<R: Threads + Wait + Sync, G: Gate>(
+    rt: &R,
+    alloc: Global,
+    lines: &[u8],
+    fails: (u32, u32),
+    ending: (Status, &[u8]),
+    gate: &G,
+) -> Result<bool, AllocError> {
+    let mut source = source_of(alloc, lines, fails.0)?;
+    let mut sink = sink_of(alloc, fails.1)?;
+    let status = status_of(rt, alloc, &mut source, &mut sink, gate)?;
+    Ok(status == ending.0 && sink.bytes() == ending.1)
+}
+
+/// What caller 0 sends, and then caller 1.
+const LINES: [(&str, &str); 10] = [
+    ("{\"caller\":0,", OPEN),
+    ("{\"caller\":0,", INSTRUMENT),
+    ("{\"caller\":0,", TELESCOPE),
+    ("{\"caller\":0,", NIGHT),
+    ("{\"caller\":0,", SKY),
+    ("{\"caller\":0,", GRANT),
+    ("{\"caller\":0,", SUBMIT),
+    ("{\"caller\":0,", PLAN),
+    ("{\"caller\":0,", PLAN),
+    ("{\"caller\":1,", SUBMIT),
+];
+
+/// The lines, each with its caller in front of its other members.
+fn lines_of(alloc: Global, lines: &[(&str, &str)]) -> Result<Vec<u8>, AllocError> {
+    let mut text = Vec::new(alloc);
+    for (caller, line) in lines {
+        text.extend_from_slice(caller.as_bytes())?;
+        text.extend_from_slice(line.as_bytes().get(1..).unwrap_or(&[]))?;
+        text.push(b'\n')?;
+    }
+    Ok(text)
+}
+
+/// The group of caller 1 comes between the first plan's Take and its Publish.
+const REPLIES: &[u8] = b"\
+    {\"caller\":0,\"line\":1,\"ok\":\"opened\",\"version\":0}\n\
+    {\"caller\":0,\"line\":2,\"ok\":\"instrument\",\"version\":1}\n\
+    {\"caller\":0,\"line\":3,\"ok\":\"telescope\",\"telescope\":0,\"version\":2}\n\
+    {\"caller\":0,\"line\":4,\"ok\":\"night\",\"version\":3}\n\
+    {\"caller\":0,\"line\":5,\"ok\":\"visibility\",\"version\":4}\n\
+    {\"balance\":1000,\"caller\":0,\"line\":6,\"ok\":\"granted\",\"version\":5}\n\
+    {\"caller\":0,\"group\":1,\"ipp_charged\":0,\"line\":7,\"ok\":\"submitted\",\"requests\":[1],\"version\":6}\n\
+    {\"caller\":0,\"line\":8,\"ok\":\"taken\",\"version\":7}\n\
+    {\"caller\":1,\"group\":2,\"ipp_charged\":0,\"line\":1,\"ok\":\"submitted\",\"requests\":[2],\"version\":7}\n\
+    {\"asked\":7,\"caller\":0,\"line\":8,\"newer\":8,\"no\":31,\"refused\":\"Stale\",\"version\":8}\n\
+    {\"caller\":0,\"line\":9,\"ok\":\"taken\",\"version\":8}\n\
+    {\"caller\":0,\"claim\":{\"bound\":350000,\"placements\":[[1,0,0],[2,0,1]],\"prices\":[25000,25000],\"value\":100000},\"line\":9,\"ok\":\"published\",\"version\":8}\n";
+
+/// Holds caller 1 until caller 0 has taken what is to be planned first, and caller 0 there until caller 1 has its reply.
+#[derive(Drop)]
+struct Between {
+    taken: AtomicU32,
+    replied: AtomicU32,
+    /// How many holds ran out of turns.
+    late: AtomicU32,
+}
+
+impl Between {
+    fn new() -> Between {
+        Between {
+            taken: AtomicU32::new(0),
+            replied: AtomicU32::new(0),
+            late: AtomicU32::new(0),
+        }
+    }
+
+    /// Waits until a count has risen.
+    fn wait(&self, count: &AtomicU32) {
+        for _ in 0..MOST_TURNS {
+            if count.load(Ordering::SeqCst) > 0 {
+                return;
+            }
+            spin_loop();
+        }
+        self.late.fetch_add(1, Ordering::SeqCst);
+    }
+}
+
+impl Gate for Between {
+    fn pass(&self, point: Point) {
+        match point {
+            Point::BeforeLine { caller: 1, .. } => self.wait(&self.taken),
+            Point::AfterTake { line: 8, .. } => {
+                self.taken.fetch_add(1, Ordering::SeqCst);
+                self.wait(&self.replied);
+            }
+            Point::AfterLine { caller: 1, .. } => {
+                self.replied.fetch_add(1, Ordering::SeqCst);
+            }
+            _ => (),
+        }
+    }
+}
+
+#[test]
+fn a_line_comes_between_a_take_and_its_publish(rt: HostRuntime) -> Result<(), Fail> {
+    let gate = Between::new();
+    let lines = lines_of(rt.alloc(), &LINES)?;
+    let ending = (Status::Done, REPLIES);
+    let found = ends_so(&rt, rt.alloc(), lines.as_slice(), (99, 99), ending, &gate)?;
+    assert_eq!(rt; gate.late.load(Ordering::SeqCst), 0);
+    assert!(rt; found);
+    Ok(())
+}
+
+/// Three lines of one caller, 40 bytes each with the newline.
+const SHORT: &[u8] = b"\
+    {\"caller\":5,\"do\":\"balances\"           }\n\
+    {\"caller\":5,\"do\":\"balances\"           }\n\
+    {\"caller\":5,\"do\":\"balances\"           }\n";
+
+const REFUSED: &[u8] = b"\
+    {\"caller\":5,\"line\":1,\"no\":20,\"refused\":\"NotOpened\",\"version\":0}\n\
+    {\"caller\":5,\"line\":2,\"no\":20,\"refused\":\"NotOpened\",\"version\":0}\n\
+    {\"caller\":5,\"line\":3,\"no\":20,\"refused\":\"NotOpened\",\"version\":0}\n";
+
+#[test]
+fn faults_end_a_session_of_callers(rt: HostRuntime) -> Result<(), Fail> {
+    // Three reads give the lines, and the fourth none. A write takes 40 bytes.
+    for (fails, status, len) in [
+        ((9, 99), Status::Done, REFUSED.len()),
+        ((2, 99), Status::ReadFault, 0),
+        ((3, 99), Status::ReadFault, 0),
+        ((9, 0), Status::WriteFault, 0),
+        ((9, 3), Status::WriteFault, 120),
+    ] {
+        let wanted = &REFUSED[..len.min(REFUSED.len())];
+        let found = ends_so(&rt, rt.alloc(), SHORT, fails, (status, wanted), &NoGate)?;
+        assert!(rt; found, "calls {} and {}", fails.0, fails.1);
+    }
+    Ok(())
+}
