@@ -6,7 +6,6 @@ ghost use Rattle.desk_lock.specs.Finishing.{IsStepInRange};
 use crate::finishing::publish_kept;
 use desk_book::{Book, BookStep, PublishStep};
 use plan_base::Solved;
-use plan_io::NoGate;
 use std::alloc::{AllocError, Global};
 use std::marker::{Brand, PhantomData};
 use std::sync::Mutex;
@@ -64,7 +63,7 @@ impl<S: Sending> Held<S> {
         if self.book.kept(caller).is_none() {
             return Ok(());
         }
-        publish_kept(rt, alloc, &mut self.book, caller, &NoGate)
+        publish_kept(rt, alloc, &mut self.book, caller)
     }
 
     /// Publishes what was found for what the caller took. Where it was found for another Take, its own is sought anew: no call

@@ -9,24 +9,23 @@ use crate::desk::{Desk, Sending};
 use desk_book::{Book, BookStep};
 use lanes::solve_plan;
 use plan_base::Taken;
-use plan_io::{Gate, NoGate};
+use plan_io::NoGate;
 use std::alloc::{AllocError, Global};
 use std::thread::Threads;
 
 /// Seeks the plan of what a caller took, and publishes it. Want of memory leaves the book as before.
-fn publish<R: Threads + Sync, G: Gate>(
+fn publish<R: Threads + Sync>(
     rt: &R,
     alloc: Global,
     book: &mut Book,
     taken: Taken,
-    gate: &G,
 ) -> Result<(), AllocError>
     requires kept { take_of book.old.takes taken.caller ≡ Some taken }
     requires range { IsInRange taken.settings }
     ensures ok { OnOk result (EndsLine book.old taken.caller book.new) }
     ensures err { OnErr result (book.new ≡ book.old) }
 {
-    let solved = solve_plan(rt, alloc, taken, gate)?;
+    let solved = solve_plan(rt, alloc, taken, &NoGate)?;
     let step = book.publish(solved)?;
     drop(step);
     Ok(())
@@ -45,19 +44,18 @@ fn copy_kept(book: &Book, caller: u8) -> Result<Taken, AllocError>
 }
 
 /// Seeks the plan of what a caller took and didn't publish yet, and publishes it. Want of memory leaves the book as before.
-pub(crate) fn publish_kept<R: Threads + Sync, G: Gate>(
+pub(crate) fn publish_kept<R: Threads + Sync>(
     rt: &R,
     alloc: Global,
     book: &mut Book,
     caller: u8,
-    gate: &G,
 ) -> Result<(), AllocError>
     requires { IsSome (take_of book.old.takes caller) }
     ensures ok { OnOk result (EndsLine book.old caller book.new) }
     ensures err { OnErr result (book.new ≡ book.old) }
 {
     let taken = copy_kept(book, caller)?;
-    publish(rt, alloc, book, taken, gate)
+    publish(rt, alloc, book, taken)
 }
 
 /// Does the next line of a caller, or the rest of it, and says whether one was left.
@@ -76,11 +74,11 @@ fn do_line<R: Threads + Sync>(
     match book.perform(caller)? {
         BookStep::Replied => Ok(true),
         BookStep::Taken(taken) => {
-            publish(rt, alloc, book, taken, &NoGate)?;
+            publish(rt, alloc, book, taken)?;
             Ok(true)
         }
         BookStep::TakeOpen => {
-            publish_kept(rt, alloc, book, caller, &NoGate)?;
+            publish_kept(rt, alloc, book, caller)?;
             Ok(true)
         }
         BookStep::Over => Ok(false),

@@ -20,8 +20,8 @@ use std::thread::Threads;
 /// The most bytes that a session reads.
 const MOST_BYTES: u64 = 67_108_864;
 
-/// The most lines that a session takes.
-const MOST_LINES: u64 = 65_536;
+/// The most lines that a session takes, of one caller or of several.
+pub(crate) const MOST_LINES: u64 = 65_536;
 
 /// Whether replies are to be written before the next line: where a caller may wait for them, since no whole line is at hand,
 /// or where they are many.

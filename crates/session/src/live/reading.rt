@@ -6,6 +6,7 @@ ghost use Rattle.desk_book.specs.Seen.{empty_book};
 ghost use Rattle.session.specs.Live.{caller_in, caller_of_bytes, caller_of};
 ghost use Rattle.session.specs.LiveParts.{IsSent, IsInput, IsInputCause, HasReadSome};
 
+use crate::run::MOST_LINES;
 use desk_book::Book;
 use plan_io::{LineAnswer, Lines, ScriptLine, Source};
 use plan_json::{Doc, JsonFault, Member, parse_object};
@@ -13,9 +14,6 @@ use std::alloc::{AllocError, Global};
 
 /// The most bytes that are read.
 const MOST_BYTES: u64 = 16_777_216;
-
-/// The most lines that are taken.
-const MOST_LINES: u64 = 65_536;
 
 /// The greatest number of a caller.
 const LAST_CALLER: u32 = 7;
