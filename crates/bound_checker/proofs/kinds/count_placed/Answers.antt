@@ -1,4 +1,5 @@
 use Rattle.std.proofs.Common.{◌≡◌, ◌<◌, ◌≤◌, ◌==◌, ℕ, List, take, length, slice_index_or, arith, ◌∙◌, sym}
+use Rattle.std.proofs.lemmas.Grind.{common_steps}
 use Rattle.std.proofs.lemmas.List.{get_or_default, length-take}
 use Rattle.std.proofs.lemmas.List.Sums.{count_by-le-length}
 use Rattle.plan_base.specs.Requests.{group_of}
@@ -25,3 +26,9 @@ loop-placement-preserved c =
     counts_more c.args.snapshot.now c.args.plan.now c.loop-placement.placement-index c.known_group-group.result c.index_mut.result.now c.loop-placement.counts.items c.loop-placement-test.true c.known_group-group.ensures.value
     c.known_group-group.ensures.within
     (count_read c.loop-placement.counts.items c.known_group-group.result c.index_mut.result.now _ c.loop-placement.invariant.groups c.known_group-group.ensures.within c.index_mut.ensures.value) c.loop-placement.invariant
+
+pub loop-placement-init : goal.loop-placement-init
+loop-placement-init c = grind (arith, common_steps)
+
+pub returns : goal.returns
+returns c = grind (arith, common_steps)

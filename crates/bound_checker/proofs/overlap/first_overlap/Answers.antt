@@ -1,4 +1,5 @@
 use Rattle.std.proofs.Common.{◌≡◌, ◌≤◌, ◌<◌, ℕ, Bool, List, false, true, slice_index_or, sym, ◌∙◌, ap, subst, arith}
+use Rattle.std.proofs.lemmas.Grind.{common_steps}
 use Rattle.bound_checker.proofs.SlotFlags.{flags_more, first_sharing, disjoint_from_flags}
 use Rattle.bound_checker.proofs.overlap.first_overlap.Goals as goal
 
@@ -15,3 +16,6 @@ loop-index-preserved c =
 
 pub returns : goal.returns
 returns c = disjoint_from_flags c.args.snapshot.now c.args.plan.now c.loop-index.index c.loop-index.occupied.items c.requires (omega arith) c.loop-index.invariant
+
+pub loop-index-init : goal.loop-index-init
+loop-index-init c = grind (arith, common_steps)

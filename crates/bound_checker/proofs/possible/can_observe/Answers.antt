@@ -1,4 +1,5 @@
-use Rattle.std.proofs.Common.{◌≡◌, List, ℕ, sym, ◌∙◌, ap, slice_index_or, false, true}
+use Rattle.std.proofs.Common.{◌≡◌, List, ℕ, sym, ◌∙◌, ap, slice_index_or, false, true, arith}
+use Rattle.std.proofs.lemmas.Grind.{common_steps}
 use Rattle.plan_base.specs.declared.parts.TelescopePart.{TelescopePart}
 use Rattle.bound_checker.proofs.PossibleStarts.{LooksAt, observe_when, window_when, usable_when, visible_when}
 use Rattle.bound_checker.proofs.possible.can_observe.Goals as goal
@@ -24,3 +25,6 @@ returns c =
           (c.has_all-2.ensures.0 c.if-not-has_all-2.false) (c.are_visible.ensures.0 yes),
       λ h. c.are_visible.ensures.1 (visible_when s q t part c.as_slice-2.result.now c.as_slice-3.result.now c.as_slice-4.result.now c.args.observed.from.0 c.args.observed.to.0 looks h),
     )
+
+pub returns-then-not-has_all-2 : goal.returns-then-not-has_all-2
+returns-then-not-has_all-2 c = grind (arith, common_steps)

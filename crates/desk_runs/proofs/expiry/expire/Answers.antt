@@ -1,4 +1,5 @@
 use Rattle.std.proofs.Common.{◌<◌, length, arith}
+use Rattle.std.proofs.lemmas.Grind.{common_steps}
 use Rattle.plan_base.specs.declared.number.GroupNo.{GroupNo}
 use Rattle.plan_base.specs.States.{is_over}
 use Rattle.desk_runs.specs.Clock.{became}
@@ -19,3 +20,9 @@ loop-number-preserved c =
       groups = cc (groups, c.in_ok-turn_group.ensures.groups, c.group_of-group.ensures, c.loop-number.invariant.groups);
       requests = cc (requests, c.in_ok-turn_group.ensures.requests, c.group_of-group.ensures, c.loop-number.invariant.requests);
     }
+
+pub returns-clause-groups : goal.returns-clause-groups
+returns-clause-groups c = grind (arith, common_steps)
+
+pub returns-clause-requests : goal.returns-clause-requests
+returns-clause-requests c = grind (arith, common_steps)

@@ -1,4 +1,5 @@
-use Rattle.std.proofs.Common.{rules, ◌≡◌, ◌≤◌, ℤ, List, length, sym, subst, w64}
+use Rattle.std.proofs.Common.{rules, ◌≡◌, ◌≤◌, ℤ, List, length, sym, subst, w64, arith}
+use Rattle.std.proofs.lemmas.Grind.{common_steps}
 use Rattle.std.proofs.lemmas.Int.{to_z-of_z}
 use Rattle.plan_base.specs.declared.parts.Parts.{Parts}
 use Rattle.plan_base.specs.Requests.{listed}
@@ -35,3 +36,9 @@ returns c =
     simp to_z-of_z
     (λ d. greatest_at (snapshot_of c.args.forest.now) c.snapshot-snapshot.result.now c.args.prices.now.0 (seen x) _ c.sums_of.result.any c.any_of.result c.snapshot-snapshot.ensures
     (seen_at c.trees.result.now trees c.args.tree x d c.trees.ensures (within_seen c.trees.result.now trees c.args.tree c.trees.ensures c.requires.tree) c.index-trees-tree.is) c.any_of.ensures c.sums_of.ensures.any)
+
+pub offset_bounds-trees-tree : goal.offset_bounds-trees-tree
+offset_bounds-trees-tree c = grind (arith, common_steps)
+
+pub bounds-trees-tree : goal.bounds-trees-tree
+bounds-trees-tree c = grind (arith, common_steps)

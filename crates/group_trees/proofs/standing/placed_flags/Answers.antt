@@ -1,4 +1,5 @@
 use Rattle.std.proofs.Common.{◌≡◌, ◌≢◌, ℕ, ◌+◌, ◌<◌, inl, inr, Bool, true, false, ◌||◌, ◌==◌, List, length, drop, slice_index_or, slice_set, refl, sym, ap, ◌∙◌, arith, get_or-set_other, get_or-set_same}
+use Rattle.std.proofs.lemmas.Grind.{common_steps}
 use Rattle.std.proofs.lemmas.Bool.Decides.{nat_tests}
 use Rattle.std.proofs.lemmas.List.{length-set, at_drop_more}
 use Rattle.plan_base.specs.declared.parts.Parts.{Parts}
@@ -48,3 +49,9 @@ loop-placement-preserved c = (
   λ r known. flags_more c.args.snapshot.now c.args.plan.now c.loop-placement.placement-index c.loop-placement.flags.items c.known_place-place.result r (omega arith) (c.requires c.loop-placement.placement-index _ (omega arith)) c.known_place-place.ensures.value c.loop-placement.invariant.0 known
       ∙ c.loop-placement.invariant.1 r known,
 )
+
+pub loop-placement-init : goal.loop-placement-init
+loop-placement-init c = grind (arith, common_steps)
+
+pub returns : goal.returns
+returns c = grind (arith, common_steps)

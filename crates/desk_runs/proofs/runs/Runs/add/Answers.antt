@@ -1,4 +1,5 @@
 use Rattle.std.proofs.Common.{◌≡◌, ◌∙◌, ◌+◌, ◌<◌, ◌^◌, ◌++◌, ◌∷◌, [], ℕ, List, length, map, filter, replicate, ap, sym, subst, arith}
+use Rattle.std.proofs.lemmas.Grind.{common_steps}
 use Rattle.plan_base.specs.declared.number.GroupNo.{GroupNo}
 use Rattle.desk_runs.specs.declared.group.Group.{Group}
 use Rattle.desk_runs.specs.declared.group.Request.{Request}
@@ -98,3 +99,6 @@ pub returns-clause-added : goal.returns-clause-added
 returns-clause-added c =
     ap (λ (l : List Group). let p : Progress = record { len = c.self.inside.len; moment = c.self.inside.moment; groups = l; kept = c.self.inside.kept; running = c.self.inside.running } in p) (groups_are c)
     ∙ ap (with_group c.args.op c.args.asks.now) c.self.view_is
+
+pub overflow_add-self : goal.overflow_add-self
+overflow_add-self c = grind (arith, common_steps)

@@ -1,4 +1,5 @@
 use Rattle.std.proofs.Common.{◌≡◌, ◌∙◌, ◌+◌, ◌-◌, ◌<◌, ◌≤◌, ◌^◌, ap, sym, subst, ℕ, List, length, filter, map, take, vec_len, arith}
+use Rattle.std.proofs.lemmas.Grind.{common_steps}
 use Rattle.desk_runs.specs.declared.group.Group.{Group}
 use Rattle.desk_runs.specs.States.{is_open}
 use Rattle.desk_runs.specs.Numbers.{requests_of}
@@ -43,3 +44,12 @@ invariant_of-self c =
           let many : length (requests_of a.groups.items) ≡ length (requests_of before.groups) + c.len-count.result = last.requests in
           subst (λ (l : List Group). length (requests_of l) < 2 ^ 32) (sym are) (omega (arith, many, c.self.invariant.few_requests));
     }
+
+pub overflow_sub-place : goal.overflow_sub-place
+overflow_sub-place c = grind (arith, common_steps)
+
+pub index-requires : goal.index-requires
+index-requires c = grind (arith, common_steps)
+
+pub returns : goal.returns
+returns c = grind (arith, common_steps)

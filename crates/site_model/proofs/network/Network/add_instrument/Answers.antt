@@ -1,4 +1,5 @@
-use Rattle.std.proofs.Common.{◌≡◌, Some, None, true, false, refl, sym, ap, ◌∙◌, length, if◌then◌else◌}
+use Rattle.std.proofs.Common.{◌≡◌, Some, None, true, false, refl, sym, ap, ◌∙◌, length, if◌then◌else◌, arith}
+use Rattle.std.proofs.lemmas.Grind.{common_steps}
 use Rattle.std.specs.Map.{keys_of, lookup}
 use Rattle.std.proofs.lemmas.Map.Made.{is_some-lookup}
 use Rattle.indexmap.proofs.CallerLemmas.{insert_entry-new}
@@ -34,3 +35,6 @@ returns c =
     rw (← c.self.view_is)
     (changes _ _ _ _ _ (ap (λ b. if b then Some Repeated else full_of Instruments (length c.self.inside.instruments.entries)) named ∙ room)
     (ap (λ r. network_of r c.self.inside.calendar) seen))
+
+pub invariant_of-self-2 : goal.invariant_of-self-2
+invariant_of-self-2 c = grind (arith, common_steps)

@@ -1,4 +1,5 @@
-use Rattle.std.proofs.Common.{◌≡◌, ◌≢◌, ◌++◌, ◌∷◌, [], Some, None, refl, sym, ap, ◌∙◌, length, map}
+use Rattle.std.proofs.Common.{◌≡◌, ◌≢◌, ◌++◌, ◌∷◌, [], Some, None, refl, sym, ap, ◌∙◌, length, map, arith}
+use Rattle.std.proofs.lemmas.Grind.{common_steps}
 use Rattle.std.specs.Map.{keys_of, lookup}
 use Rattle.indexmap.proofs.CallerLemmas.{insert_entry-new}
 use Rattle.site_model.specs.declared.fault.SiteFault.TheVariants.{NoMemory}
@@ -60,3 +61,6 @@ returns-clause-added c =
     rw (← c.self.view_is)
     (changes _ _ _ _ _ (by_sites c.self.inside c.args.code c.args.instruments.now None c.in_ok-instruments.ensures.allowed (sym c.contains_key.ensures ∙ c.if-contains_key.false) room c.in_ok-site.ensures.numbered.allowed)
     (ap (λ r. network_of r c.self.inside.calendar) seen))
+
+pub returns-clause-number : goal.returns-clause-number
+returns-clause-number c = grind (arith, common_steps)

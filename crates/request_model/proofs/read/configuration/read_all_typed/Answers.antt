@@ -1,0 +1,12 @@
+use Rattle.std.proofs.Common.{arith}
+use Rattle.std.proofs.lemmas.Grind.{common_steps}
+use Rattle.request_model.proofs.read.configuration.read_all_typed.Goals as goal
+
+pub returns-in_err-read_typed_at-clause-fault : goal.returns-in_err-read_typed_at-clause-fault
+returns-in_err-read_typed_at-clause-fault c = grind (arith, common_steps)
+
+pub loop-index-preserved : goal.loop-index-preserved
+loop-index-preserved c = grind (arith, common_steps)
+
+pub returns-clause-value : goal.returns-clause-value
+returns-clause-value c = grind (arith, common_steps)
