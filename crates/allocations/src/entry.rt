@@ -15,7 +15,6 @@ pub enum EntryKind {
 }
 
 /// An entry of the ledger. A number that doesn't apply is 0.
-#[derive(Drop)]
 pub struct Entry {
     /// Whose account it is.
     pub key: Key,
@@ -29,11 +28,28 @@ pub struct Entry {
     pub request: RequestNo,
 }
 
+impl Drop for Entry {
+    fn drop(self) {
+        let Self {
+            key: _,
+            kind: _,
+            seconds: _,
+            group: _,
+            request: _,
+        } = self;
+    }
+}
+
 /// Seconds of an account that a group holds for its pending requests.
-#[derive(Drop)]
 pub struct Hold {
     /// The account.
     pub key: Key,
     /// How many of its seconds are held.
     pub seconds: u64,
+}
+
+impl Drop for Hold {
+    fn drop(self) {
+        let Self { key: _, seconds: _ } = self;
+    }
 }

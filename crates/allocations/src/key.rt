@@ -23,12 +23,22 @@ pub enum Account {
 
 /// The name of an account. Keys are in the order of their proposals' bytes, then of the accounts, then of the
 /// instrument types' bytes.
-#[derive(Clone, Drop, PartialEq, Eq, PartialOrd, Ord)]
+#[derive(Clone, PartialEq, Eq, PartialOrd, Ord)]
 pub struct Key {
     pub proposal: Name,
     pub account: Account,
     /// The instrument type, empty for the account `Ipp`.
     pub instrument: Name,
+}
+
+impl Drop for Key {
+    fn drop(self) {
+        let Self {
+            proposal: _,
+            account: _,
+            instrument: _,
+        } = self;
+    }
 }
 
 impl Key {

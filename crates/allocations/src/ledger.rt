@@ -30,10 +30,15 @@ pub const MOST_SECONDS_IN_ALL: u64 = 1_000_000_000_000_000_000;
 /// Grants, charges and refunds of the accounts of proposals, and what groups hold of them. A call costs what it touches,
 /// however many entries there are. The seconds of all entries and holds, with those that a call adds, add up to at most
 /// `MOST_SECONDS_IN_ALL`.
-#[derive(Drop)]
 pub struct Ledger {
     store: Store,
     alloc: Global,
+}
+
+impl Drop for Ledger {
+    fn drop(self) {
+        let Self { store: _, alloc: _ } = self;
+    }
 }
 
 impl Model for Ledger {

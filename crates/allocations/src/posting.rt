@@ -15,9 +15,18 @@ pub struct Posting {
 }
 
 /// What a group holds, by rising keys, and its ipp charge while that stands and wasn't refunded.
-#[derive(Drop)]
 pub struct GroupState {
     pub group: GroupNo,
     pub holds: ListOf<Amount>,
     pub ipp: Option<Amount>,
+}
+
+impl Drop for GroupState {
+    fn drop(self) {
+        let Self {
+            group: _,
+            holds: _,
+            ipp: _,
+        } = self;
+    }
 }

@@ -14,18 +14,28 @@ use std::alloc::{AllocError, Global};
 use std::marker::Model;
 
 /// An account in the order of keys.
-#[derive(Drop)]
 pub struct Listed {
     pub key: Key,
     pub place: usize,
 }
 
+impl Drop for Listed {
+    fn drop(self) {
+        let Self { key: _, place: _ } = self;
+    }
+}
+
 /// The accounts, each with a place that it keeps: places count up from 0 in the order in which accounts are added.
 /// Contracts see the keys by place, and the keys in their order.
-#[derive(Drop)]
 pub struct Register {
     keys: Vec<Key>,
     order: Vec<Listed>,
+}
+
+impl Drop for Register {
+    fn drop(self) {
+        let Self { keys: _, order: _ } = self;
+    }
 }
 
 impl Model for Register {

@@ -23,13 +23,24 @@ use std::marker::Model;
 use std::mem;
 
 /// Accounts, entries and groups, with the balance and the held seconds of each account.
-#[derive(Drop)]
 pub struct Store {
     register: Register,
     sums: Vec<Sums>,
     postings: Vec<Posting>,
     groups: Vec<GroupState>,
     spare: usize,
+}
+
+impl Drop for Store {
+    fn drop(self) {
+        let Self {
+            register: _,
+            sums: _,
+            postings: _,
+            groups: _,
+            spare: _,
+        } = self;
+    }
 }
 
 impl Model for Store {

@@ -24,7 +24,6 @@ use std::marker::Model;
 /// from 0. `line` takes a line's place from 0; an entry names it from 1.
 ///
 /// Each call fails only for want of memory, and then the book is as before.
-#[derive(Drop)]
 pub struct Book {
     scripts: Vec<ListOf<ScriptLine>>,
     // How many lines each caller has done.
@@ -33,6 +32,19 @@ pub struct Book {
     history: Vec<EventEntry>,
     state: State,
     alloc: Global,
+}
+
+impl Drop for Book {
+    fn drop(self) {
+        let Self {
+            scripts: _,
+            done: _,
+            takes: _,
+            history: _,
+            state: _,
+            alloc: _,
+        } = self;
+    }
 }
 
 impl Model for Book {

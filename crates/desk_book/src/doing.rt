@@ -1,7 +1,4 @@
 // What one line does to a state, and what a plan that was found does.
-//
-// Great values are dropped by calls of `drop`: a way out that leaves one behind would drop it piece by piece, which the proof would
-// have to follow.
 
 ghost use Rattle.std.specs.Prelude.{◌≡◌, ◌<◌, ◌↔◌, Ok, IfOk, OnErr, IsTrue, IsSome};
 ghost use Rattle.plan_base.specs.Limits.{most_version};
@@ -68,11 +65,7 @@ pub fn apply_read(
     ensures unchanged { OnErr result (state.new ≡ state.old) }
 {
     match read {
-        Ok(command) => {
-            let reply = apply(state, &command);
-            drop(command);
-            reply
-        }
+        Ok(command) => apply(state, &command),
         Err(CommandFault::Refused(refusal)) => Ok(Reply::Refused(refusal)),
         Err(CommandFault::NoMemory) => Err(AllocError),
     }
@@ -113,22 +106,14 @@ pub fn publish_found(state: &mut State, taken: Taken, outcome: Outcome) -> Resul
     let asked = taken.snapshot.parts().version;
     let newer = state.version();
     if newer != asked {
-        drop(taken);
-        drop(outcome);
         return Ok(Reply::Refused(Refusal::Stale { asked, newer }));
     }
     match outcome {
         Outcome::Plan(claim) => {
             taken.snapshot.recall_valid();
-            if state.publish_certified(taken.snapshot, &claim).is_err() {
-                drop(claim);
-                return Err(AllocError);
-            }
+            state.publish_certified(taken.into_snapshot(), &claim)?;
             Ok(Reply::Published { claim })
         }
-        Outcome::TooManyStarts(count) => {
-            drop(taken);
-            Ok(Reply::Refused(Refusal::TooManyStarts { count }))
-        }
+        Outcome::TooManyStarts(count) => Ok(Reply::Refused(Refusal::TooManyStarts { count })),
     }
 }

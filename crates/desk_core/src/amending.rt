@@ -128,7 +128,6 @@ impl Desk {
         let known = self.network.targets();
         let new = self.enter(alloc, document, made)?;
         if let Err(fault) = self.replace(old, &new) {
-            drop(new);
             self.forget(known);
             return Err(fault);
         }

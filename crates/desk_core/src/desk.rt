@@ -1,7 +1,4 @@
 // What an opened desk keeps.
-//
-// Great values are dropped by calls of `drop`: an assignment over one, or a way out that leaves one behind, would drop it piece by
-// piece, which the proof would have to follow.
 
 ghost use Rattle.std.specs.Prelude.{◌≡◌, ◌≤◌, ◌-◌, Some, length, slice_get};
 
@@ -27,7 +24,6 @@ pub struct Opening {
 }
 
 /// What is kept of a request beside its number, its seconds and its state.
-#[derive(Drop)]
 pub struct Wanted {
     /// Where it may be observed.
     pub location: Location,
@@ -45,8 +41,21 @@ pub struct Wanted {
     pub targets: ListOf<TargetNo>,
 }
 
+impl Drop for Wanted {
+    fn drop(self) {
+        let Self {
+            location: _,
+            instrument: _,
+            threshold: _,
+            fade: _,
+            value: _,
+            windows: _,
+            targets: _,
+        } = self;
+    }
+}
+
 /// A group as it was submitted.
-#[derive(Drop)]
 pub struct Submitted {
     /// What it was submitted with.
     pub document: GroupDoc,
@@ -56,8 +65,17 @@ pub struct Submitted {
     pub requests: ListOf<Wanted>,
 }
 
+impl Drop for Submitted {
+    fn drop(self) {
+        let Self {
+            document: _,
+            charged: _,
+            requests: _,
+        } = self;
+    }
+}
+
 /// A claim that was published, and the snapshot that it was published for.
-#[derive(Drop)]
 pub struct Publication {
     /// What the desk had to plan then.
     pub snapshot: Snapshot,
@@ -65,8 +83,16 @@ pub struct Publication {
     pub claim: Claim,
 }
 
+impl Drop for Publication {
+    fn drop(self) {
+        let Self {
+            snapshot: _,
+            claim: _,
+        } = self;
+    }
+}
+
 /// An opened desk. Its groups stand twice, in one order: as they were submitted, and how far they have come.
-#[derive(Drop)]
 pub struct Desk {
     pub(crate) opening: Opening,
     pub(crate) network: Network,
@@ -74,6 +100,19 @@ pub struct Desk {
     pub(crate) submitted: Vec<Submitted>,
     pub(crate) runs: Runs,
     pub(crate) published: Option<Publication>,
+}
+
+impl Drop for Desk {
+    fn drop(self) {
+        let Self {
+            opening: _,
+            network: _,
+            ledger: _,
+            submitted: _,
+            runs: _,
+            published: _,
+        } = self;
+    }
 }
 
 impl Desk {

@@ -17,7 +17,6 @@ use desk_events::{CommandFault, Refusal, Reply};
 use desk_runs::{Observation, Request};
 use plan_base::{Claim, ListOf, Placement, RequestNo, Snapshot, Verdict};
 use std::alloc::{AllocError, Global};
-use std::mem::replace;
 
 /// What a desk keeps of a claim that it publishes.
 #[derive(Drop)]
@@ -51,14 +50,8 @@ impl Desk {
         let snapshot = self.snapshot(alloc, version)?;
         match check(alloc, &snapshot, claim) {
             Ok(Verdict::Yes { .. }) => Ok(self.publish_told(alloc, snapshot, claim)?),
-            Ok(Verdict::No(reason)) => {
-                drop(snapshot);
-                Err(Refusal::Rejected { reason }.into())
-            }
-            Err(no_memory) => {
-                drop(snapshot);
-                Err(no_memory.into())
-            }
+            Ok(Verdict::No(reason)) => Err(Refusal::Rejected { reason }.into()),
+            Err(no_memory) => Err(no_memory.into()),
         }
     }
 
@@ -77,13 +70,7 @@ impl Desk {
         ensures desk { OnOk result (seen self.new ≡ with_publication snapshot.version claim.now (seen self.old)) }
         ensures unchanged { OnErr result (seen self.new ≡ seen self.old) }
     {
-        let told = match claim.copy() {
-            Ok(told) => told,
-            Err(no_memory) => {
-                drop(snapshot);
-                return Err(no_memory);
-            }
-        };
+        let told = claim.copy()?;
         self.publish_certified(alloc, snapshot, claim)?;
         Ok(Reply::Published { claim: told })
     }
@@ -102,19 +89,13 @@ impl Desk {
         ensures desk { OnOk result (seen self.new ≡ with_publication snapshot.version claim.now (seen self.old)) }
         ensures unchanged { OnErr result (seen self.new ≡ seen self.old) }
     {
-        let Copies { observations, kept } = match self.copies_for(alloc, claim) {
-            Ok(copies) => copies,
-            Err(no_memory) => {
-                drop(snapshot);
-                return Err(no_memory);
-            }
-        };
+        let Copies { observations, kept } = self.copies_for(alloc, claim)?;
         self.runs.publish(observations);
         let publication = Publication {
             snapshot,
             claim: kept,
         };
-        drop(replace(&mut self.published, Some(publication)));
+        self.published = Some(publication);
         Ok(())
     }
 

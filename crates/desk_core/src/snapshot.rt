@@ -41,10 +41,7 @@ impl Desk {
         self.recall_small();
         let listed = self.listed(alloc)?;
         let proposals = self.proposals(alloc, listed.as_slice())?;
-        let made = self.group_parts(alloc, &proposals, listed.as_slice());
-        let count = proposals.len();
-        drop(proposals);
-        let groups = made?;
+        let groups = self.group_parts(alloc, &proposals, listed.as_slice())?;
         let targets = targets_in(alloc, groups.as_slice())?;
         let horizon = self.horizon(alloc)?;
         Ok(Parts {
@@ -55,7 +52,7 @@ impl Desk {
             telescopes: self.telescope_parts(alloc, &horizon)?,
             skies: self.skies(alloc, &horizon, targets.as_slice())?,
             groups,
-            quotas: self.quotas(alloc, count)?,
+            quotas: self.quotas(alloc, proposals.len())?,
         })
     }
 

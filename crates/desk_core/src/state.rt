@@ -22,14 +22,22 @@ use plan_base::{Claim, Sec, Settings, Snapshot};
 use site_model::Network;
 use std::alloc::{AllocError, Global};
 use std::marker::Model;
-use std::mem::replace;
 
 /// The state of a desk. A command costs what it touches, never the length of what came before.
-#[derive(Drop)]
 pub struct State {
     version: u64,
     desk: Option<Desk>,
     alloc: Global,
+}
+
+impl Drop for State {
+    fn drop(self) {
+        let Self {
+            version: _,
+            desk: _,
+            alloc: _,
+        } = self;
+    }
 }
 
 impl Model for State {
@@ -203,7 +211,7 @@ impl State {
         ensures unchanged { OnErr result (self.new ≡ self.old) }
     {
         let desk = new_desk(self.alloc, opening, now)?;
-        drop(replace(&mut self.desk, Some(desk)));
+        self.desk = Some(desk);
         self.version += 1;
         Ok(())
     }

@@ -326,7 +326,6 @@ impl Desk {
         let new = self.enter(alloc, document, made)?;
         let charged = new.submitted.charged;
         if let Err(fault) = self.ledger.hold(new.number, new.holds.as_slice(), charged) {
-            drop(new);
             self.forget(known);
             return Err(CommandFault::from(fault));
         }

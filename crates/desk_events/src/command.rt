@@ -7,7 +7,6 @@ use site_model::Scope;
 
 /// What a line asks for, by the word of its member `do`, with the members that stand after it. Texts have 1 to 128
 /// bytes; a list of spans has at most 512, each with its first second before its end.
-#[derive(Drop)]
 pub enum Command {
     /// `open`: the desk is opened.
     Open {
@@ -123,4 +122,64 @@ pub enum Command {
     Show {
         group_number: GroupNo,
     },
+}
+
+impl Drop for Command {
+    fn drop(self) {
+        match self {
+            Self::Open {
+                now: _,
+                slice: _,
+                horizon: _,
+                semester: _,
+                lanes: _,
+                rounds: _,
+                workers: _,
+                quota: _,
+            } => {}
+            Self::Instrument {
+                name: _,
+                front_ms: _,
+                config_ms: _,
+                readout_ms: _,
+                change_ms: _,
+            } => {}
+            Self::Telescope {
+                site: _,
+                enclosure: _,
+                telescope: _,
+                class: _,
+                instruments: _,
+            } => {}
+            Self::Night { site: _, spans: _ } => {}
+            Self::Visibility {
+                target: _,
+                site: _,
+                spans: _,
+            } => {}
+            Self::Close { scope: _, spans: _ } => {}
+            Self::Reopen { scope: _, spans: _ } => {}
+            Self::Grant { key: _, seconds: _ } => {}
+            Self::Submit { group: _ } => {}
+            Self::Amend {
+                group_number: _,
+                group: _,
+            } => {}
+            Self::Withdraw { group_number: _ } => {}
+            Self::Clock { at: _ } => {}
+            Self::Report {
+                request: _,
+                percent: _,
+                used: _,
+            } => {}
+            Self::Plan => {}
+            Self::Publish {
+                version: _,
+                claim: _,
+            } => {}
+            Self::Export => {}
+            Self::Balances => {}
+            Self::Show { group_number: _ } => {}
+        }
+    }
 }

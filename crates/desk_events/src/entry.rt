@@ -14,7 +14,6 @@ pub enum What {
 }
 
 /// One entry of a history.
-#[derive(Drop)]
 pub struct EventEntry {
     /// Who sent the line, 0 to 7.
     pub caller: u8,
@@ -24,4 +23,16 @@ pub struct EventEntry {
     /// How many entries before it changed the desk.
     pub version: u64,
     pub reply: Reply,
+}
+
+impl Drop for EventEntry {
+    fn drop(self) {
+        let Self {
+            caller: _,
+            line: _,
+            what: _,
+            version: _,
+            reply: _,
+        } = self;
+    }
 }

@@ -14,7 +14,6 @@ pub struct GroupRefund {
 }
 
 /// What a time account has.
-#[derive(Drop)]
 pub struct AccountBalance {
     /// The members `proposal`, `account` and `instrument_type`.
     pub key: Key,
@@ -22,6 +21,16 @@ pub struct AccountBalance {
     pub balance: u64,
     /// The seconds of these that no open group holds.
     pub available: u64,
+}
+
+impl Drop for AccountBalance {
+    fn drop(self) {
+        let Self {
+            key: _,
+            balance: _,
+            available: _,
+        } = self;
+    }
 }
 
 /// How far a request has come.
@@ -33,7 +42,6 @@ pub struct MemberState {
 
 /// What is replied to a line, by the word of the member `ok`, with the further members. Lists of request numbers rise,
 /// and so do the groups of a list of refunds.
-#[derive(Drop)]
 pub enum Reply {
     /// `opened`
     Opened,
@@ -129,4 +137,60 @@ pub enum Reply {
     },
     /// The line is refused, and the desk is as before.
     Refused(Refusal),
+}
+
+impl Drop for Reply {
+    fn drop(self) {
+        match self {
+            Self::Opened => {}
+            Self::Instrument => {}
+            Self::Telescope { telescope: _ } => {}
+            Self::Night => {}
+            Self::Visibility => {}
+            Self::Closed => {}
+            Self::Reopened => {}
+            Self::Granted { balance: _ } => {}
+            Self::Submitted {
+                group: _,
+                ipp_charged: _,
+                requests: _,
+            } => {}
+            Self::Amended {
+                group: _,
+                ipp_charged: _,
+                refunded: _,
+                replaces: _,
+                requests: _,
+            } => {}
+            Self::Withdrawn { refunded: _ } => {}
+            Self::Clocked {
+                expired: _,
+                failed: _,
+                refunded: _,
+                started: _,
+            } => {}
+            Self::Completed {
+                canceled: _,
+                charged: _,
+            } => {}
+            Self::Failed {
+                expired: _,
+                refunded: _,
+            } => {}
+            Self::Taken => {}
+            Self::Published { claim: _ } => {}
+            Self::Exported {
+                claim: _,
+                snapshot: _,
+            } => {}
+            Self::Balances { balances: _ } => {}
+            Self::Shown {
+                document: _,
+                group: _,
+                requests: _,
+                state: _,
+            } => {}
+            Self::Refused(_) => {}
+        }
+    }
 }

@@ -76,11 +76,7 @@ impl<S: Sending> Held<S> {
     ) -> Result<(), AllocError> {
         let caller = solved.taken().caller;
         match self.book.publish(solved)? {
-            PublishStep::Replied(entry) => {
-                drop(entry);
-                Ok(())
-            }
-            PublishStep::NotTaken => Ok(()),
+            PublishStep::Replied(_) | PublishStep::NotTaken => Ok(()),
             PublishStep::OtherTake => self.publish_kept(rt, alloc, caller),
         }
     }

@@ -26,8 +26,7 @@ fn publish<R: Threads + Sync>(
     ensures err { OnErr result (book.new ≡ book.old) }
 {
     let solved = solve_plan(rt, alloc, taken, &NoGate)?;
-    let step = book.publish(solved)?;
-    drop(step);
+    let _ = book.publish(solved)?;
     Ok(())
 }
 
@@ -124,11 +123,6 @@ pub fn finish<S: Sending, R: Threads + Sync>(
     ensures over { IfOk result (λ book. (caller : ℕ) → IsOver book caller) }
 {
     let mut book = desk.into_book();
-    match finish_all(rt, alloc, &mut book) {
-        Ok(()) => Ok(book),
-        Err(error) => {
-            drop(book);
-            Err(error)
-        }
-    }
+    finish_all(rt, alloc, &mut book)?;
+    Ok(book)
 }

@@ -32,7 +32,6 @@ pub struct Request {
 }
 
 /// A request group.
-#[derive(Drop)]
 pub struct Group {
     /// From 1 on, in the order in which groups are added.
     pub number: GroupNo,
@@ -40,6 +39,16 @@ pub struct Group {
     pub op: Op,
     /// Its requests, in rising order.
     pub requests: ListOf<Request>,
+}
+
+impl Drop for Group {
+    fn drop(self) {
+        let Self {
+            number: _,
+            op: _,
+            requests: _,
+        } = self;
+    }
 }
 
 impl Request {

@@ -32,7 +32,6 @@ use std::marker::Model;
 /// that are running, at a moment. Groups and requests are found by number at once, and closed groups aren't looked at again;
 /// a moment, and `make`, go over all groups that are open, and each change copies the observations. What changes is first
 /// looked for, by calls that may find no memory, and then made by `make`, which takes none.
-#[derive(Drop)]
 pub struct Runs {
     len: u32,
     moment: Sec,
@@ -46,6 +45,22 @@ pub struct Runs {
     kept: ListOf<Observation>,
     running: ListOf<Observation>,
     alloc: Global,
+}
+
+impl Drop for Runs {
+    fn drop(self) {
+        let Self {
+            len: _,
+            moment: _,
+            groups: _,
+            owners: _,
+            opened: _,
+            pending: _,
+            kept: _,
+            running: _,
+            alloc: _,
+        } = self;
+    }
 }
 
 impl Model for Runs {

@@ -15,9 +15,14 @@ pub enum Forced {
 }
 
 /// Placements of a claim that stand in the way of a request, in the claim's order. Contracts see them as a list.
-#[derive(Drop)]
 pub struct Blocking {
     pub(crate) placements: ListOf<Placement>,
+}
+
+impl Drop for Blocking {
+    fn drop(self) {
+        let Self { placements: _ } = self;
+    }
 }
 
 impl Model for Blocking {
@@ -46,7 +51,6 @@ impl Blocking {
 }
 
 /// A request that a claim leaves out.
-#[derive(Drop)]
 pub struct Left {
     pub request: RequestNo,
     /// How many possible starts it has.
@@ -56,10 +60,26 @@ pub struct Left {
     pub forced: Forced,
 }
 
+impl Drop for Left {
+    fn drop(self) {
+        let Self {
+            request: _,
+            starts: _,
+            blocking: _,
+            forced: _,
+        } = self;
+    }
+}
+
 /// The requests that a claim leaves out, in the snapshot's order. Contracts see them as a list.
-#[derive(Drop)]
 pub struct Explanation {
     pub(crate) lefts: ListOf<Left>,
+}
+
+impl Drop for Explanation {
+    fn drop(self) {
+        let Self { lefts: _ } = self;
+    }
 }
 
 impl Model for Explanation {

@@ -11,12 +11,17 @@ use plan_base::{Prices, Snapshot, TelescopeNo, repeated};
 use std::alloc::{AllocError, Global};
 
 /// The bests of a telescope. Each table has a number for each slice of the horizon, and one for its end.
-#[derive(Drop)]
 pub(crate) struct Chart {
     /// What ends by each slice.
     pub until: Vec<i64>,
     /// What begins at each slice or later.
     pub after: Vec<i64>,
+}
+
+impl Drop for Chart {
+    fn drop(self) {
+        let Self { until: _, after: _ } = self;
+    }
 }
 
 /// The chart of a telescope: one pass forward over its starts, and one backward. Fails only for want of memory.

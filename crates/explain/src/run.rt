@@ -47,11 +47,7 @@ impl Answers for Explain {
 
     fn answer(&self, alloc: Global, input: &[u8]) -> Result<Answer, AllocError> {
         match read_bytes(alloc, input) {
-            Ok(publication) => {
-                let answer = answer_to(alloc, input, &publication);
-                drop(publication);
-                answer
-            }
+            Ok(publication) => answer_to(alloc, input, &publication),
             Err(DocFault::NoMemory) => Err(AllocError),
             Err(fault) => answer_line(alloc, &fault, Said::NoDocument),
         }

@@ -16,13 +16,22 @@ use plan_base::{GroupPart, Op, Snapshot};
 use std::alloc::Global;
 
 /// The trees of a snapshot. Each group of the snapshot is a `SINGLE`, and each request is a leaf exactly once.
-#[derive(Drop)]
 pub struct Forest<'a> {
     snapshot: &'a Snapshot,
     trees: Vec<Tree>,
     /// For each tree the places of its leaves' requests among all, in the order of its leaves.
     places: Vec<Vec<usize>>,
     ghost sound: { IsForest snapshot.now (trees_seen trees.items) },
+}
+
+impl Drop for Forest<'_> {
+    fn drop(self) {
+        let Self {
+            snapshot: _,
+            trees: _,
+            places: _,
+        } = self;
+    }
 }
 
 impl<'a> Forest<'a> {

@@ -13,12 +13,17 @@ use plan_base::{RequestNo, Snapshot, repeated};
 use std::alloc::{AllocError, Global};
 
 /// What is told of leaves while they are counted.
-#[derive(Drop)]
 pub(crate) struct Tally {
     /// For each request, whether it was a leaf.
     flags: Vec<bool>,
     /// The least number that was a leaf and is no request, or was a leaf twice.
     wrong: Option<RequestNo>,
+}
+
+impl Drop for Tally {
+    fn drop(self) {
+        let Self { flags: _, wrong: _ } = self;
+    }
 }
 
 /// The least number that is a leaf and no request, or a request that isn't a leaf exactly once. Fails only for want of

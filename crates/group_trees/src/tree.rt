@@ -6,7 +6,6 @@ use plan_base::RequestNo;
 pub type Children = Vec<Tree>;
 
 /// Which requests may be placed together.
-#[derive(Drop)]
 pub enum Tree {
     /// One request.
     Leaf(RequestNo),
@@ -16,4 +15,15 @@ pub enum Tree {
     OneOf(Children),
     /// Something of each of the parts, or nothing.
     And(Children),
+}
+
+impl Drop for Tree {
+    fn drop(self) {
+        match self {
+            Self::Leaf(_) => {}
+            Self::Many(_) => {}
+            Self::OneOf(_) => {}
+            Self::And(_) => {}
+        }
+    }
 }

@@ -19,9 +19,14 @@ pub(crate) struct Note {
 
 /// The places of a snapshot's requests among all. Of the requests whose numbers have the same remainder by 4,096 one is
 /// noted, and found at once; the others are looked for by halves.
-#[derive(Drop)]
 pub struct Places {
     noted: Vec<Option<Note>>,
+}
+
+impl Drop for Places {
+    fn drop(self) {
+        let Self { noted: _ } = self;
+    }
 }
 
 impl Places {

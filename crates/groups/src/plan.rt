@@ -18,12 +18,22 @@ use std::marker::Model;
 
 /// A plan for a snapshot that is built placement by placement. At any time it is feasible, but that of an AND some
 /// requests may be placed and others not yet. Contracts see the snapshot's parts and the placements in their order.
-#[derive(Drop)]
 pub struct PlanBuild<'a> {
     snapshot: &'a Snapshot,
     placements: Vec<Placement>,
     tables: Tables,
     places: Places,
+}
+
+impl Drop for PlanBuild<'_> {
+    fn drop(self) {
+        let Self {
+            snapshot: _,
+            placements: _,
+            tables: _,
+            places: _,
+        } = self;
+    }
 }
 
 impl<'a> Model for PlanBuild<'a> {

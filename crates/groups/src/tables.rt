@@ -11,7 +11,6 @@ use plan_base::{Op, Snapshot};
 use std::alloc::{AllocError, Global};
 
 /// What placements take up.
-#[derive(Drop)]
 pub(crate) struct Tables {
     /// Whether each slot is occupied.
     pub occupied: Vec<bool>,
@@ -21,6 +20,17 @@ pub(crate) struct Tables {
     pub members: Vec<u32>,
     /// The seconds that are placed of each quota.
     pub seconds: Vec<u64>,
+}
+
+impl Drop for Tables {
+    fn drop(self) {
+        let Self {
+            occupied: _,
+            placed: _,
+            members: _,
+            seconds: _,
+        } = self;
+    }
 }
 
 impl Tables {

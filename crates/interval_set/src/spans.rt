@@ -10,9 +10,14 @@ use std::alloc::{AllocError, Global};
 use std::marker::Model;
 
 /// A set of seconds. Contracts see its list of spans, sorted with gaps between them, of which each set has one.
-#[derive(Drop)]
 pub struct Spans {
     items: Vec<Span>,
+}
+
+impl Drop for Spans {
+    fn drop(self) {
+        let Self { items: _ } = self;
+    }
 }
 
 impl Model for Spans {

@@ -8,12 +8,20 @@ use std::alloc::{AllocError, Global};
 use std::marker::Model;
 
 /// Rows of starts. Contracts see the list of the rows.
-#[derive(Drop)]
 pub(crate) struct RowList {
     /// The starts of all rows, one row after another.
     starts: Vec<Start>,
     /// Where each row begins, and where the last one ends.
     bounds: Vec<usize>,
+}
+
+impl Drop for RowList {
+    fn drop(self) {
+        let Self {
+            starts: _,
+            bounds: _,
+        } = self;
+    }
 }
 
 impl Model for RowList {

@@ -15,11 +15,20 @@ use std::marker::Model;
 
 /// The possible starts of one telescope by slice, with what each is worth. They depend on no price: they are made once
 /// for a snapshot and lent to all that seek bests at prices. Contracts see the snapshot's parts and the telescope.
-#[derive(Drop)]
 pub struct Rows<'a> {
     pub(crate) snapshot: &'a Snapshot,
     pub(crate) telescope: TelescopeNo,
     pub(crate) starts: StartRows,
+}
+
+impl Drop for Rows<'_> {
+    fn drop(self) {
+        let Self {
+            snapshot: _,
+            telescope: _,
+            starts: _,
+        } = self;
+    }
 }
 
 impl<'a> Model for Rows<'a> {

@@ -23,12 +23,22 @@ use std::marker::Model;
 
 /// One telescope of a snapshot, with what it takes to find its best at any prices. Contracts see the snapshot's parts,
 /// the telescope and what it starts at the last prices.
-#[derive(Drop)]
 pub struct Solver<'a> {
     rows: Rows<'a>,
     prices: Vec<[i64; 1]>,
     table: Vec<[i64; 1]>,
     uses: Uses<'a>,
+}
+
+impl Drop for Solver<'_> {
+    fn drop(self) {
+        let Self {
+            rows: _,
+            prices: _,
+            table: _,
+            uses: _,
+        } = self;
+    }
 }
 
 impl<'a> Model for Solver<'a> {

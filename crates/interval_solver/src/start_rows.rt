@@ -11,7 +11,6 @@ use std::marker::Model;
 
 /// Rows of starts, where one start may stand for the same at each slice of a block of four. Contracts see the list of
 /// the rows.
-#[derive(Drop)]
 pub(crate) struct StartRows {
     /// All starts.
     pub(crate) all: RowList,
@@ -19,6 +18,16 @@ pub(crate) struct StartRows {
     pub(crate) wholes: RowList,
     /// The other starts.
     pub(crate) singles: RowList,
+}
+
+impl Drop for StartRows {
+    fn drop(self) {
+        let Self {
+            all: _,
+            wholes: _,
+            singles: _,
+        } = self;
+    }
 }
 
 impl Model for StartRows {

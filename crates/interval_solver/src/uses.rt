@@ -11,7 +11,6 @@ use std::marker::Model;
 
 /// What telescopes of a snapshot start, and how often they start each request. Contracts see the snapshot's parts, the
 /// starts, and for how many there is room.
-#[derive(Drop)]
 pub struct Uses<'a> {
     snapshot: &'a Snapshot,
     starts: Vec<Placement>,
@@ -19,6 +18,17 @@ pub struct Uses<'a> {
     places: Vec<u32>,
     /// How often the request at each place is started.
     counts: Vec<u32>,
+}
+
+impl Drop for Uses<'_> {
+    fn drop(self) {
+        let Self {
+            snapshot: _,
+            starts: _,
+            places: _,
+            counts: _,
+        } = self;
+    }
 }
 
 impl<'a> Model for Uses<'a> {

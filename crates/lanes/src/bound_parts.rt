@@ -15,12 +15,22 @@ use prices::{lagrangian, zero_prices};
 use std::alloc::{AllocError, Global};
 
 /// The parts of a bound, and net prices, for one lane after another.
-#[derive(Drop)]
 pub(crate) struct BoundParts {
     pub(crate) net: Prices,
     pub(crate) bests: Vec<i64>,
     rebates: Vec<i64>,
     quotas: Vec<i64>,
+}
+
+impl Drop for BoundParts {
+    fn drop(self) {
+        let Self {
+            net: _,
+            bests: _,
+            rebates: _,
+            quotas: _,
+        } = self;
+    }
 }
 
 impl BoundParts {

@@ -14,7 +14,6 @@ use std::marker::Model;
 
 /// The least bound of rounds with the prices that first gave it, and the greatest value with the plan that first had it.
 /// Before a round the bound is the greatest `u64`, and the value that which plans have to pass.
-#[derive(Drop)]
 pub(crate) struct Found {
     bound: u64,
     prices: Prices,
@@ -22,6 +21,18 @@ pub(crate) struct Found {
     value: u64,
     /// It has room for all requests of a snapshot.
     plan: Vec<Placement>,
+}
+
+impl Drop for Found {
+    fn drop(self) {
+        let Self {
+            bound: _,
+            prices: _,
+            quota_prices: _,
+            value: _,
+            plan: _,
+        } = self;
+    }
 }
 
 impl Model for Found {

@@ -14,7 +14,6 @@ use prices::{advance, step_of, zero_prices, zero_quota_prices};
 use std::alloc::{AllocError, Global};
 
 /// The prices of a lane's next round.
-#[derive(Drop)]
 pub(crate) struct LanePrices {
     /// The lane, below 8.
     pub(crate) lane: u32,
@@ -22,6 +21,17 @@ pub(crate) struct LanePrices {
     pub(crate) made: u32,
     pub(crate) prices: Prices,
     pub(crate) quota_prices: QuotaPrices,
+}
+
+impl Drop for LanePrices {
+    fn drop(self) {
+        let Self {
+            lane: _,
+            made: _,
+            prices: _,
+            quota_prices: _,
+        } = self;
+    }
 }
 
 impl LanePrices {

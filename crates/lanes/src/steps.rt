@@ -28,7 +28,6 @@ pub struct RoundAnswer {
 
 /// `L` lanes of a snapshot, whose telescopes are solved together, with all memory that rounds need. Contracts see the
 /// snapshot's parts, the prices of each lane, what was found when they were solved last, and the plan of the last answer.
-#[derive(Drop)]
 pub(crate) struct Steps<'a, const L: usize> {
     snapshot: &'a Snapshot,
     rows: &'a [Rows<'a>],
@@ -44,6 +43,23 @@ pub(crate) struct Steps<'a, const L: usize> {
     bound_parts: BoundParts,
     repairer: Repairer<'a>,
     greatest_value: u32,
+}
+
+impl<const L: usize> Drop for Steps<'_, L> {
+    fn drop(self) {
+        let Self {
+            snapshot: _,
+            rows: _,
+            lanes: _,
+            prices: _,
+            table: _,
+            bests: _,
+            uses: _,
+            bound_parts: _,
+            repairer: _,
+            greatest_value: _,
+        } = self;
+    }
 }
 
 impl<'a, const L: usize> Model for Steps<'a, L> {

@@ -14,7 +14,6 @@ use plan_base::{ListOf, Parts, Prices, RequestNo, Snapshot, TelescopeNo};
 use std::alloc::{AllocError, Global};
 
 /// A request, what it offers at a price, and where it may start.
-#[derive(Drop)]
 pub struct Openings {
     pub request: RequestNo,
     /// What it takes, and what it is worth beyond its price.
@@ -22,6 +21,16 @@ pub struct Openings {
     /// A row for each telescope, with a flag for each slice of the horizon that says whether the request may start
     /// there. A flag that a row lacks isn't set.
     pub rows: Vec<ListOf<bool>>,
+}
+
+impl Drop for Openings {
+    fn drop(self) {
+        let Self {
+            request: _,
+            offer: _,
+            rows: _,
+        } = self;
+    }
 }
 
 /// The openings of a request that the snapshot has, at prices that there is one of for each request, from -10^12 to 10^12.

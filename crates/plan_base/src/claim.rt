@@ -26,7 +26,7 @@ pub struct QuotaPrices(pub ListOf<u32>);
 /// A plan with the value that it is said to have, and prices with the bound that they are said to give (the Lagrangian
 /// dual bound of the model of Lampoudi, Saunders and Eastman 2015). It is certified where that is so: then no feasible
 /// plan is worth more than the bound.
-#[derive(Clone, Drop)]
+#[derive(Clone)]
 pub struct Claim {
     /// The plan, in any order.
     pub placements: ListOf<Placement>,
@@ -36,6 +36,18 @@ pub struct Claim {
     pub value: u64,
     /// What no feasible plan is said to be worth more than: 0 to 10^17 in a document.
     pub bound: u64,
+}
+
+impl Drop for Claim {
+    fn drop(self) {
+        let Self {
+            placements: _,
+            prices: _,
+            quota_prices: _,
+            value: _,
+            bound: _,
+        } = self;
+    }
 }
 
 /// How a plan is sought.

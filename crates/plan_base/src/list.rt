@@ -15,9 +15,14 @@ pub fn repeated<T: Copy + Drop>(alloc: Global, item: T, count: usize) -> Result<
 }
 
 /// A list, which contracts see as one.
-#[derive(Drop)]
 pub struct ListOf<T> {
     items: Vec<T>,
+}
+
+impl<T: Drop> Drop for ListOf<T> {
+    fn drop(self) {
+        let Self { items: _ } = self;
+    }
 }
 
 impl<T> Model for ListOf<T> {

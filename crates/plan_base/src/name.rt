@@ -19,9 +19,14 @@ const NAME_BYTES: usize = 128;
 
 /// A text of 0 to 128 bytes of UTF-8: a proposal, a site, a code, an instrument type or a target. Contracts see its
 /// bytes, and order and equality are those of the bytes.
-#[derive(Drop)]
 pub struct Name {
     text: String,
+}
+
+impl Drop for Name {
+    fn drop(self) {
+        let Self { text: _ } = self;
+    }
 }
 
 impl Model for Name {

@@ -21,15 +21,21 @@ pub enum Op {
 }
 
 /// A telescope; its number is its place in the snapshot's list.
-#[derive(Clone, Drop, PartialEq, Eq)]
+#[derive(Clone, PartialEq, Eq)]
 pub struct TelescopePart {
     pub site: SiteNo,
     /// When it can observe, sorted with gaps between the spans.
     pub usable: ListOf<Span>,
 }
 
+impl Drop for TelescopePart {
+    fn drop(self) {
+        let Self { site: _, usable: _ } = self;
+    }
+}
+
 /// When a target can be observed from a site.
-#[derive(Clone, Drop, PartialEq, Eq)]
+#[derive(Clone, PartialEq, Eq)]
 pub struct Sky {
     /// What is observed, by its number of the desk.
     pub target: TargetNo,
@@ -39,8 +45,18 @@ pub struct Sky {
     pub spans: ListOf<Span>,
 }
 
+impl Drop for Sky {
+    fn drop(self) {
+        let Self {
+            target: _,
+            site: _,
+            spans: _,
+        } = self;
+    }
+}
+
 /// An observation that is asked for.
-#[derive(Clone, Drop, PartialEq, Eq)]
+#[derive(Clone, PartialEq, Eq)]
 pub struct RequestPart {
     pub request: RequestNo,
     /// How long it takes, 1 to 86,400 seconds.
@@ -57,8 +73,22 @@ pub struct RequestPart {
     pub fade: u16,
 }
 
+impl Drop for RequestPart {
+    fn drop(self) {
+        let Self {
+            request: _,
+            seconds: _,
+            value: _,
+            windows: _,
+            telescopes: _,
+            targets: _,
+            fade: _,
+        } = self;
+    }
+}
+
 /// A request group.
-#[derive(Drop, PartialEq, Eq)]
+#[derive(PartialEq, Eq)]
 pub struct GroupPart {
     /// Its number of the desk; numbers rise through the snapshot's list.
     pub group: GroupNo,
@@ -67,6 +97,17 @@ pub struct GroupPart {
     pub requests: ListOf<RequestPart>,
     /// The place in the snapshot's list of quotas of the one that the group counts towards, if there is one.
     pub quota: Option<u16>,
+}
+
+impl Drop for GroupPart {
+    fn drop(self) {
+        let Self {
+            group: _,
+            op: _,
+            requests: _,
+            quota: _,
+        } = self;
+    }
 }
 
 // By hand, since a derived one says too little for a list of groups to be known as equal.
@@ -84,7 +125,7 @@ impl Clone for GroupPart {
 }
 
 /// The parts of a snapshot. Requests are counted through the list of groups.
-#[derive(Clone, Drop, PartialEq, Eq)]
+#[derive(Clone, PartialEq, Eq)]
 pub struct Parts {
     /// How many changes the desk had accepted, 0 to 524,288.
     pub version: u64,
@@ -102,4 +143,19 @@ pub struct Parts {
     pub groups: ListOf<GroupPart>,
     /// The most seconds, 0 to 100,000,000, that a plan may place of the groups that name each quota.
     pub quotas: ListOf<u64>,
+}
+
+impl Drop for Parts {
+    fn drop(self) {
+        let Self {
+            version: _,
+            len: _,
+            first: _,
+            slices: _,
+            telescopes: _,
+            skies: _,
+            groups: _,
+            quotas: _,
+        } = self;
+    }
 }

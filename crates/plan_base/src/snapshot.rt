@@ -16,10 +16,15 @@ use std::alloc::{AllocError, Global};
 use std::marker::Model;
 
 /// What one desk has to plan at one version. Contracts see its parts.
-#[derive(Drop)]
 pub struct Snapshot {
     parts: Parts,
     rows: Vec<Row>,
+}
+
+impl Drop for Snapshot {
+    fn drop(self) {
+        let Self { parts: _, rows: _ } = self;
+    }
 }
 
 impl Model for Snapshot {

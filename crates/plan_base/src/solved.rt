@@ -8,10 +8,18 @@ use std::marker::Model;
 
 /// What was taken from a desk, and the claim that is planned for its snapshot and its settings, where it has at most
 /// 1,048,576 possible starts, or else their exact number. Contracts see both.
-#[derive(Drop)]
 pub struct Solved {
     taken: Taken,
     outcome: Outcome,
+}
+
+impl Drop for Solved {
+    fn drop(self) {
+        let Self {
+            taken: _,
+            outcome: _,
+        } = self;
+    }
 }
 
 impl Model for Solved {

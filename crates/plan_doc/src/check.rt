@@ -32,9 +32,7 @@ fn judge(alloc: Global, bytes: &[u8]) -> Result<Verdict, DocFault>
     ensures fault { IfErr result (λ e. e ≢ doc.NoMemory → publication_of_bytes bytes.now ≡ Err e) }
 {
     let publication = read_bytes(alloc, bytes)?;
-    let verdict = check(alloc, &publication.snapshot, &publication.claim);
-    drop(publication);
-    Ok(verdict?)
+    Ok(check(alloc, &publication.snapshot, &publication.claim)?)
 }
 
 /// What the verdict says of a document.

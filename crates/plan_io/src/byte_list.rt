@@ -4,9 +4,14 @@ ghost use Rattle.std.specs.Prelude.{◌≡◌, ◌==◌, length};
 use std::marker::Model;
 
 /// Bytes in memory.
-#[derive(Drop)]
 pub struct ByteList {
     items: Vec<u8>,
+}
+
+impl Drop for ByteList {
+    fn drop(self) {
+        let Self { items: _ } = self;
+    }
 }
 
 impl Model for ByteList {
@@ -51,6 +56,7 @@ impl ByteList {
     pub fn into_vec(self) -> Vec<u8>
         ensures { result.items ≡ self }
     {
-        self.items
+        let Self { items } = self;
+        items
     }
 }

@@ -24,12 +24,22 @@ fn find_newline(bytes: &[u8], from: usize) -> usize
 
 /// Bytes in memory, taken from the front and added at the back. What was searched for a newline isn't searched
 /// again, and a byte is moved to the front at most once for each line before it.
-#[derive(Drop)]
 pub(crate) struct Held {
     bytes: Vec<u8>,
     spare: Vec<u8>,
     start: usize,
     scanned: usize,
+}
+
+impl Drop for Held {
+    fn drop(self) {
+        let Self {
+            bytes: _,
+            spare: _,
+            start: _,
+            scanned: _,
+        } = self;
+    }
 }
 
 impl Model for Held {

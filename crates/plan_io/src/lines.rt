@@ -50,7 +50,6 @@ enum Turn {
 /// It reads by blocks, and asks for a byte beyond the limit only where no whole line is left. After `End`,
 /// `ReadFault` or `InputOver` it answers the same in every later call, and reads no more. Where memory is
 /// wanting no byte is lost, and the call may be made again.
-#[derive(Drop)]
 pub struct Lines {
     alloc: Global,
     held: Held,
@@ -62,6 +61,23 @@ pub struct Lines {
     most_lines: u64,
     failed: bool,
     ended: bool,
+}
+
+impl Drop for Lines {
+    fn drop(self) {
+        let Self {
+            alloc: _,
+            held: _,
+            room: _,
+            long: _,
+            taken: _,
+            answered: _,
+            most_bytes: _,
+            most_lines: _,
+            failed: _,
+            ended: _,
+        } = self;
+    }
 }
 
 impl Model for Lines {

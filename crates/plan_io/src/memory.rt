@@ -13,11 +13,20 @@ use std::marker::Model;
 
 /// A source over bytes in memory that gives at most `most` bytes a call, and fails the calls whose numbers, from
 /// 0, are listed.
-#[derive(Drop)]
 pub struct MemSource {
     unread: Unread,
     most: usize,
     calls: Calls,
+}
+
+impl Drop for MemSource {
+    fn drop(self) {
+        let Self {
+            unread: _,
+            most: _,
+            calls: _,
+        } = self;
+    }
 }
 
 impl Model for MemSource {
@@ -70,11 +79,20 @@ impl Source for MemSource {
 
 /// A sink in memory that takes at most `most` bytes a call, and fails the calls whose numbers, from 0, are listed
 /// and those for which it has no room left.
-#[derive(Drop)]
 pub struct MemSink {
     kept: Kept,
     most: usize,
     calls: Calls,
+}
+
+impl Drop for MemSink {
+    fn drop(self) {
+        let Self {
+            kept: _,
+            most: _,
+            calls: _,
+        } = self;
+    }
 }
 
 impl Model for MemSink {

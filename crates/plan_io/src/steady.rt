@@ -11,9 +11,14 @@ use std::alloc::{AllocError, Global};
 use std::marker::Model;
 
 /// A source over bytes in memory that never fails. Contracts see it as the bytes that are left.
-#[derive(Drop)]
 pub struct SteadySource {
     unread: Unread,
+}
+
+impl Drop for SteadySource {
+    fn drop(self) {
+        let Self { unread: _ } = self;
+    }
 }
 
 impl Model for SteadySource {
@@ -51,10 +56,15 @@ impl Source for SteadySource {
 
 /// A sink in memory that never fails. It keeps the first `room` bytes, and takes and drops those after them.
 /// It tells what was written as long as it has dropped none.
-#[derive(Drop)]
 pub struct SteadySink {
     kept: Kept,
     over: bool,
+}
+
+impl Drop for SteadySink {
+    fn drop(self) {
+        let Self { kept: _, over: _ } = self;
+    }
 }
 
 impl Model for SteadySink {

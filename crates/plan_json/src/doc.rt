@@ -28,9 +28,14 @@ const SPANS: u32 = 512;
 
 /// A JSON object: a whole document, which owns what was read, or an object inside one, read in place. A member with
 /// the value `null` counts as absent; where a name stands twice in the text, its last value is read.
-#[derive(Drop)]
 pub struct Doc<'a> {
     object: Object<'a>,
+}
+
+impl Drop for Doc<'_> {
+    fn drop(self) {
+        let Self { object: _ } = self;
+    }
 }
 
 #[derive(Drop)]

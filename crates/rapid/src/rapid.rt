@@ -15,13 +15,11 @@ use bound_checker::check;
 use plan_base::{Claim, GroupPart, ListOf, Reason, RequestNo, Snapshot, Verdict};
 use std::alloc::{AllocError, Global};
 use std::marker::Model;
-use std::mem::replace;
 
 /// A snapshot with a claim that is certified for it. Groups of one request are inserted one after another, and the claim
 /// stays certified, its bound that of its prices. What each telescope gives from each slice on is kept, and an insertion makes
 /// it anew only where a start of its request gives more. Contracts see the snapshot, the claim, and the requests that the
 /// last insertion displaced.
-#[derive(Drop)]
 pub struct Rapid {
     snapshot: Snapshot,
     claim: Claim,
@@ -29,6 +27,18 @@ pub struct Rapid {
     tables: ListOf<ListOf<i64>>,
     displaced: ListOf<RequestNo>,
     alloc: Global,
+}
+
+impl Drop for Rapid {
+    fn drop(self) {
+        let Self {
+            snapshot: _,
+            claim: _,
+            tables: _,
+            displaced: _,
+            alloc: _,
+        } = self;
+    }
 }
 
 impl Model for Rapid {
@@ -91,11 +101,10 @@ impl Rapid {
     {
         let tables = self.tables.as_slice();
         let made = make(self.alloc, &self.snapshot, &self.claim, tables, group)?;
-        // A call drops what stood there. An assignment would drop it here, piece by piece, which the proof would have to follow.
-        drop(replace(&mut self.snapshot, made.snapshot));
-        drop(replace(&mut self.claim, made.priced.claim));
-        drop(replace(&mut self.tables, made.priced.tables));
-        drop(replace(&mut self.displaced, made.priced.displaced));
+        self.snapshot = made.snapshot;
+        self.claim = made.priced.claim;
+        self.tables = made.priced.tables;
+        self.displaced = made.priced.displaced;
         Ok(made.priced.inserted)
     }
 

@@ -100,9 +100,7 @@ fn answer_to(alloc: Global, document: &RapidDocument) -> Result<Answer, AllocErr
     let claim = publication.claim.copy()?;
     match Rapid::new(alloc, &publication.snapshot, claim)? {
         RapidAnswer::Ready(mut rapid) => {
-            let answer = answer_from(alloc, &mut rapid, document.groups.as_slice());
-            drop(rapid);
-            answer
+            answer_from(alloc, &mut rapid, document.groups.as_slice())
         }
         RapidAnswer::No(reason) => answer_line(alloc, &VerdictDoc(Verdict::No(reason)), Said::No),
     }
@@ -116,11 +114,7 @@ impl Answers for Insert {
 
     fn answer(&self, alloc: Global, input: &[u8]) -> Result<Answer, AllocError> {
         match read_bytes(alloc, input) {
-            Ok(document) => {
-                let answer = answer_to(alloc, &document);
-                drop(document);
-                answer
-            }
+            Ok(document) => answer_to(alloc, &document),
             Err(DocFault::NoMemory) => Err(AllocError),
             Err(fault) => answer_line(alloc, &fault, Said::NoDocument),
         }

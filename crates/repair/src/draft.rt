@@ -16,12 +16,21 @@ use std::alloc::{AllocError, Global};
 use std::marker::Model;
 
 /// A plan for a snapshot that is being built. Contracts see the snapshot's parts and the placements in their order.
-#[derive(Drop)]
 pub(crate) struct Draft<'a> {
     snapshot: &'a Snapshot,
     build: PlanBuild<'a>,
     /// Slot `t * slices + i` is slice `i` of the horizon on telescope `t`.
     marks: Vec<u16>,
+}
+
+impl Drop for Draft<'_> {
+    fn drop(self) {
+        let Self {
+            snapshot: _,
+            build: _,
+            marks: _,
+        } = self;
+    }
 }
 
 impl<'a> Model for Draft<'a> {

@@ -10,7 +10,6 @@ use snapshot_starts::{Run, Starts};
 use std::alloc::{AllocError, Global};
 
 /// A request, with the runs of its possible starts.
-#[derive(Drop)]
 pub(crate) struct Entry {
     pub request: RequestNo,
     /// Its place among all.
@@ -19,6 +18,17 @@ pub(crate) struct Entry {
     pub size: u32,
     /// By telescope, then slice.
     pub runs: ListOf<Run>,
+}
+
+impl Drop for Entry {
+    fn drop(self) {
+        let Self {
+            request: _,
+            place: _,
+            size: _,
+            runs: _,
+        } = self;
+    }
 }
 
 /// What is known of a request of the snapshot. Fails only for want of memory.

@@ -24,10 +24,18 @@ pub(crate) struct Offer {
 }
 
 /// The offers of all requests, by their places.
-#[derive(Drop)]
 pub(crate) struct Offers {
     pub by_place: Vec<Offer>,
     pub places: Places,
+}
+
+impl Drop for Offers {
+    fn drop(self) {
+        let Self {
+            by_place: _,
+            places: _,
+        } = self;
+    }
 }
 
 impl Offers {

@@ -23,7 +23,6 @@ use std::marker::Model;
 /// What it takes to make plans of the starts that prices give, a primal heuristic: first ANDs that can be added whole,
 /// then other starts by falling worth, and then what fill adds. Contracts see the snapshot's parts and the plan of the
 /// last run.
-#[derive(Drop)]
 pub struct Repairer<'a> {
     snapshot: &'a Snapshot,
     trials: Trials,
@@ -35,6 +34,20 @@ pub struct Repairer<'a> {
     noted: Vec<Option<Ranked>>,
     /// These in order, with room for one of each request.
     ranked: Vec<Ranked>,
+}
+
+impl Drop for Repairer<'_> {
+    fn drop(self) {
+        let Self {
+            snapshot: _,
+            trials: _,
+            offers: _,
+            draft: _,
+            firsts: _,
+            noted: _,
+            ranked: _,
+        } = self;
+    }
 }
 
 impl<'a> Model for Repairer<'a> {

@@ -16,17 +16,30 @@ use snapshot_starts::Starts;
 use std::alloc::{AllocError, Global};
 
 /// A group, with its requests in the order in which they are tried.
-#[derive(Drop)]
 pub(crate) struct Trial {
     pub op: Op,
     pub entries: Vec<Entry>,
 }
 
+impl Drop for Trial {
+    fn drop(self) {
+        let Self { op: _, entries: _ } = self;
+    }
+}
+
 /// All groups in their order, and their places in the order of a pass.
-#[derive(Drop)]
 pub(crate) struct Trials {
     pub groups: Vec<Trial>,
     pub order: Vec<usize>,
+}
+
+impl Drop for Trials {
+    fn drop(self) {
+        let Self {
+            groups: _,
+            order: _,
+        } = self;
+    }
 }
 
 impl Trials {

@@ -15,7 +15,7 @@ pub enum ObsKind {
 }
 
 /// A request group, as its document has it.
-#[derive(Clone, Drop)]
+#[derive(Clone)]
 pub struct GroupDoc {
     pub name: Name,
     /// The proposal that is charged.
@@ -29,4 +29,18 @@ pub struct GroupDoc {
     pub priority: u8,
     /// 1 for `SINGLE`, 2 to 32 for the other operators.
     pub requests: ListOf<RequestDoc>,
+}
+
+impl Drop for GroupDoc {
+    fn drop(self) {
+        let Self {
+            name: _,
+            proposal: _,
+            op: _,
+            kind: _,
+            ipp: _,
+            priority: _,
+            requests: _,
+        } = self;
+    }
 }

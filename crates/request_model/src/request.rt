@@ -7,12 +7,23 @@ use std::alloc::AllocError;
 
 /// Where a request may be observed: on telescopes of a class and, where they are named, at that site, in that
 /// enclosure, on that telescope.
-#[derive(Clone, Drop)]
+#[derive(Clone)]
 pub struct Location {
     pub class: Name,
     pub site: Option<Name>,
     pub enclosure: Option<Name>,
     pub telescope: Option<Name>,
+}
+
+impl Drop for Location {
+    fn drop(self) {
+        let Self {
+            class: _,
+            site: _,
+            enclosure: _,
+            telescope: _,
+        } = self;
+    }
 }
 
 /// Moments at an even distance, round each of which an observation is asked for: `start`, and from there every
@@ -28,12 +39,21 @@ pub struct Cadence {
 }
 
 /// When a request may be observed.
-#[derive(Clone, Drop)]
+#[derive(Clone)]
 pub enum When {
     /// Inside one of these, 1 to 32, each of which has a second.
     Windows(ListOf<Span>),
     /// Once round each centre.
     Cadence(Cadence),
+}
+
+impl Drop for When {
+    fn drop(self) {
+        match self {
+            Self::Windows(_) => {}
+            Self::Cadence(_) => {}
+        }
+    }
 }
 
 /// Exposures of one length, the portal's instrument configuration.
@@ -46,15 +66,23 @@ pub struct Exposure {
 }
 
 /// What is taken of one target.
-#[derive(Clone, Drop)]
+#[derive(Clone)]
 pub struct ConfigDoc {
     pub target: Name,
     /// 1 to 16, taken in this order.
     pub exposures: ListOf<Exposure>,
 }
 
+impl Drop for ConfigDoc {
+    fn drop(self) {
+        let Self {
+            target: _,
+            exposures: _,
+        } = self;
+    }
+}
+
 /// A request: one observation that is asked for, or with a cadence one round each centre.
-#[derive(Drop)]
 pub struct RequestDoc {
     pub location: Location,
     pub when: When,
@@ -66,6 +94,19 @@ pub struct RequestDoc {
     pub threshold: u8,
     /// The thousandths of the value, 0 to 1,000, that are lost with each slice of delay.
     pub fade: u16,
+}
+
+impl Drop for RequestDoc {
+    fn drop(self) {
+        let Self {
+            location: _,
+            when: _,
+            instrument: _,
+            configurations: _,
+            threshold: _,
+            fade: _,
+        } = self;
+    }
 }
 
 impl Location {

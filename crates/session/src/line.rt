@@ -22,16 +22,13 @@ use std::thread::Threads;
 /// The only caller of a session.
 const CALLER: u8 = 0;
 
-/// Adds the text of an entry, or nothing where memory is wanting. The entry is dropped here by a call: else each way out of
-/// what makes it would drop it piece by piece, which the proof would have to follow.
+/// Adds the text of an entry, or nothing where memory is wanting.
 fn add_entry(entry: EventEntry, replies: &mut Vec<u8>) -> Result<(), AllocError>
     ensures ok { OnOk result (replies.new.items ≡ replies.old.items ++ text_of_entry entry) }
     ensures exact { OnOk result (IsExactEntry entry) }
     ensures err { OnErr result (replies.new.items ≡ replies.old.items) }
 {
-    let done = write_entry(&entry, replies);
-    drop(entry);
-    done
+    write_entry(&entry, replies)
 }
 
 /// Does a line that is one step, and adds its entry.
@@ -123,14 +120,13 @@ fn do_plan<R: Threads + Sync>(
     alloc: Global,
     state: &mut State,
     line: u32,
-    read: Result<Command, CommandFault>,
+    read: &Result<Command, CommandFault>,
     replies: &mut Vec<u8>,
 ) -> Result<(), AllocError>
     requires version { state.old.version < most_version }
-    requires planning { IsPlanning state.old read }
-    ensures { AddsLine state.old state.new line read replies.old.items replies.new.items result }
+    requires planning { IsPlanning state.old read.now }
+    ensures { AddsLine state.old state.new line read.now replies.old.items replies.new.items result }
 {
-    drop(read);
     let taken = EventEntry {
         caller: CALLER,
         line,
@@ -156,7 +152,7 @@ pub(crate) fn do_line<R: Threads + Sync>(
 {
     let read = read_line(alloc, line)?;
     if is_plan(&read) && state.is_opened() {
-        return do_plan(rt, alloc, state, number, read, replies);
+        return do_plan(rt, alloc, state, number, &read, replies);
     }
     do_step(state, number, read, replies)
 }
@@ -173,7 +169,6 @@ pub(crate) fn reply_to<R: Threads + Sync>(
 {
     let read = read_line(alloc, line)?;
     if is_plan(&read) && state.is_opened() {
-        drop(read);
         return seek(rt, alloc, state);
     }
     apply_read(state, read)

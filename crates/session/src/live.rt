@@ -43,18 +43,7 @@ fn do_lines<R: Threads + Wait + Sync, K: Sink, G: Gate>(
     let Ok(done) = desk_lock::play(rt, alloc, book, gate) else {
         return Status::NoMemory;
     };
-    let status = write_history(alloc, &done, sink);
-    drop(done);
-    status
-}
-
-/// Drops a book of which nothing is done. A call drops it: else each way out would drop it piece by piece, which the proof would
-/// have to follow.
-fn leave(book: Book, status: Status) -> Status
-    ensures { result ≡ status }
-{
-    drop(book);
-    status
+    write_history(alloc, &done, sink)
 }
 
 /// Reads all lines, and then does them and writes what was done.
@@ -76,13 +65,10 @@ fn play<R: Threads + Wait + Sync, S: Source, K: Sink, G: Gate>(
     };
     match read_input(alloc, source, &mut book) {
         Ok(Input::Whole) => do_lines(rt, alloc, book, sink, gate),
-        Ok(Input::NoCaller(number)) => {
-            drop(book);
-            write_refusal(alloc, number, sink)
-        }
-        Ok(Input::ReadFault) => leave(book, Status::ReadFault),
-        Ok(Input::InputOver) => leave(book, Status::InputOver),
-        Err(_) => leave(book, Status::NoMemory),
+        Ok(Input::NoCaller(number)) => write_refusal(alloc, number, sink),
+        Ok(Input::ReadFault) => Status::ReadFault,
+        Ok(Input::InputOver) => Status::InputOver,
+        Err(_) => Status::NoMemory,
     }
 }
 

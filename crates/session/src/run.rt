@@ -92,10 +92,7 @@ fn play<R: Threads + Sync, S: Source, K: Sink>(
 {
     let mut state = State::empty(alloc);
     let mut replies = Vec::new(alloc);
-    let answer = answer_lines(rt, alloc, source, sink, &mut state, &mut replies);
-    // A call drops the desk. Else each way out would drop it piece by piece, which the proof would have to follow.
-    drop(state);
-    match answer {
+    match answer_lines(rt, alloc, source, sink, &mut state, &mut replies) {
         Ok(status) => status,
         Err(_) => {
             // The lines that were done before keep their replies.
@@ -127,9 +124,7 @@ fn run_workload<R: Threads + Sync, K: Sink>(
     ensures cause { IsWritingCause (K.faults sink.old) (K.faults sink.new) result }
 {
     let mut state = State::empty(alloc);
-    let told = tell_workload(rt, alloc, number, &mut state);
-    drop(state);
-    match told {
+    match tell_workload(rt, alloc, number, &mut state) {
         Ok(text) => write_summary(sink, text.as_slice()),
         Err(_) => Status::NoMemory,
     }

@@ -29,9 +29,7 @@ fn sum_up<R: Threads + Sync>(
     while let Some(bytes) = workload.next(alloc)? {
         let line = ScriptLine::Bytes(ByteList::from(bytes));
         let reply = reply_to(rt, alloc, state, &line)?;
-        let more = with_line(summary, &reply);
-        drop(reply);
-        summary = more?;
+        summary = with_line(summary, &reply)?;
     }
     Ok(summary)
 }

@@ -25,7 +25,6 @@ pub struct SkyKey {
 
 /// The night of each site, the closures of each telescope, and the sky of each target at each site. There is a night and
 /// there are closures for every number that there may be, without seconds at first.
-#[derive(Drop)]
 pub struct Calendar {
     nights: Vec<Spans>,
     closures: Vec<Spans>,
@@ -33,6 +32,19 @@ pub struct Calendar {
     pieces: usize,
     nothing: Spans,
     alloc: Global,
+}
+
+impl Drop for Calendar {
+    fn drop(self) {
+        let Self {
+            nights: _,
+            closures: _,
+            skies: _,
+            pieces: _,
+            nothing: _,
+            alloc: _,
+        } = self;
+    }
 }
 
 impl Model for Calendar {

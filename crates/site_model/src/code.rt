@@ -5,7 +5,7 @@ ghost use Rattle.std.specs.Prelude.{◌≤◌};
 use plan_base::Name;
 
 /// The three names of a telescope.
-#[derive(Drop, PartialEq, Eq, Hash)]
+#[derive(PartialEq, Eq, Hash)]
 pub struct Code {
     /// The site, such as `coj`.
     pub site: Name,
@@ -15,13 +15,31 @@ pub struct Code {
     pub telescope: Name,
 }
 
+impl Drop for Code {
+    fn drop(self) {
+        let Self {
+            site: _,
+            enclosure: _,
+            telescope: _,
+        } = self;
+    }
+}
+
 /// Which telescopes a closure or a reopening is about.
-#[derive(Drop)]
 pub enum Scope {
     /// The telescope of this code.
     Telescope(Code),
     /// All telescopes of the site that are registered so far.
     Site(Name),
+}
+
+impl Drop for Scope {
+    fn drop(self) {
+        match self {
+            Self::Telescope(_) => {}
+            Self::Site(_) => {}
+        }
+    }
 }
 
 /// What an instrument type needs beside the exposures, in milliseconds, each at most a day.

@@ -28,7 +28,6 @@ use std::marker::Model;
 
 /// The network: instruments, sites, telescopes and targets, each numbered from 0 in the order in which they are first
 /// named, and when telescopes may observe. A refusal, or want of memory, leaves it as before.
-#[derive(Drop)]
 pub struct Network {
     instruments: IndexMap<Name, InstrumentTimes>,
     sites: IndexSet<Name>,
@@ -36,6 +35,19 @@ pub struct Network {
     targets: IndexSet<Name>,
     calendar: Calendar,
     alloc: Global,
+}
+
+impl Drop for Network {
+    fn drop(self) {
+        let Self {
+            instruments: _,
+            sites: _,
+            telescopes: _,
+            targets: _,
+            calendar: _,
+            alloc: _,
+        } = self;
+    }
 }
 
 impl Model for Network {

@@ -17,11 +17,20 @@ use plan_base::{ListOf, Name, SiteNo, TelescopeNo};
 use std::alloc::Global;
 
 /// What is kept of a telescope beside its code: the number of its site, its class, and the places of its instruments.
-#[derive(Drop)]
 pub struct Telescope {
     pub site: SiteNo,
     pub class: Name,
     pub instruments: ListOf<usize>,
+}
+
+impl Drop for Telescope {
+    fn drop(self) {
+        let Self {
+            site: _,
+            class: _,
+            instruments: _,
+        } = self;
+    }
 }
 
 /// Whether a telescope has the class, and the site, the enclosure and the code where these are given.

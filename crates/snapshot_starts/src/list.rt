@@ -12,11 +12,16 @@ use std::alloc::{AllocError, Global};
 use std::marker::Model;
 
 /// Possible starts in the order of request, telescope and slice. Contracts see the list of them; kept are their runs.
-#[derive(Drop)]
 pub struct Starts {
     runs: Vec<Run>,
     /// How many starts each run has together with those before it.
     sums: Vec<u32>,
+}
+
+impl Drop for Starts {
+    fn drop(self) {
+        let Self { runs: _, sums: _ } = self;
+    }
 }
 
 impl Model for Starts {

@@ -1,6 +1,4 @@
 // A caller's next line.
-//
-// Great values are dropped by calls, as in `doing.rt`.
 
 ghost use Rattle.std.specs.Prelude.{◌≡◌, ◌<◌, ◌-◌, length, take, None, IfOk, OnOk, OnErr, IfSome, MatchOption};
 ghost use Rattle.desk_core.specs.History.{script_of, IsPlanning};
@@ -55,10 +53,7 @@ impl Book {
         let place = usize::from(caller);
         let line = self.done[place] + 1;
         let version = self.state.version();
-        if self.history.reserve(1).is_err() {
-            drop(read);
-            return Err(AllocError);
-        }
+        self.history.reserve(1)?;
         let reply = apply_read(&mut self.state, read)?;
         let entry = EventEntry {
             caller,
@@ -88,10 +83,7 @@ impl Book {
         let place = usize::from(caller);
         self.history.reserve(1)?;
         let taken = take_for(caller, &self.state)?;
-        let Ok(kept) = taken.copy() else {
-            drop(taken);
-            return Err(AllocError);
-        };
+        let kept = taken.copy()?;
         let entry = EventEntry {
             caller,
             line: self.done[place] + 1,
@@ -100,7 +92,7 @@ impl Book {
             reply: Reply::Taken,
         };
         self.history.push(entry).unwrap();
-        drop(mem::replace(&mut self.takes[place], Some(kept)));
+        self.takes[place] = Some(kept);
         Ok(taken)
     }
 
@@ -118,9 +110,8 @@ impl Book {
         ensures err { OnErr result (self.new ≡ self.old) }
     {
         if is_plan(&read) && self.state.is_opened() {
-            let taken = self.do_take(caller, &read);
-            drop(read);
-            return Ok(BookCall::Taken(taken?));
+            let taken = self.do_take(caller, &read)?;
+            return Ok(BookCall::Taken(taken));
         }
         self.do_step(caller, read)?;
         Ok(BookCall::Replied)
@@ -165,14 +156,8 @@ impl Book {
         ensures ok { IfOk result (λ answer. IsDone (with_line self.old caller line) caller (command_of_line line) answer self.new) }
         ensures err { OnErr result (self.new ≡ self.old) }
     {
-        let Ok(read) = read_line(self.alloc, &line) else {
-            drop(line);
-            return Err(AllocError);
-        };
-        let Ok(()) = self.push(caller, line) else {
-            drop(read);
-            return Err(AllocError);
-        };
+        let read = read_line(self.alloc, &line)?;
+        self.push(caller, line)?;
         let answer = self.do_next(caller, read);
         if answer.is_err() {
             self.take_back(caller);

@@ -1,6 +1,4 @@
 // The plan of a caller's open Take.
-//
-// Great values are dropped by calls, as in `doing.rt`.
 
 ghost use Rattle.std.specs.Prelude.{◌≡◌, Some, IfOk, OnErr};
 ghost use Rattle.desk_book.specs.Seen.{take_of};
@@ -45,20 +43,11 @@ impl Book {
         let place = usize::from(caller);
         let line = self.done[place] + 1;
         let version = self.state.version();
-        if self.history.reserve(1).is_err() {
-            drop(solved);
-            return Err(AllocError);
-        }
+        self.history.reserve(1)?;
         // The entry that is answered gets its reply before anything changes.
-        let Ok(told) = publish_reply(&self.state, &solved) else {
-            drop(solved);
-            return Err(AllocError);
-        };
+        let told = publish_reply(&self.state, &solved)?;
         let (taken, outcome) = solved.into_parts();
-        let Ok(reply) = publish_found(&mut self.state, taken, outcome) else {
-            drop(told);
-            return Err(AllocError);
-        };
+        let reply = publish_found(&mut self.state, taken, outcome)?;
         let entry = EventEntry {
             caller,
             line,
@@ -68,7 +57,7 @@ impl Book {
         };
         self.history.push(entry).unwrap();
         self.done[place] = line;
-        drop(self.takes[place].take());
+        self.takes[place] = None;
         Ok(EventEntry {
             caller,
             line,
@@ -86,11 +75,9 @@ impl Book {
         ensures err { OnErr result (self.new ≡ self.old) }
     {
         let Some(kept) = self.kept(solved.taken().caller) else {
-            drop(solved);
             return Ok(PublishStep::NotTaken);
         };
         if !is_same(kept, solved.taken()) {
-            drop(solved);
             return Ok(PublishStep::OtherTake);
         }
         let entry = self.publish_kept(solved)?;

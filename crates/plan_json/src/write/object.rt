@@ -112,9 +112,14 @@ impl<'a, T: Json, R: Members> Members for Perhaps<'a, T, R> {
 }
 
 /// An object, by its members. [`object!`](crate::object) makes it.
-#[derive(Drop)]
 pub struct Object<R> {
     pub members: R,
+}
+
+impl<R: Drop> Drop for Object<R> {
+    fn drop(self) {
+        let Self { members: _ } = self;
+    }
 }
 
 impl<R: Members> Json for Object<R> {

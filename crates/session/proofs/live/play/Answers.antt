@@ -6,5 +6,4 @@ returns-in_default-clause-live g c = undone_first (g.S.Source.left c.args.source
 
 pub returns-in-Err-clause-live : goal.returns-in-Err-clause-live
 returns-in-Err-clause-live g c =
-    undone_memory (g.S.Source.left c.args.source.now) (g.S.Source.left c.read_input.new.source) (g.K.Sink.written c.args.sink.now) c.leave-in-Err.result c.leave-in-Err.ensures
-    c.in-Err.ensures.first
+    undone_memory (g.S.Source.left c.args.source.now) (g.S.Source.left c.read_input.new.source) (g.K.Sink.written c.args.sink.now) c.in-Err.ensures.first

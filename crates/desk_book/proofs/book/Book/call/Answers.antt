@@ -26,12 +26,12 @@ take_back-requires-clause-sound c =
     let old : BookSeen = c.args.self.now in
     let sound : IsSound old = subst IsSound c.self.view_is c.self.invariant.sound in
     let failed = at_err c.do_next-answer.result _ (sym c.is_err.ensures.value ∙ c.if-is_err.true) c.do_next-answer.ensures.err in
-    let is : c.do_next-answer.new.self ≡ with_line old c.args.caller c.args.line = failed ∙ c.in-Ok-push.ensures.ok in
+    let is : c.do_next-answer.new.self ≡ with_line old c.args.caller c.args.line = failed ∙ c.in_ok-push.ensures.ok in
     subst IsSound (sym (before old c.do_next-answer.new.self c.args.caller c.args.line c.requires.caller is)) sound
 
 pub returns-then-is_err-clause-err : goal.returns-then-is_err-clause-err
 returns-then-is_err-clause-err c =
     let old : BookSeen = c.args.self.now in
     let failed = at_err c.do_next-answer.result _ (sym c.is_err.ensures.value ∙ c.if-is_err.true) c.do_next-answer.ensures.err in
-    let is : c.do_next-answer.new.self ≡ with_line old c.args.caller c.args.line = failed ∙ c.in-Ok-push.ensures.ok in
+    let is : c.do_next-answer.new.self ≡ with_line old c.args.caller c.args.line = failed ∙ c.in_ok-push.ensures.ok in
     on_err c.do_next-answer.result _ (c.take_back.ensures ∙ before old c.do_next-answer.new.self c.args.caller c.args.line c.requires.caller is)

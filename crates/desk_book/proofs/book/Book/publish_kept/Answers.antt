@@ -1,5 +1,4 @@
 use Rattle.std.proofs.Common.{◌≡◌, ◌≤◌, ◌<◌, ◌+◌, ◌∷◌, ◌++◌, [], ℕ, length, Some, None, set, get_or, ap, subst, sym, ◌∙◌, arith}
-use Rattle.std.specs.declared.option.Option.{Option}
 use Rattle.plan_base.specs.declared.taken.Outcome.{Outcome}
 use Rattle.plan_base.specs.declared.taken.Taken.{Taken}
 use Rattle.plan_base.specs.Solved.{SolvedTake}
@@ -58,19 +57,17 @@ invariant_of-self-2 c =
     let place : c.from-place.result ≡ taken.caller = c.from-place.ensures ∙ caller in
     let at : c.index.result.now ≡ get_or c.self.inside.done.items taken.caller c.index.result.now =
     subst (λ (k : ℕ). c.index.result.now ≡ get_or c.self.inside.done.items k c.index.result.now) place c.index.ensures in
-    let entry : ℕ → EventEntry = λ k. record { caller = k; line = c.index.result.now + 1; what = Publish; version = c.version-version.result; reply = c.in-Ok-publish_found.reply } in
+    let entry : ℕ → EventEntry = λ k. record { caller = k; line = c.index.result.now + 1; what = Publish; version = c.version-version.result; reply = c.in_ok-reply.reply } in
     let more : c.push.new.self.items ≡ b.history ++ entry taken.caller ∷ [] =
     subst (λ (k : ℕ). c.push.new.self.items ≡ b.history ++ entry k ∷ []) caller
-    (pushed c.push.result c.unwrap.result c.self.inside.history.items c.reserve.new.self.items c.push.new.self.items _ c.unwrap.ensures c.push.ensures.items c.reserve.ensures.items) in
-    let x = publish_fields b c.self.inside.done.items taken c.index.result.now c.version-version.result c.in-Ok-publish_found.reply c.publish_found.new.state c.push.new.self.items
-    c.self.invariant.sound c.self.invariant.counted low at opens c.in-Ok-publish_found.ensures.publication c.in-Ok-publish_found.ensures.claims c.in-Ok-publish_found.ensures.left c.version-version.ensures.version
+    (pushed c.push.result c.unwrap.result c.self.inside.history.items c.reserve.new.self.items c.push.new.self.items _ c.unwrap.ensures c.push.ensures.items c.in_ok-reserve.ensures.items) in
+    let x = publish_fields b c.self.inside.done.items taken c.index.result.now c.version-version.result c.in_ok-reply.reply c.publish_found.new.state c.push.new.self.items
+    c.self.invariant.sound c.self.invariant.counted low at opens c.in_ok-reply.ensures.publication c.in_ok-reply.ensures.claims c.in_ok-reply.ensures.left c.version-version.ensures.version
     more in
-    let now : ℕ → Option Taken → BookSeen = λ k t. book_with b c.push.new.self.items c.publish_found.new.state (set b.takes k t) in
-    let shut : None ≡ c.take.new.self = sym c.take.ensures.after in
+    let now : ℕ → BookSeen = λ k. book_with b c.push.new.self.items c.publish_found.new.state (set b.takes k None) in
     record {
-      sound = subst (λ (t : Option Taken). IsSound (now c.from-place.result t)) shut (subst (λ (k : ℕ). IsSound (now k None)) (sym place) x.0);
-      counted = subst (λ (t : Option Taken). AreCounted (now c.from-place.result t) (set c.self.inside.done.items c.from-place.result (c.index.result.now + 1))) shut
-          (subst (λ (k : ℕ). AreCounted (now k None) (set c.self.inside.done.items k (c.index.result.now + 1))) (sym place) x.1);
+      sound = subst (λ (k : ℕ). IsSound (now k)) (sym place) x.0;
+      counted = subst (λ (k : ℕ). AreCounted (now k) (set c.self.inside.done.items k (c.index.result.now + 1))) (sym place) x.1;
     }
 
 pub returns-clause-ok : goal.returns-clause-ok
@@ -86,24 +83,22 @@ returns-clause-ok c =
     let make : Taken → Outcome → SolvedTake = λ t o. record { taken = t; outcome = o } in
     let whole : make taken c.into_parts-taken.result.1 ≡ c.args.solved =
     ap (λ (t : Taken). make t c.into_parts-taken.result.1) c.into_parts-taken.ensures.same_taken ∙ ap (λ (o : Outcome). make c.args.solved.taken o) c.into_parts-taken.ensures.same_outcome in
-    let told : c.in-Ok.told ≡ publish_reply b.state (make taken c.into_parts-taken.result.1) = c.in-Ok.ensures ∙ ap (publish_reply b.state) (sym whole) in
-    let entry : ℕ → EventEntry = λ k. record { caller = k; line = c.index.result.now + 1; what = Publish; version = c.version-version.result; reply = c.in-Ok-publish_found.reply } in
+    let told : c.in_ok-told.told ≡ publish_reply b.state (make taken c.into_parts-taken.result.1) = c.in_ok-told.ensures ∙ ap (publish_reply b.state) (sym whole) in
+    let entry : ℕ → EventEntry = λ k. record { caller = k; line = c.index.result.now + 1; what = Publish; version = c.version-version.result; reply = c.in_ok-reply.reply } in
     let more : c.push.new.self.items ≡ b.history ++ entry taken.caller ∷ [] =
     subst (λ (k : ℕ). c.push.new.self.items ≡ b.history ++ entry k ∷ []) caller
-    (pushed c.push.result c.unwrap.result c.self.inside.history.items c.reserve.new.self.items c.push.new.self.items _ c.unwrap.ensures c.push.ensures.items c.reserve.ensures.items) in
+    (pushed c.push.result c.unwrap.result c.self.inside.history.items c.reserve.new.self.items c.push.new.self.items _ c.unwrap.ensures c.push.ensures.items c.in_ok-reserve.ensures.items) in
     let x =
-    published_fields b c.self.inside.done.items taken c.into_parts-taken.result.1 c.index.result.now c.version-version.result c.in-Ok-publish_found.reply c.in-Ok.told
+    published_fields b c.self.inside.done.items taken c.into_parts-taken.result.1 c.index.result.now c.version-version.result c.in_ok-reply.reply c.in_ok-told.told
     c.publish_found.new.state c.push.new.self.items
-    c.self.invariant.counted low at opens c.in-Ok-publish_found.ensures.reply (told ∙ sym c.in-Ok-publish_found.ensures.reply) c.in-Ok-publish_found.ensures.left c.version-version.ensures.version
+    c.self.invariant.counted low at opens c.in_ok-reply.ensures.reply (told ∙ sym c.in_ok-reply.ensures.reply) c.in_ok-reply.ensures.left c.version-version.ensures.version
     more in
-    let e : ℕ → EventEntry = λ k. record { caller = k; line = c.index.result.now + 1; what = Publish; version = c.version-version.result; reply = c.in-Ok.told } in
-    let now : ℕ → Option Taken → BookSeen = λ k t. book_with b c.push.new.self.items c.publish_found.new.state (set b.takes k t) in
-    let mine : IsPublished b c.args.solved (e taken.caller) (now taken.caller None) =
-    subst (λ (p : SolvedTake). IsPublished b p (e taken.caller) (now taken.caller None)) whole x in
-    let there : IsPublished b c.args.solved (e taken.caller) (now c.from-place.result None) =
-    subst (λ (k : ℕ). IsPublished b c.args.solved (e taken.caller) (now k None)) (sym place) mine in
-    let named : IsPublished b c.args.solved (e c.taken.result.now.caller) (now c.from-place.result None) =
-    subst (λ (k : ℕ). IsPublished b c.args.solved (e k) (now c.from-place.result None)) (sym caller) there in
-    let shut : IsPublished b c.args.solved (e c.taken.result.now.caller) (now c.from-place.result c.take.new.self) =
-    subst (λ (t : Option Taken). IsPublished b c.args.solved (e c.taken.result.now.caller) (now c.from-place.result t)) (sym c.take.ensures.after) named in
-    subst (λ (v : BookSeen). IsPublished v c.args.solved (e c.taken.result.now.caller) (now c.from-place.result c.take.new.self)) c.self.view_is shut
+    let e : ℕ → EventEntry = λ k. record { caller = k; line = c.index.result.now + 1; what = Publish; version = c.version-version.result; reply = c.in_ok-told.told } in
+    let now : ℕ → BookSeen = λ k. book_with b c.push.new.self.items c.publish_found.new.state (set b.takes k None) in
+    let mine : IsPublished b c.args.solved (e taken.caller) (now taken.caller) =
+    subst (λ (p : SolvedTake). IsPublished b p (e taken.caller) (now taken.caller)) whole x in
+    let there : IsPublished b c.args.solved (e taken.caller) (now c.from-place.result) =
+    subst (λ (k : ℕ). IsPublished b c.args.solved (e taken.caller) (now k)) (sym place) mine in
+    let named : IsPublished b c.args.solved (e c.taken.result.now.caller) (now c.from-place.result) =
+    subst (λ (k : ℕ). IsPublished b c.args.solved (e k) (now c.from-place.result)) (sym caller) there in
+    subst (λ (v : BookSeen). IsPublished v c.args.solved (e c.taken.result.now.caller) (now c.from-place.result)) c.self.view_is named

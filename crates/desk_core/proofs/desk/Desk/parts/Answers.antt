@@ -21,9 +21,9 @@ returns-clause-parts c =
     let targets : c.as_slice-4.result.now ≡ map (λ n. record { 0 = n }) (targets_listed d)
     = c.as_slice-4.ensures.value ∙ c.in_ok-targets.ensures ∙ ap (map (λ n. record { 0 = n })) (parts_targets d c.as_slice-3.result.now groups)
     in
-    parts_are c.args.version d c.first_slice.result c.in_ok-telescope_parts.field-0 c.in_ok-skies.field-0 c.groups.inside.items.items c.in_ok-quotas.field-0
+    parts_are c.args.version d c.first_slice.result c.in_ok-telescope_parts.field-0 c.in_ok-skies.field-0 c.in_ok-groups.groups c.in_ok-quotas.field-0
     c.first_slice.ensures c.in_ok-telescope_parts.ensures.parts (skies_are d c.as_slice-4.result.now c.in_ok-skies.field-0 targets c.in_ok-skies.ensures)
-    (c.groups.view_is ∙ c.in_ok-groups.ensures) c.in_ok-quotas.ensures
+    c.in_ok-groups.ensures c.in_ok-quotas.ensures
 
 pub returns-clause-snapshot : goal.returns-clause-snapshot
 returns-clause-snapshot c =

@@ -1,8 +1,5 @@
-use Rattle.std.proofs.Common.{◌<◌, ◌+◌, Option, Some, ap, sym, subst, ◌∙◌, arith}
-use Rattle.std.specs.Option.{option_map}
-use Rattle.desk_core.specs.declared.desk.Desk.{Desk}
+use Rattle.std.proofs.Common.{◌<◌, ◌+◌, Some, ap, ◌∙◌, arith}
 use Rattle.desk_core.specs.Desk.{DeskSeen, StateSeen, seen}
-use Rattle.desk_core.specs.Kept.{IsState}
 use Rattle.desk_core.specs.Step.{new_desk}
 use Rattle.desk_core.proofs.KeptState.{open_keeps}
 use Rattle.desk_core.proofs.state.State.open.Goals as goal
@@ -11,12 +8,10 @@ pub invariant_of-self : goal.invariant_of-self
 invariant_of-self c =
     let same = ap (λ (s : StateSeen). s.version) c.self.view_is in
     let few : c.self.inside.version < 524288 = omega (arith, c.requires.version, same) in
-    subst (λ (d : Option Desk). IsState record { version = c.self.inside.version + 1; desk = option_map seen d }) (sym c.replace.ensures.after)
-    (open_keeps c.self.inside.version c.args.opening c.args.now (seen c.in_ok-desk.desk) few c.requires.opening c.requires.moment c.in_ok-desk.ensures)
+    open_keeps c.self.inside.version c.args.opening c.args.now (seen c.in_ok-desk.desk) few c.requires.opening c.requires.moment c.in_ok-desk.ensures
 
 pub returns-clause-opened : goal.returns-clause-opened
 returns-clause-opened c =
     let version = ap (λ (s : StateSeen). s.version) c.self.view_is in
-    ap (λ (d : Option Desk). record { version = c.self.inside.version + 1; desk = option_map seen d }) c.replace.ensures.after
-    ∙ ap (λ (d : DeskSeen). record { version = c.self.inside.version + 1; desk = Some d }) c.in_ok-desk.ensures
+    ap (λ (d : DeskSeen). record { version = c.self.inside.version + 1; desk = Some d }) c.in_ok-desk.ensures
     ∙ ap (λ v. record { version = v + 1; desk = Some (new_desk c.args.opening c.args.now) }) version

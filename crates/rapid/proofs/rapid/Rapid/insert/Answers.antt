@@ -1,4 +1,4 @@
-use Rattle.std.proofs.Common.{◌≡◌, None, subst}
+use Rattle.std.proofs.Common.{◌≡◌, None, subst, refl}
 use Rattle.rapid.specs.Standing.{Standing}
 use Rattle.rapid.specs.Insertion.{IsInsertion}
 use Rattle.rapid.specs.Refused.{refusal_of}
@@ -12,10 +12,10 @@ pub returns : goal.returns
 returns c =
     let made = c.in_ok-made.made in
     let before : Standing = record { snapshot = c.self.inside.snapshot; claim = c.self.inside.claim; displaced = c.self.inside.displaced } in
-    let after : Standing = record { snapshot = c.replace.new.dest; claim = c.replace-2.new.dest; displaced = c.replace-4.new.dest } in
+    let after : Standing = record { snapshot = made.snapshot; claim = made.priced.claim; displaced = made.priced.displaced } in
     record {
       ok = subst (λ (standing : Standing). IsInsertion standing c.args.group made.priced.inserted after) c.self.view_is
-          (put_in before c.args.group made.snapshot made.priced c.replace.new.dest c.replace-2.new.dest c.replace-4.new.dest c.in_ok-made.ensures.ok (c.replace.ensures.after) (c.replace-2.ensures.after) (c.replace-4.ensures.after));
+          (put_in before c.args.group made.snapshot made.priced made.snapshot made.priced.claim made.priced.displaced c.in_ok-made.ensures.ok refl refl refl);
       accepted = subst (λ (standing : Standing). refusal_of standing.snapshot c.args.group ≡ None) c.self.view_is c.in_ok-made.ensures.accepted;
       err = tt;
       fault = tt;
