@@ -4,9 +4,11 @@ pub mod Stepping
 pub mod GoesOn
 pub mod Turns
 pub mod Places
+pub mod Prefixes
 pub mod Keeping
 pub mod Counting
 pub mod Sound
+pub mod States
 pub mod Calls
 pub mod OneReply
 pub mod Replays

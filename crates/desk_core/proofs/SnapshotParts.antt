@@ -1,5 +1,5 @@
 -- The parts of the snapshot, as they are put together.
-use Rattle.std.proofs.Common.{◌≡◌, ℕ, ◌+◌, ◌<◌, List, [], ◌∷◌, ◌++◌, length, get_or, map, take, replicate, refl, sym, ap, ◌∙◌, subst, Option}
+use Rattle.std.proofs.Common.{◌≡◌, ℕ, ◌+◌, ◌<◌, List, [], ◌∷◌, ◌++◌, length, get_or, map, take, replicate, refl, sym, ap, ◌∙◌, subst, Option, Result, Ok, Err, IfOk}
 use Rattle.std.specs.Prelude.{fold, All}
 use Rattle.std.specs.List.{flat_map}
 use Rattle.std.specs.Ordering.{nat_cmp}
@@ -8,6 +8,7 @@ use Rattle.std.proofs.lemmas.List.{take_more, map_push}
 use Rattle.std.proofs.lemmas.List.Elements.{All-map}
 use Rattle.std.proofs.lemmas.List.Folds.{flat_map-map}
 use Rattle.std.proofs.lemmas.List.Sums.{fold_push}
+use Rattle.std.specs.declared.alloc.AllocError.{AllocError}
 use Rattle.plan_base.specs.declared.number.SliceNo.{SliceNo}
 use Rattle.plan_base.specs.declared.number.TargetNo.{TargetNo}
 use Rattle.plan_base.specs.declared.parts.Parts.{Parts}
@@ -85,10 +86,11 @@ each_known d h targets is =
     subst (All (λ t. t.0 < target_count d)) (sym is) (All-map (λ t. t.0 < target_count d) (λ n. record { 0 = n }) (targets_listed d) (targets_known d h))
 
 -- .. and their skies are those of the snapshot
-pub skies_are : (d : DeskSeen) (targets : List TargetNo) (skies : List Sky) → targets ≡ map (λ n. record { 0 = n }) (targets_listed d)
-    → skies ≡ flat_map (λ t. skies_at d t.0) targets → skies ≡ skies_of d
-skies_are d targets skies is made =
+pub skies_are : (d : DeskSeen) (targets : List TargetNo) (made : Result (List Sky) AllocError) → targets ≡ map (λ n. record { 0 = n }) (targets_listed d)
+    → IfOk made (λ skies. skies ≡ flat_map (λ t. skies_at d t.0) targets) → IfOk made (λ skies. skies ≡ skies_of d)
+skies_are d targets (Ok skies) is made =
     made ∙ ap (flat_map (λ t. skies_at d t.0)) is ∙ flat_map-map (λ (t : TargetNo). skies_at d t.0) (λ n. record { 0 = n }) (targets_listed d)
+skies_are d targets (Err no_memory) is made = tt
 
 -- the parts put together
 pub parts_are : (version : ℕ) (d : DeskSeen) (first : SliceNo) (telescopes : List TelescopePart) (skies : List Sky) (groups : List GroupPart) (quotas : List ℕ)

@@ -48,10 +48,9 @@ impl Desk {
             .into());
         }
         let snapshot = self.snapshot(alloc, version)?;
-        match check(alloc, &snapshot, claim) {
-            Ok(Verdict::Yes { .. }) => Ok(self.publish_told(alloc, snapshot, claim)?),
-            Ok(Verdict::No(reason)) => Err(Refusal::Rejected { reason }.into()),
-            Err(no_memory) => Err(no_memory.into()),
+        match check(alloc, &snapshot, claim)? {
+            Verdict::Yes { .. } => Ok(self.publish_told(alloc, snapshot, claim)?),
+            Verdict::No(reason) => Err(Refusal::Rejected { reason }.into()),
         }
     }
 

@@ -10,15 +10,24 @@ ghost use Rattle.desk_core.specs.declared.desk.Submitted.{Submitted};
 ghost use Rattle.desk_core.specs.Desk.{seen};
 ghost use Rattle.desk_core.specs.Kept.{IsDesk};
 ghost use Rattle.desk_core.specs.DeskSnapshot.{both_at, IsGroupNo, listed_groups, proposals_of, quota_place, quotas_of};
-ghost use Rattle.desk_core.specs.DeskSnapshot.{group_part, with_numbers_of, group_targets, part_targets, snapshot_of, IsSmall};
+ghost use Rattle.desk_core.specs.DeskSnapshot.{group_part, with_numbers_of, group_targets, part_targets, skies_of, snapshot_of, IsHorizonSet, IsSmall};
 
 use crate::desk::Desk;
 use indexmap::IndexSet;
+use interval_set::Spans;
 use plan_base::{
-    GroupNo, GroupPart, ListOf, Name, Parts, SiteNo, Snapshot, SnapshotFault, TargetNo, repeated,
+    GroupNo, GroupPart, ListOf, Name, Parts, SiteNo, Sky, Snapshot, SnapshotFault, TargetNo,
+    repeated,
 };
 use std::alloc::{AllocError, Global};
 use std::collections::BTreeSet;
+
+/// What a snapshot has of listed groups.
+#[derive(Drop)]
+struct Listed {
+    groups: ListOf<GroupPart>,
+    quotas: ListOf<u64>,
+}
 
 impl Desk {
     /// The snapshot of the desk, which has this version. Fails only for want of memory.
@@ -39,21 +48,50 @@ impl Desk {
         ensures snapshot { IfOk result IsSnapshot }
     {
         self.recall_small();
-        let listed = self.listed(alloc)?;
-        let proposals = self.proposals(alloc, listed.as_slice())?;
-        let groups = self.group_parts(alloc, &proposals, listed.as_slice())?;
-        let targets = targets_in(alloc, groups.as_slice())?;
         let horizon = self.horizon(alloc)?;
+        let telescopes = self.telescope_parts(alloc, &horizon)?;
+        let Listed { groups, quotas } = self.listed_parts(alloc)?;
+        let skies = self.listed_skies(alloc, &horizon, groups.as_slice())?;
         Ok(Parts {
             version,
             len: self.opening.slice,
             first: self.first_slice(),
             slices: self.opening.horizon,
-            telescopes: self.telescope_parts(alloc, &horizon)?,
-            skies: self.skies(alloc, &horizon, targets.as_slice())?,
+            telescopes,
+            skies,
             groups,
+            quotas,
+        })
+    }
+
+    // The parts that come of listed groups.
+    fn listed_parts(&self, alloc: Global) -> Result<Listed, AllocError>
+        requires { IsDesk (seen self.now) }
+        ensures groups { IfOk result (λ parts. parts.groups ≡ map (group_part (seen self.now)) (listed_groups (seen self.now))) }
+        ensures quotas { IfOk result (λ parts. parts.quotas ≡ quotas_of (seen self.now) self.now.opening.quota) }
+    {
+        let listed = self.listed(alloc)?;
+        let proposals = self.proposals(alloc, listed.as_slice())?;
+        Ok(Listed {
+            groups: self.group_parts(alloc, &proposals, listed.as_slice())?,
             quotas: self.quotas(alloc, proposals.len())?,
         })
+    }
+
+    // The skies of the targets of listed groups.
+    fn listed_skies(
+        &self,
+        alloc: Global,
+        horizon: &Spans,
+        groups: &[GroupPart],
+    ) -> Result<ListOf<Sky>, AllocError>
+        requires desk { IsDesk (seen self.now) }
+        requires horizon { IsHorizonSet (seen self.now) horizon.now }
+        requires groups { groups.now ≡ map (group_part (seen self.now)) (listed_groups (seen self.now)) }
+        ensures { IfOk result (λ skies. skies ≡ skies_of (seen self.now)) }
+    {
+        let targets = targets_in(alloc, groups)?;
+        self.skies(alloc, horizon, targets.as_slice())
     }
 
     // Recalls what the network keeps of its numbers. It does nothing.

@@ -1,5 +1,5 @@
 -- What stands before and after an insertion, and what a verdict says of a claim.
-use Rattle.std.proofs.Common.{◌≡◌, ℕ, List, Option, None, Some, refl, subst}
+use Rattle.std.proofs.Common.{◌≡◌, ℕ, Option, None, Some, refl}
 use Rattle.plan_base.specs.declared.parts.Parts.{Parts}
 use Rattle.plan_base.specs.declared.parts.GroupPart.{GroupPart}
 use Rattle.plan_base.specs.declared.claim.Claim.{Claim}
@@ -9,9 +9,7 @@ use Rattle.plan_base.specs.Verdict.{IsCertified, IsFirstReason, verdict_of, IsVe
 use Rattle.rapid.specs.declared.inserted.Inserted.{Inserted}
 use Rattle.rapid.specs.Standing.{Standing}
 use Rattle.rapid.specs.Insertion.{IsInsertion}
-use Rattle.rapid.specs.Inside.{standing, standing_of, IsMadeOf}
-use Rattle.rapid.specs.declared.making.Priced.{Priced}
-use Rattle.plan_base.specs.declared.number.RequestNo.{RequestNo}
+use Rattle.rapid.specs.Inside.{standing}
 
 -- what was displaced before doesn't matter
 pub insertion_from : (before after : Standing) (group : GroupPart) (answer : Inserted) → IsInsertion (standing before.snapshot before.claim) group answer after → IsInsertion before group answer after
@@ -26,14 +24,6 @@ insertion_from before after group answer h = record {
   quota_prices = h.quota_prices;
   certified = h.certified;
 }
-
--- what an insertion made, once its pieces stand in their places
-pub put_in : (before : Standing) (group : GroupPart) (made : Parts) (priced : Priced) (s : Parts) (claim : Claim) (displaced : List RequestNo) → IsMadeOf before.snapshot before.claim group made priced
-    → s ≡ made → claim ≡ priced.claim → displaced ≡ priced.displaced → IsInsertion before group priced.inserted (record { snapshot = s; claim = claim; displaced = displaced })
-put_in before group made priced s claim displaced h same_parts same_claim same_displaced =
-    let after : Standing = record { snapshot = s; claim = claim; displaced = displaced } in
-    let same : standing_of made priced ≡ after = cc in
-    subst (IsInsertion before group priced.inserted) same (insertion_from before (standing_of made priced) group priced.inserted h)
 
 yes_not_no : (value bound : ℕ) (reason : Reason) → Yes value bound ≡ No reason → ⊥
 yes_not_no value bound reason e = cc

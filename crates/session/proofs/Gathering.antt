@@ -14,16 +14,15 @@ use Rattle.desk_core.specs.Kept.{IsState}
 use Rattle.desk_book.specs.Kept.{IsBook}
 use Rattle.desk_book.specs.Seen.{BookSeen, IsOver}
 use Rattle.desk_book.proofs.Whole.{over_is_whole}
-use Rattle.session.specs.Session.{IsAnswered, WritesFront, Gathers, IsWrittenOn}
-use Rattle.session.specs.Live.{IsPartlyAnswered}
+use Rattle.session.specs.Session.{IsAnswered, IsPartlyAnswered, WritesPrefix, Gathers, IsWrittenOn}
 use Rattle.session.specs.LiveParts.{AddsEntryAt, HasGathered, TellsHistory}
-use Rattle.session.proofs.Fronts.{book_sound, front_sound, none_sound}
 use Rattle.session.proofs.Going.{gathers_more}
 use Rattle.session.proofs.LineTexts.{adds_one}
-use Rattle.session.proofs.Shows.{book_tells, front_tells}
-use Rattle.session.proofs.Written.{adds_none, adds_twice, front_all, front_after, front_put}
+use Rattle.session.proofs.Soundness.{book_sound, prefix_sound, none_sound}
+use Rattle.session.proofs.Shows.{book_tells, prefix_tells}
+use Rattle.session.proofs.Written.{adds_none, adds_twice, prefix_all, prefix_after, prefix_put}
 
--- of so many entries, which are exact, a front of the text was written and the rest is gathered
+-- of so many entries, which are exact, a prefix of the text was written and the rest is gathered
 pub record Gathered (w w' : Option (List ℕ)) (history : List EventEntry) (count : ℕ) (replies : List ℕ) : Type 0 where
   pub exact : AllByRecursion IsExactEntry (take count history)
   pub gathers : Gathers w w' replies (text_of_history (take count history))
@@ -75,7 +74,7 @@ told_fault w x y history n old new found is g h =
     let failed : Puts x y put.WriteFault old = subst (λ (f : PutAnswer). IsWrittenOn x y f old new) is h in (
       n,
       g.exact,
-      subst (λ (text : List ℕ). WritesFront w y text) (sym g.gathers.2) (front_after w x y g.gathers.0 old g.gathers.1 (front_put x y old failed)),
+      subst (λ (text : List ℕ). WritesPrefix w y text) (sym g.gathers.2) (prefix_after w x y g.gathers.0 old g.gathers.1 (prefix_put x y old failed)),
     )
 
 -- all entries are gathered, and what is left of their text is written
@@ -109,22 +108,22 @@ pub partly : (b : BookSeen) (w y : Option (List ℕ)) (found : PutAnswer) → fo
     → TellsHistory w y b.history found → IsPartlyAnswered b.scripts w y
 partly b w y found is k state over h =
     let told : TellsHistory w y b.history put.WriteFault = subst (TellsHistory w y b.history) is h in
-    record { history = take told.0 b.history; sound = front_sound b told.0 k over; telling = front_tells b told.0 k state told.1; front = told.2 }
+    record { history = take told.0 b.history; sound = prefix_sound b told.0 k over; telling = prefix_tells b told.0 k state told.1; prefix = told.2 }
 
 -- all that could be written of what is gathered
-front_most : (a b : Option (List ℕ)) (text : List ℕ) (found : PutAnswer) → Puts a b found text → WritesFront a b text
-front_most a b text put.Done h = front_all a b text h
-front_most a b text put.WriteFault h = front_put a b text h
+prefix_most : (a b : Option (List ℕ)) (text : List ℕ) (found : PutAnswer) → Puts a b found text → WritesPrefix a b text
+prefix_most a b text put.Done h = prefix_all a b text h
+prefix_most a b text put.WriteFault h = prefix_put a b text h
 
 pub partly_gathered : (b : BookSeen) (w x y : Option (List ℕ)) (replies : List ℕ) (found : PutAnswer) → IsBook b → IsState b.state → ((caller : ℕ) → IsOver b caller)
     → HasGathered w x b.history replies → Puts x y found replies → IsPartlyAnswered b.scripts w y
 partly_gathered b w x y replies found k state over g h = record {
   history = take g.count b.history;
-  sound = front_sound b g.count k over;
-  telling = front_tells b g.count k state g.exact;
-  front = subst (λ (text : List ℕ). WritesFront w y text) (sym g.gathers.2) (front_after w x y g.gathers.0 replies g.gathers.1 (front_most x y replies found h));
+  sound = prefix_sound b g.count k over;
+  telling = prefix_tells b g.count k state g.exact;
+  prefix = subst (λ (text : List ℕ). WritesPrefix w y text) (sym g.gathers.2) (prefix_after w x y g.gathers.0 replies g.gathers.1 (prefix_most x y replies found h));
 }
 
 -- no entry
 pub partly_none : (scripts : List (List ScriptLine)) (w : Option (List ℕ)) → IsPartlyAnswered scripts w w
-partly_none scripts w = record { history = []; sound = none_sound scripts; telling = tt; front = (0, omega arith, adds_none w) }
+partly_none scripts w = record { history = []; sound = none_sound scripts; telling = tt; prefix = (0, omega arith, adds_none w) }

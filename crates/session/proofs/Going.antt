@@ -20,10 +20,10 @@ use Rattle.desk_events.specs.Entry.{text_of_entry, text_of_history}
 use Rattle.desk_events.specs.Laws.{IsTelling}
 use Rattle.desk_core.specs.Desk.{StateSeen, start}
 use Rattle.session.specs.Line.{DoesLine, BeginsLine, AddsLine}
-use Rattle.session.specs.Session.{WritesFront, Gathers, IsGathered, IsCutOff, IsEnded, IsWrittenOn}
+use Rattle.session.specs.Session.{WritesPrefix, Gathers, IsGathered, IsCutOff, IsEnded, IsWrittenOn}
 use Rattle.session.proofs.Done.{AreDone, done_none, one_more, are_more, does_version, sound_done, sound_begun, whole_done}
 use Rattle.session.proofs.Telling.{telling_more}
-use Rattle.session.proofs.Written.{adds_none, adds_twice, front_all, front_after, front_put}
+use Rattle.session.proofs.Written.{adds_none, adds_twice, prefix_all, prefix_after, prefix_put}
 
 -- the reader of a session before the first line
 abbrev pub first_reader : LinesSeen
@@ -220,18 +220,20 @@ gathered_line a b c w w' old new replies after done s t line error n l =
     }
 
 -- what was gathered was written as far as it could be
-cut_off : (a b w x y : Option (List ℕ)) (replies : List ℕ) → IsGathered a b w x replies → WritesFront x y replies → IsCutOff a b w y
+cut_off : (a b w x y : Option (List ℕ)) (replies : List ℕ) → IsGathered a b w x replies → WritesPrefix x y replies → IsCutOff a b w y
 cut_off a b w x y replies g f = record {
   lines = g.lines;
   read = g.read;
-  history = g.history;
-  sound = g.sound;
-  telling = g.telling;
-  front = subst (λ (text : List ℕ). WritesFront w y text) (sym g.gathers.2) (front_after w x y g.gathers.0 replies g.gathers.1 f);
+  answered = record {
+    history = g.history;
+    sound = g.sound;
+    telling = g.telling;
+    prefix = subst (λ (text : List ℕ). WritesPrefix w y text) (sym g.gathers.2) (prefix_after w x y g.gathers.0 replies g.gathers.1 f);
+  };
 }
 
 pub cut_by_fault : (a b w x y : Option (List ℕ)) (replies : List ℕ) → IsGathered a b w x replies → Puts x y put.WriteFault replies → IsCutOff a b w y
-cut_by_fault a b w x y replies g p = cut_off a b w x y replies g (front_put x y replies p)
+cut_by_fault a b w x y replies g p = cut_off a b w x y replies g (prefix_put x y replies p)
 
 -- where a write of what is due failed
 pub cut_by_due : (a b w x y : Option (List ℕ)) (reader : LinesSeen) (old new : List ℕ) (done : ℕ) (s : StateSeen) (found : PutAnswer) → found ≡ put.WriteFault → Going a b w x reader old done s
@@ -245,7 +247,7 @@ on_err P (Ok found) h = tt
 on_err P (Err error) h = h
 
 pub cut_by_memory : (a b w x y : Option (List ℕ)) (replies : List ℕ) (found : PutAnswer) → IsGathered a b w x replies → Puts x y found replies → IsCutOff a b w y
-cut_by_memory a b w x y replies put.Done g p = cut_off a b w x y replies g (front_all x y replies p)
+cut_by_memory a b w x y replies put.Done g p = cut_off a b w x y replies g (prefix_all x y replies p)
 cut_by_memory a b w x y replies put.WriteFault g p = cut_by_fault a b w x y replies g p
 
 is_none : (ending : LineAnswer) → ((line : ScriptLine) → ending ≡ answer.Line line → ⊥) → IsLine ending → ⊥

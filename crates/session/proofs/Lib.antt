@@ -1,6 +1,5 @@
 pub mod Alike
 pub mod Done
-pub mod Fronts
 pub mod Gathering
 pub mod Going
 pub mod LineTexts
@@ -13,6 +12,7 @@ pub mod Plans
 pub mod Reading
 pub mod Scripts
 pub mod Shows
+pub mod Soundness
 pub mod Tallies
 pub mod Telling
 pub mod Told

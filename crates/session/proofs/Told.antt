@@ -4,11 +4,11 @@ use Rattle.std.specs.declared.option.Option.{Option}
 use Rattle.plan_io.specs.declared.status.Status.{Status}
 use Rattle.plan_io.specs.declared.status.Status.TheVariants.{Done, WriteFault}
 use Rattle.plan_io.specs.Sink.{Adds}
-use Rattle.session.specs.Session.{WritesFront}
+use Rattle.session.specs.Session.{WritesPrefix}
 use Rattle.session.specs.Summary.{IsSummaryText, WritesSummary, IsWorkloadRun}
 
 pub told : (number : ℕ) (held held' : Option (List ℕ)) (text shown : List ℕ) (status : Status) → IsSummaryText number text → shown ≡ text → WritesSummary held held' shown status
     → IsWorkloadRun number held held' status
 told number held held' text shown Done is same written = (text, is, subst (λ (xs : List ℕ). Adds held held' xs) same written)
-told number held held' text shown WriteFault is same written = (text, is, subst (λ (xs : List ℕ). WritesFront held held' xs) same written)
+told number held held' text shown WriteFault is same written = (text, is, subst (λ (xs : List ℕ). WritesPrefix held held' xs) same written)
 told number held held' text shown status is same written = absurd written

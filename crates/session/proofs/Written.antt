@@ -5,7 +5,7 @@ use Rattle.std.specs.declared.option.Option.TheVariants.{Some, None}
 use Rattle.std.proofs.Math.Seq.{take-append-add}
 use Rattle.plan_io.specs.declared.sink.PutAnswer.TheVariants as put
 use Rattle.plan_io.specs.Sink.{Adds, Puts}
-use Rattle.session.specs.Session.{WritesFront}
+use Rattle.session.specs.Session.{WritesPrefix}
 
 pub adds_none : (a : Option (List ℕ)) → Adds a a []
 adds_none None = tt
@@ -24,15 +24,15 @@ take_whole : (xs : List ℕ) → take (length xs) xs ≡ xs
 take_whole [] = refl
 take_whole (x ∷ xs) = ap (λ (ys : List ℕ). x ∷ ys) (take_whole xs)
 
--- all of a text is a front of it
-pub front_all : (a b : Option (List ℕ)) (text : List ℕ) → Adds a b text → WritesFront a b text
-front_all a b text h = (length text, omega arith, subst (λ (xs : List ℕ). Adds a b xs) (sym (take_whole text)) h)
+-- all of a text is a prefix of it
+pub prefix_all : (a b : Option (List ℕ)) (text : List ℕ) → Adds a b text → WritesPrefix a b text
+prefix_all a b text h = (length text, omega arith, subst (λ (xs : List ℕ). Adds a b xs) (sym (take_whole text)) h)
 
--- a whole text, and then a front of another
-pub front_after : (a b c : Option (List ℕ)) (xs ys : List ℕ) → Adds a b xs → WritesFront b c ys → WritesFront a c (xs ++ ys)
-front_after a b c xs ys h w =
+-- a whole text, and then a prefix of another
+pub prefix_after : (a b c : Option (List ℕ)) (xs ys : List ℕ) → Adds a b xs → WritesPrefix b c ys → WritesPrefix a c (xs ++ ys)
+prefix_after a b c xs ys h w =
     let within : w.0 ≤ length ys = w.1 in
     (length xs + w.0, omega (arith, length-append xs ys, within), subst (λ (zs : List ℕ). Adds a c zs) (sym (take-append-add xs ys w.0)) (adds_twice a b c xs (take w.0 ys) h w.2))
 
-pub front_put : (a b : Option (List ℕ)) (text : List ℕ) → Puts a b put.WriteFault text → WritesFront a b text
-front_put a b text h = let within : h.0 < length text = h.1 in (h.0, omega arith, h.2)
+pub prefix_put : (a b : Option (List ℕ)) (text : List ℕ) → Puts a b put.WriteFault text → WritesPrefix a b text
+prefix_put a b text h = let within : h.0 < length text = h.1 in (h.0, omega arith, h.2)

@@ -1,7 +1,6 @@
 -- What a session of several callers reads and writes.
 use Rattle.std.specs.Prelude.{◌≡◌, ℕ, ◌+◌, ◌==◌, ◌⊎◌, Bool, false, All, IsSome, List, [], ◌∷◌, ◌++◌, length, map, filter, codes, None}
 use Rattle.std.specs.declared.option.Option.{Option}
-use Rattle.std.specs.List.{AllByRecursion}
 use Rattle.std.specs.Option.{option_map_or, option_and_then}
 use Rattle.std.specs.Result.{result_ok}
 use Rattle.serde_json.specs.Data.{Data, Members}
@@ -18,10 +17,7 @@ use Rattle.plan_json.specs.Adds.{text_of}
 use Rattle.plan_json.specs.Object.{document_of, member_of}
 use Rattle.plan_json.specs.Values.{has, whole, object_of}
 use Rattle.plan_json.specs.Whole.{number_in}
-use Rattle.desk_events.specs.declared.entry.EventEntry.{EventEntry}
-use Rattle.desk_events.specs.Entry.{text_of_history}
-use Rattle.desk_events.specs.Laws.{IsTelling}
-use Rattle.session.specs.Session.{IsSound, IsAnswered, WritesFront}
+use Rattle.session.specs.Session.{IsAnswered, IsPartlyAnswered, WritesPrefix}
 
 -- ---- who sends a line
 
@@ -83,13 +79,6 @@ no_caller_data number = object_of (has (codes "line") (whole number) ∷ has (co
 abbrev pub no_caller_text : ℕ → List ℕ
 no_caller_text number = text_of (no_caller_data number) ++ 10 ∷ []
 
--- a front of the text of a sound history of these scripts was written; the whole text tells that history
-pub record IsPartlyAnswered (scripts : List (List ScriptLine)) (held held' : Option (List ℕ)) : Type 0 where
-  pub history : List EventEntry
-  pub sound : IsSound scripts history
-  pub telling : AllByRecursion IsTelling history
-  pub front : WritesFront held held' (text_of_history history)
-
 -- ---- both
 
 -- all lines were read and answered
@@ -104,11 +93,11 @@ IsLiveUndone ending left left' held held' = (lines : List ScriptLine) × HasRead
 abbrev pub IsLiveRefused : Option (List ℕ) → Option (List ℕ) → Option (List ℕ) → Option (List ℕ) → Type 0
 IsLiveRefused left left' held held' = (lines : List ScriptLine) × HasNoCaller left left' lines × Adds held held' (no_caller_text (length lines + 1))
 
--- a front of the text of a history was written, or of that on the first line without a caller
+-- a prefix of the text of a history was written, or of that on the first line without a caller
 abbrev pub IsLiveCutOff : Option (List ℕ) → Option (List ℕ) → Option (List ℕ) → Option (List ℕ) → Type 0
 IsLiveCutOff left left' held held' =
     ((lines : List ScriptLine) × HasReadFirst left left' lines × IsPartlyAnswered (scripts_of lines) held held')
-    ⊎ ((lines : List ScriptLine) × HasNoCaller left left' lines × WritesFront held held' (no_caller_text (length lines + 1)))
+    ⊎ ((lines : List ScriptLine) × HasNoCaller left left' lines × WritesPrefix held held' (no_caller_text (length lines + 1)))
 
 -- what was read and written at each status
 abbrev pub IsLive : Option (List ℕ) → Option (List ℕ) → Option (List ℕ) → Option (List ℕ) → Status → Type 0

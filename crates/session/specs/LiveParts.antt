@@ -16,8 +16,8 @@ use Rattle.desk_events.specs.Laws.{IsExactEntry}
 use Rattle.desk_book.specs.Seen.{BookSeen, with_line}
 use Rattle.session.specs.declared.live.reading.Input.{Input}
 use Rattle.session.specs.declared.live.reading.Input.TheVariants as input
-use Rattle.session.specs.Session.{IsAnswered, WritesFront, Gathers}
-use Rattle.session.specs.Live.{caller_of, scripts_of, HasRead, HasReadFirst, HasNoCaller, no_caller_text, IsPartlyAnswered}
+use Rattle.session.specs.Session.{IsAnswered, IsPartlyAnswered, WritesPrefix, Gathers}
+use Rattle.session.specs.Live.{caller_of, scripts_of, HasRead, HasReadFirst, HasNoCaller, no_caller_text}
 
 -- ---- reading
 
@@ -49,17 +49,17 @@ abbrev pub AddsEntryAt : List EventEntry → ℕ → List ℕ → List ℕ → T
 AddsEntryAt history index old new =
     (entry : EventEntry) × (slice_get history index ≡ Some entry) × IsExactEntry entry × (new ≡ old ++ text_of_entry entry)
 
--- of the text of the first entries, which are exact, a front was written and the rest is gathered
+-- of the text of the first entries, which are exact, a prefix was written and the rest is gathered
 pub record HasGathered (held held' : Option (List ℕ)) (history : List EventEntry) (replies : List ℕ) : Type 0 where
   pub count : ℕ
   pub exact : AllByRecursion IsExactEntry (take count history)
   pub gathers : Gathers held held' replies (text_of_history (take count history))
 
--- the text of all entries was written, or a front of that of the first; the entries are exact
+-- the text of all entries was written, or a prefix of that of the first; the entries are exact
 abbrev pub TellsHistory : Option (List ℕ) → Option (List ℕ) → List EventEntry → PutAnswer → Type 0
 TellsHistory held held' history put.Done = AllByRecursion IsExactEntry history × Adds held held' (text_of_history history)
 TellsHistory held held' history put.WriteFault =
-    (count : ℕ) × AllByRecursion IsExactEntry (take count history) × WritesFront held held' (text_of_history (take count history))
+    (count : ℕ) × AllByRecursion IsExactEntry (take count history) × WritesPrefix held held' (text_of_history (take count history))
 
 -- what was written of a history of these scripts at each status; the others don't come
 abbrev pub IsTold : List (List ScriptLine) → Option (List ℕ) → Option (List ℕ) → Status → Type 0
@@ -71,6 +71,6 @@ IsTold scripts held held' _ = ⊥
 -- what was written of a line without a caller at each status; the others don't come
 abbrev pub IsRefused : ℕ → Option (List ℕ) → Option (List ℕ) → Status → Type 0
 IsRefused number held held' NoCaller = Adds held held' (no_caller_text number)
-IsRefused number held held' WriteFault = WritesFront held held' (no_caller_text number)
+IsRefused number held held' WriteFault = WritesPrefix held held' (no_caller_text number)
 IsRefused number held held' NoMemory = held' ≡ held
 IsRefused number held held' _ = ⊥

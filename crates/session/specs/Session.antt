@@ -42,18 +42,22 @@ pub record IsEnded (ending : LineAnswer) (left left' held held' : Option (List �
   pub read : ReadsAll 67108864 65536 left lines ending left'
   pub answered : IsAnswered (lines ∷ []) held held'
 
--- a front of the text was written
-abbrev pub WritesFront : Option (List ℕ) → Option (List ℕ) → List ℕ → Type 0
-WritesFront old new text = (n : ℕ) × (n ≤ length text) × Adds old new (take n text)
+-- a prefix of the text was written
+abbrev pub WritesPrefix : Option (List ℕ) → Option (List ℕ) → List ℕ → Type 0
+WritesPrefix old new text = (n : ℕ) × (n ≤ length text) × Adds old new (take n text)
 
--- the first lines of what was read, within the limits, were done, and a front of the text of a sound history of them was written
+-- a prefix of the text of a sound history of these scripts was written; the whole text tells that history
+pub record IsPartlyAnswered (scripts : List (List ScriptLine)) (held held' : Option (List ℕ)) : Type 0 where
+  pub history : List EventEntry
+  pub sound : IsSound scripts history
+  pub telling : AllByRecursion IsTelling history
+  pub prefix : WritesPrefix held held' (text_of_history history)
+
+-- the first lines of what was read, within the limits, were done, and a prefix of the replies to them was written
 pub record IsCutOff (left left' held held' : Option (List ℕ)) : Type 0 where
   pub lines : List ScriptLine
   pub read : ReadsFirst 67108864 65536 left lines left'
-  pub history : List EventEntry
-  pub sound : IsSound (lines ∷ []) history
-  pub telling : AllByRecursion IsTelling history
-  pub front : WritesFront held held' (text_of_history history)
+  pub answered : IsPartlyAnswered (lines ∷ []) held held'
 
 -- what was read and written at each status
 abbrev pub IsSession : Option (List ℕ) → Option (List ℕ) → Option (List ℕ) → Option (List ℕ) → Status → Type 0
@@ -80,11 +84,11 @@ IsWritingCause writes writes' _ = Unit {0}
 
 -- ---- replies that are gathered
 
--- of this text a front was written, and the rest are the replies that are gathered
+-- of this text a prefix was written, and the rest are the replies that are gathered
 abbrev pub Gathers : Option (List ℕ) → Option (List ℕ) → List ℕ → List ℕ → Type 0
 Gathers held held' replies text = (told : List ℕ) × Adds held held' told × (text ≡ told ++ replies)
 
--- of the text of a sound history of the first lines of what was read a front was written, and the rest is gathered
+-- of the text of a sound history of the first lines of what was read a prefix was written, and the rest is gathered
 pub record IsGathered (left left' held held' : Option (List ℕ)) (replies : List ℕ) : Type 0 where
   pub lines : List ScriptLine
   pub read : ReadsFirst 67108864 65536 left lines left'

@@ -17,7 +17,7 @@ use Rattle.desk_events.specs.declared.reply.Reply.TheVariants.{Submitted, Publis
 use Rattle.desk_core.specs.History.{IsWhole}
 use Rattle.workload.specs.Lines.{workload_lines}
 use Rattle.session.specs.declared.summary.Summary.{Summary}
-use Rattle.session.specs.Session.{IsSound, WritesFront}
+use Rattle.session.specs.Session.{IsSound, WritesPrefix}
 
 -- ---- what is counted of a history
 
@@ -83,17 +83,17 @@ pub record IsSummary (number : ℕ) (summary : Summary) : Type 0 where
 abbrev pub IsSummaryText : ℕ → List ℕ → Type 0
 IsSummaryText number text = (summary : Summary) × IsSummary number summary × (text ≡ summary_text summary)
 
--- what was written of a workload at each status: the text, a front of it, or nothing; the other statuses don't come
+-- what was written of a workload at each status: the text, a prefix of it, or nothing; the other statuses don't come
 abbrev pub IsWorkloadRun : ℕ → Option (List ℕ) → Option (List ℕ) → Status → Type 0
 IsWorkloadRun number held held' Done = (text : List ℕ) × IsSummaryText number text × Adds held held' text
-IsWorkloadRun number held held' WriteFault = (text : List ℕ) × IsSummaryText number text × WritesFront held held' text
+IsWorkloadRun number held held' WriteFault = (text : List ℕ) × IsSummaryText number text × WritesPrefix held held' text
 IsWorkloadRun number held held' NoMemory = held' ≡ held
 IsWorkloadRun number held held' _ = ⊥
 
--- the text is written, or a front of it
+-- the text is written, or a prefix of it
 abbrev pub WritesSummary : Option (List ℕ) → Option (List ℕ) → List ℕ → Status → Type 0
 WritesSummary held held' text Done = Adds held held' text
-WritesSummary held held' text WriteFault = WritesFront held held' text
+WritesSummary held held' text WriteFault = WritesPrefix held held' text
 WritesSummary held held' text _ = ⊥
 
 -- ---- counting

@@ -17,24 +17,24 @@ returns-then-asked-version c =
 pub returns-in_err-snapshot : goal.returns-in_err-snapshot
 returns-in_err-snapshot c = no_memory_from c.args.version (seen c.args.self.now) c.args.asked c.args.claim.now c.from_residual.result c.from_residual.ensures.1
 
-pub returns-in-Ok-No : goal.returns-in-Ok-No
-returns-in-Ok-No c =
-    let d = seen c.args.self.now in
-    let found = subst (λ (s : Parts). IsVerdict s c.args.claim.now c.in-Ok-No.field-0) c.in_ok-snapshot.ensures c.in-Ok-No.ensures.verdict in
-    let no = subst (IsVerdict _ c.args.claim.now) c.in-Ok-No.field-0-is found in
-    subst (λ (f : CommandFault). DecidesByVerdict c.args.version d c.args.asked c.args.claim.now d (Err f)) (sym c.into-in-Ok-No.ensures)
-    (rejected_is c.args.version d c.args.asked c.args.claim.now c.in-Ok-No.reason c.if-asked-version.false no)
+pub returns-in_err-check : goal.returns-in_err-check
+returns-in_err-check c = no_memory_from c.args.version (seen c.args.self.now) c.args.asked c.args.claim.now c.from_residual-in_err-check.result c.from_residual-in_err-check.ensures.1
 
-pub returns-in-Err : goal.returns-in-Err
-returns-in-Err c = no_memory_from c.args.version (seen c.args.self.now) c.args.asked c.args.claim.now (Err c.into-in-Err.result) c.into-in-Err.ensures
-
-pub returns-in_ok-publish_told-in-Ok-Yes : goal.returns-in_ok-publish_told-in-Ok-Yes
-returns-in_ok-publish_told-in-Ok-Yes c =
+pub returns-in-No : goal.returns-in-No
+returns-in-No c =
     let d = seen c.args.self.now in
-    let found = subst (λ (s : Parts). IsVerdict s c.args.claim.now c.in-Ok-Yes.field-0) c.in_ok-snapshot.ensures c.in-Ok-Yes.ensures.verdict in
-    let yes = subst (IsVerdict _ c.args.claim.now) c.in-Ok-Yes.field-0-is found in
+    let found = subst (λ (s : Parts). IsVerdict s c.args.claim.now c.in_ok-check.field-0) c.in_ok-snapshot.ensures c.in_ok-check.ensures.verdict in
+    let no = subst (IsVerdict _ c.args.claim.now) c.in-No.is found in
+    subst (λ (f : CommandFault). DecidesByVerdict c.args.version d c.args.asked c.args.claim.now d (Err f)) (sym c.into-in-No.ensures)
+    (rejected_is c.args.version d c.args.asked c.args.claim.now c.in-No.reason c.if-asked-version.false no)
+
+pub returns-in_ok-publish_told-in-Yes : goal.returns-in_ok-publish_told-in-Yes
+returns-in_ok-publish_told-in-Yes c =
+    let d = seen c.args.self.now in
+    let found = subst (λ (s : Parts). IsVerdict s c.args.claim.now c.in_ok-check.field-0) c.in_ok-snapshot.ensures c.in_ok-check.ensures.verdict in
+    let yes = subst (IsVerdict _ c.args.claim.now) c.in-Yes.is found in
     let version : c.in_ok-snapshot.snapshot.version ≡ c.args.version = ap (λ (s : Parts). s.version) c.in_ok-snapshot.ensures in
-    let published = c.in_ok-publish_told-in-Ok-Yes.ensures in
+    let published = c.in_ok-publish_told-in-Yes.ensures in
     subst (λ (r : Reply). DecidesByVerdict c.args.version d c.args.asked c.args.claim.now (seen c.publish_told.new.self) (Ok r)) (sym published.reply)
-    (published_is c.args.version d (seen c.publish_told.new.self) c.args.asked c.args.claim.now c.in-Ok-Yes.field-0-0 c.in-Ok-Yes.field-0-1 c.if-asked-version.false yes
+    (published_is c.args.version d (seen c.publish_told.new.self) c.args.asked c.args.claim.now c.in-Yes.value c.in-Yes.bound c.if-asked-version.false yes
     (published.desk ∙ ap (λ v. with_publication v c.args.claim.now d) version))

@@ -1,4 +1,4 @@
--- The first entries of a history of which nothing is left to do.
+-- The first entries of a whole history are in the order of the scripts.
 use Rattle.std.proofs.Common.{◌≡◌, ℕ, ◌+◌, ◌-◌, ◌≤◌, ◌<◌, ◌⊎◌, List, [], ◌∷◌, ◌++◌, length, take, drop, map, refl, sym, ◌∙◌, ap, subst, arith, inl, inr, take-append-drop}
 use Rattle.std.proofs.lemmas.List.{map-append}
 use Rattle.std.proofs.lemmas.List.Elements.{filter-append}
@@ -7,13 +7,7 @@ use Rattle.plan_io.specs.declared.lines.ScriptLine.{ScriptLine}
 use Rattle.desk_events.specs.declared.entry.EventEntry.{EventEntry}
 use Rattle.desk_events.specs.declared.entry.What.{What}
 use Rattle.desk_events.specs.declared.entry.What.TheVariants.{Line, Take, Publish}
-use Rattle.desk_core.specs.History.{script_of, entries_of, turns_of, AreTurnsOf, AnswersPrefix, IsEntry, EachAfter, IsWhole}
-use Rattle.desk_book.specs.Claims.{IsClaimEntry}
-use Rattle.desk_book.specs.Kept.{IsBook}
-use Rattle.desk_book.specs.Seen.{BookSeen, IsOver}
-use Rattle.desk_book.proofs.Histories.{each_front, each_none}
-use Rattle.desk_book.proofs.Whole.{over_is_whole}
-use Rattle.session.specs.Session.{IsSound}
+use Rattle.desk_core.specs.History.{script_of, entries_of, turns_of, AreTurnsOf, AnswersPrefix, IsWhole}
 
 -- ---- the first turns
 
@@ -107,34 +101,11 @@ turns_append caller xs ys =
     ap (λ (es : List EventEntry). map (λ e. (e.line, e.what)) es) (filter-append (λ e. e.caller == caller) xs ys)
     ∙ map-append (λ e. (e.line, e.what)) (entries_of caller xs) (entries_of caller ys)
 
-front_order : (scripts : List (List ScriptLine)) (history : List EventEntry) (n caller : ℕ) → IsWhole scripts history
+pub prefix_order : (scripts : List (List ScriptLine)) (history : List EventEntry) (n caller : ℕ) → IsWhole scripts history
     → AnswersPrefix (script_of scripts caller) (turns_of caller (take n history))
-front_order scripts history n caller whole =
+prefix_order scripts history n caller whole =
     let script : List ScriptLine = script_of scripts caller in
     let cut : turns_of caller history ≡ turns_of caller (take n history) ++ turns_of caller (drop n history) =
     ap (turns_of caller) (sym (take-append-drop n history)) ∙ turns_append caller (take n history) (drop n history) in
     prefix_turns script (turns_of caller (take n history))
     (first_turns 1 (length script + 1) (turns_of caller (take n history)) (turns_of caller (drop n history)) (subst (λ (ts : List (ℕ × What)). AreTurnsOf 1 ts (length script + 1)) cut (whole caller)))
-
--- all entries
-pub book_sound : (b : BookSeen) → IsBook b → IsSound b.scripts b.history
-book_sound b k = record { legal = k.legal; bounded = k.claims }
-
--- the first entries of a book in which nothing is left to do
-pub front_sound : (b : BookSeen) (n : ℕ) → IsBook b → ((caller : ℕ) → IsOver b caller) → IsSound b.scripts (take n b.history)
-front_sound b n k over =
-    let cut : b.history ≡ take n b.history ++ drop n b.history = sym (take-append-drop n b.history) in
-    record {
-      legal = record {
-        order = λ caller. front_order b.scripts b.history n caller (over_is_whole b k over);
-        each = each_front (IsEntry b.scripts) (take n b.history) (drop n b.history) (subst (λ (es : List EventEntry). EachAfter (IsEntry b.scripts) es) cut k.legal.each);
-      };
-      bounded = each_front (IsClaimEntry b.scripts) (take n b.history) (drop n b.history) (subst (λ (es : List EventEntry). EachAfter (IsClaimEntry b.scripts) es) cut k.claims);
-    }
-
--- no entry
-pub none_sound : (scripts : List (List ScriptLine)) → IsSound scripts []
-none_sound scripts = record {
-  legal = record { order = λ caller. (0, inl (omega arith, refl)); each = each_none (IsEntry scripts) };
-  bounded = each_none (IsClaimEntry scripts);
-}
