@@ -13,14 +13,16 @@ COLUMNS = ("library", "tests", "what edits begin with", "edits")
 PAUSE = 0.5
 
 
-def column_of(words):
-    """What a check with these words is for."""
+def column_of(words, folder):
+    """What a check with these words, run in this folder, is for. A program is checked where it stands, and an edit of it in a copy."""
     if "--test" in words:
         return "tests"
     if words[1] == "build":
         return "library"
     kept = words[words.index("--incremental") + 1] if "--incremental" in words else ""
-    return "what edits begin with" if kept.endswith("/seed") else "edits"
+    if kept.endswith("/seed"):
+        return "what edits begin with"
+    return "edits" if os.path.basename(folder).startswith("rt-edit-") else "library"
 
 
 def check_at(pid, session):
@@ -30,13 +32,14 @@ def check_at(pid, session):
             words = file.read().split("\0")
         with open(f"/proc/{pid}/stat", encoding="utf-8", errors="replace") as file:
             fields = file.read().rsplit(")", 1)[1].split()
+        folder = os.readlink(f"/proc/{pid}/cwd")
     except (OSError, IndexError):
         # it has ended
         return None
     if os.path.basename(words[0]) != "rattle" or "--crate-name" not in words or fields[3] != str(session):
         return None
     seconds = (int(fields[11]) + int(fields[12])) / TICKS
-    return fields[19], words[words.index("--crate-name") + 1], column_of(words), seconds
+    return fields[19], words[words.index("--crate-name") + 1], column_of(words, folder), seconds
 
 
 def watch(command):
