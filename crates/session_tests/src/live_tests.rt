@@ -1,18 +1,15 @@
 //! Sessions of several callers over a source and a sink in memory: the order of two callers' lines, which a gate holds, and faults in
 //! mid-stream. What other sessions write stands in the files of cases/live, at the top of the repository.
+use crate::between::Between;
 use crate::ends::{sink_of, source_of};
 use crate::script::{GRANT, INSTRUMENT, NIGHT, OPEN, PLAN, SKY, SUBMIT, TELESCOPE};
 use plan_io::{Gate, MemSink, MemSource, NoGate, Point, Status};
 use session::*;
 use std::alloc::{AllocError, Global};
-use std::hint::spin_loop;
 use std::sync::Wait;
-use std::sync::atomic::{AtomicU32, Ordering};
+use std::sync::atomic::Ordering;
 use std::test::Fail;
 use std::thread::Threads;
-
-/// How often a hold turns at most.
-const MOST_TURNS: u32 = 100_000_000;
 
 /// The status of a session of several callers.
 fn status_of<R: Threads + Wait + Sync, G: Gate>(
@@ -81,36 +78,6 @@ const REPLIES: &[u8] = b"\
     {\"asked\":7,\"caller\":0,\"line\":8,\"newer\":8,\"no\":31,\"refused\":\"Stale\",\"version\":8}\n\
     {\"caller\":0,\"line\":9,\"ok\":\"taken\",\"version\":8}\n\
     {\"caller\":0,\"claim\":{\"bound\":350000,\"placements\":[[1,0,0],[2,0,1]],\"prices\":[25000,25000],\"value\":100000},\"line\":9,\"ok\":\"published\",\"version\":8}\n";
-
-/// Holds caller 1 until caller 0 has taken what is to be planned first, and caller 0 there until caller 1 has its reply.
-#[derive(Drop)]
-struct Between {
-    taken: AtomicU32,
-    replied: AtomicU32,
-    /// How many holds ran out of turns.
-    late: AtomicU32,
-}
-
-impl Between {
-    fn new() -> Between {
-        Between {
-            taken: AtomicU32::new(0),
-            replied: AtomicU32::new(0),
-            late: AtomicU32::new(0),
-        }
-    }
-
-    /// Waits until a count has risen.
-    fn wait(&self, count: &AtomicU32) {
-        for _ in 0..MOST_TURNS {
-            if count.load(Ordering::SeqCst) > 0 {
-                return;
-            }
-            spin_loop();
-        }
-        self.late.fetch_add(1, Ordering::SeqCst);
-    }
-}
 
 impl Gate for Between {
     fn pass(&self, point: Point) {

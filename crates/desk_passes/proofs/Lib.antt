@@ -1,0 +1,7 @@
+pub mod Logs
+pub mod Views
+pub mod Keeping
+pub mod Roots
+pub mod Steps
+pub mod Books
+pub mod Known
