@@ -8,6 +8,7 @@ pub mod Numbers
 pub mod OneHistory
 pub mod OnePlanned
 pub mod OneSummary
+pub mod Passes
 pub mod Plans
 pub mod Reading
 pub mod Scripts

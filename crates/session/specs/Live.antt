@@ -1,5 +1,6 @@
 -- What a session of several callers reads and writes.
-use Rattle.std.specs.Prelude.{◌≡◌, ℕ, ◌+◌, ◌==◌, ◌⊎◌, Bool, false, All, IsSome, List, [], ◌∷◌, ◌++◌, length, map, filter, codes, None}
+use Rattle.std.specs.Prelude.{◌≡◌, ℕ, ◌+◌, ◌==◌, ◌⊎◌, Bool, false, All, IsSome, List, [], ◌∷◌, ◌++◌, length, map, filter, codes, None, String}
+use Rattle.std.specs.declared.alloc.Global.{Global}
 use Rattle.std.specs.declared.option.Option.{Option}
 use Rattle.std.specs.Option.{option_map_or, option_and_then}
 use Rattle.std.specs.Result.{result_ok}
@@ -10,6 +11,7 @@ use Rattle.plan_io.specs.declared.lines.LineAnswer.{LineAnswer}
 use Rattle.plan_io.specs.declared.lines.LineAnswer.TheVariants as ending
 use Rattle.plan_io.specs.declared.status.Status.{Status}
 use Rattle.plan_io.specs.declared.status.Status.TheVariants.{Done, Words, ReadFault, WriteFault, NoMemory, InputOver, NoDocument, No, NoCaller}
+use Rattle.plan_io.specs.Words.{IsOneWord}
 use Rattle.plan_io.specs.Reading.{ReadsAll, ReadsFirst}
 use Rattle.plan_io.specs.Sink.{Adds}
 use Rattle.plan_json.specs.declared.member.Member.TheVariants as member
@@ -18,6 +20,10 @@ use Rattle.plan_json.specs.Object.{document_of, member_of}
 use Rattle.plan_json.specs.Values.{has, whole, object_of}
 use Rattle.plan_json.specs.Whole.{number_in}
 use Rattle.session.specs.Session.{IsAnswered, IsPartlyAnswered, WritesPrefix}
+
+-- the one word `live`, or the one word `passes`
+abbrev pub AreLiveWords : List (String Global) → Type 0
+AreLiveWords words = IsOneWord (codes "live") words ⊎ IsOneWord (codes "passes") words
 
 -- ---- who sends a line
 

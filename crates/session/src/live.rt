@@ -1,17 +1,19 @@
 //! A session of several callers, from its words to its status.
-ghost use Rattle.std.specs.Prelude.{◌≡◌, ◌≢◌, ◌↔◌, codes, IsTrue};
-ghost use Rattle.plan_io.specs.Words.{IsOneWord};
+ghost use Rattle.std.specs.Prelude.{◌≡◌, ◌≢◌, ◌↔◌, ℕ, IsSome, IfOk};
+ghost use Rattle.desk_book.specs.Seen.{IsOver};
 ghost use Rattle.session.specs.Session.{IsSessionCause, IsWritingCause};
-ghost use Rattle.session.specs.Live.{IsLive};
+ghost use Rattle.session.specs.Live.{AreLiveWords, IsLive};
 ghost use Rattle.session.specs.LiveParts.{IsTold};
 
+mod passes;
 mod reading;
+mod same;
 mod writing;
 
 use desk_book::Book;
 use plan_io::{Gate, Sink, Source, Status};
 use reading::{Input, read_input};
-use std::alloc::Global;
+use std::alloc::{AllocError, Global};
 use std::sync::Wait;
 use std::thread::Threads;
 use writing::{write_history, write_refusal};
@@ -19,13 +21,46 @@ use writing::{write_history, write_refusal};
 /// How many callers a session may have.
 const CALLERS: u8 = 8;
 
-/// Whether the words are the one word `live`.
-fn is_live(words: &[String]) -> bool
-    ensures { IsTrue result ↔ IsOneWord (codes "live") words.now }
+/// The most lines of a caller.
+const MOST_LINES: u32 = 65_536;
+
+/// How the threads of callers share their desk.
+#[derive(Clone, Copy)]
+enum Sharing {
+    /// It lies under a lock.
+    Lock,
+    /// Each calls it through a pass.
+    Passes,
+}
+
+/// What the words ask for, if they are the one word `live` or the one word `passes`.
+fn sharing_of(words: &[String]) -> Option<Sharing>
+    ensures { IsSome result ↔ AreLiveWords words.now }
 {
-    match words {
-        [only] => only.as_str() == "live",
-        _ => false,
+    let [only] = words else {
+        return None;
+    };
+    match only.as_str() {
+        "live" => Some(Sharing::Lock),
+        "passes" => Some(Sharing::Passes),
+        _ => None,
+    }
+}
+
+/// Does all lines of a book, those of each caller in a thread of its own. Fails only for want of memory.
+fn play_by<R: Threads + Wait + Sync, G: Gate>(
+    rt: &R,
+    alloc: Global,
+    sharing: Sharing,
+    book: Book,
+    gate: &G,
+) -> Result<Book, AllocError>
+    ensures scripts { IfOk result (λ done. done.scripts ≡ book.scripts) }
+    ensures over { IfOk result (λ done. (caller : ℕ) → IsOver done caller) }
+{
+    match sharing {
+        Sharing::Lock => desk_lock::play(rt, alloc, book, gate),
+        Sharing::Passes => passes::play(rt, alloc, book, gate),
     }
 }
 
@@ -33,6 +68,7 @@ fn is_live(words: &[String]) -> bool
 fn do_lines<R: Threads + Wait + Sync, K: Sink, G: Gate>(
     rt: &R,
     alloc: Global,
+    sharing: Sharing,
     book: Book,
     sink: &mut K,
     gate: &G,
@@ -40,7 +76,7 @@ fn do_lines<R: Threads + Wait + Sync, K: Sink, G: Gate>(
     ensures told { IsTold book.scripts (K.written sink.old) (K.written sink.new) result }
     ensures cause { IsWritingCause (K.faults sink.old) (K.faults sink.new) result }
 {
-    let Ok(done) = desk_lock::play(rt, alloc, book, gate) else {
+    let Ok(done) = play_by(rt, alloc, sharing, book, gate) else {
         return Status::NoMemory;
     };
     write_history(alloc, &done, sink)
@@ -50,6 +86,7 @@ fn do_lines<R: Threads + Wait + Sync, K: Sink, G: Gate>(
 fn play<R: Threads + Wait + Sync, S: Source, K: Sink, G: Gate>(
     rt: &R,
     alloc: Global,
+    sharing: Sharing,
     source: &mut S,
     sink: &mut K,
     gate: &G,
@@ -64,7 +101,7 @@ fn play<R: Threads + Wait + Sync, S: Source, K: Sink, G: Gate>(
         return Status::NoMemory;
     };
     match read_input(alloc, source, &mut book) {
-        Ok(Input::Whole) => do_lines(rt, alloc, book, sink, gate),
+        Ok(Input::Whole) => do_lines(rt, alloc, sharing, book, sink, gate),
         Ok(Input::NoCaller(number)) => write_refusal(alloc, number, sink),
         Ok(Input::ReadFault) => Status::ReadFault,
         Ok(Input::InputOver) => Status::InputOver,
@@ -72,7 +109,9 @@ fn play<R: Threads + Wait + Sync, S: Source, K: Sink, G: Gate>(
     }
 }
 
-/// Runs a session of eight callers. The words are the one word `live`; else the status is `Words` and nothing is read or written.
+/// Runs a session of eight callers. The words are the one word `live` or the one word `passes`; else the status is `Words` and
+/// nothing is read or written. With `live` the callers' threads share the desk under a lock, with `passes` each calls it through a
+/// pass; all that is said here holds of both.
 ///
 /// Each line is an object with a `caller`, a whole number from 0 to 7. All lines are read first, at most 16,777,216 bytes and
 /// 65,536 lines. Where a read fails or there is more, the status is `ReadFault` or `InputOver`, and nothing is done or written.
@@ -92,15 +131,15 @@ pub fn run_live<R: Threads + Wait + Sync, S: Source, K: Sink, G: Gate>(
     sink: &mut K,
     gate: &G,
 ) -> Status
-    ensures words { (result ≡ Status.Words) ↔ ¬ (IsOneWord (codes "live") words.now) }
+    ensures words { (result ≡ Status.Words) ↔ ¬ (AreLiveWords words.now) }
     ensures untouched { result ≡ Status.Words → (source.new ≡ source.old) × (sink.new ≡ sink.old) }
     ensures unread { result ≡ Status.ReadFault → sink.new ≡ sink.old }
     ensures over { result ≡ Status.InputOver → sink.new ≡ sink.old }
     ensures live { IsLive (S.left source.old) (S.left source.new) (K.written sink.old) (K.written sink.new) result }
     ensures cause { IsSessionCause (S.faults source.old) (S.faults source.new) (K.faults sink.old) (K.faults sink.new) result }
 {
-    if !is_live(words) {
+    let Some(sharing) = sharing_of(words) else {
         return Status::Words;
-    }
-    play(rt, alloc, source, sink, gate)
+    };
+    play(rt, alloc, sharing, source, sink, gate)
 }
