@@ -1,5 +1,5 @@
 -- Each step keeps the rule.
-use Rattle.std.proofs.Common.{◌≡◌, ◌≢◌, ℕ, zero, suc, ◌<◌, List, [], ◌∷◌, ◌++◌, refl, sym, ◌∙◌, ap, subst, ◌⊎◌, inl, inr, ⊎_elim, arith, Option, Some, None, slice_set, length}
+use Rattle.std.proofs.Common.{true, ◌≡◌, ◌≢◌, ℕ, zero, suc, ◌<◌, List, [], ◌∷◌, ◌++◌, refl, sym, ◌∙◌, ap, subst, ◌⊎◌, inl, inr, ⊎_elim, arith, Option, Some, None, slice_set, length}
 use mathlib.Core.Option.{Option as Home, some, none, some-injective}
 use lib.ListN.{get_elem?}
 use Rattle.atomic_table.proofs.Lists.{at_longer, set_else}
@@ -11,7 +11,7 @@ use Rattle.desk_passes.specs.declared.seen.PassView.{PassView}
 use Rattle.desk_passes.specs.declared.seen.SeenEntry.{SeenEntry}
 use Rattle.desk_passes.specs.Seen.{log_of, of_caller, open_take, BeginsWith}
 use Rattle.desk_passes.specs.Knowing.{IsOwn}
-use Rattle.desk_passes.specs.Rule.{IsShared, IsHome, IsOut, IsWithin, place_of, IsRoot, Rule}
+use Rattle.desk_passes.specs.Rule.{EachIsBack, IsShared, IsHome, IsOut, IsWithin, place_of, IsRoot, Rule}
 use Rattle.desk_passes.specs.Steps.{spent, with_turn, with_entry, without_turn}
 use Rattle.desk_passes.specs.Turns.{HasOneMore}
 use Rattle.desk_passes.proofs.Logs.{begins_same, begins_none, begins_more, own_other}
@@ -94,10 +94,11 @@ pub record Replaces (b : BookSeen) (v w : PassView) : Type 0 where
   pub still : v.turn ≡ None
   pub stays : w.turn ≡ None
   pub within : IsWithin b w
+  pub all : (v.looked ≡ true → EachIsBack v → v.seen ≡ log_of b) → w.looked ≡ true → EachIsBack w → w.seen ≡ log_of b
 
-root_put : (callers : ℕ) (b : BookSeen) (views : List PassView) (i : ℕ) (v w : PassView) → get_elem? views i ≡ some v → w.caller ≡ v.caller → w.passes ≡ v.passes → IsRoot callers b views
-    → IsRoot callers b (slice_set views i w)
-root_put callers b views zero v w at same passes root =
+root_put : (callers : ℕ) (b : BookSeen) (views : List PassView) (i : ℕ) (v w : PassView) → get_elem? views i ≡ some v → w.caller ≡ v.caller → w.passes ≡ v.passes
+    → ((v.looked ≡ true → EachIsBack v → v.seen ≡ log_of b) → w.looked ≡ true → EachIsBack w → w.seen ≡ log_of b) → IsRoot callers b views → IsRoot callers b (slice_set views i w)
+root_put callers b views zero v w at same passes all root =
     let is : root.view ≡ v = same_there views 0 root.view v root.at at in
     let held : w.passes ≡ root.view.passes = passes ∙ ap (λ (u : PassView). u.passes) (sym is) in
     record {
@@ -109,8 +110,9 @@ root_put callers b views zero v w at same passes root =
           (λ seat u there caller mine. ap (λ (ps : List PassPlace). place_of ps caller) held ∙ root.out seat u there caller mine)
           (λ caller mine. no_some v.caller caller (ap (λ (u : PassView). u.caller) (sym is) ∙ root.nobody) (sym same ∙ mine));
       not_made = λ caller unmade. root.not_made caller (sym (ap (λ (ps : List PassPlace). place_of ps caller) held) ∙ unmade);
+      all = all (subst (λ (u : PassView). u.looked ≡ true → EachIsBack u → u.seen ≡ log_of b) is root.all);
     }
-root_put callers b views (suc i) v w at same passes root = record {
+root_put callers b views (suc i) v w at same passes all root = record {
   view = root.view;
   at = set_else views (suc i) 0 w (λ e. omega arith) ∙ root.at;
   nobody = root.nobody;
@@ -118,6 +120,7 @@ root_put callers b views (suc i) v w at same passes root = record {
   out = each_set (λ seat u. (caller : ℕ) → u.caller ≡ Some caller → place_of root.view.passes caller ≡ Out) views (suc i) w root.out
       (λ caller mine. root.out (suc i) v at caller (sym same ∙ mine));
   not_made = root.not_made;
+  all = root.all;
 }
 
 pub rule_put : (callers turn : ℕ) (homes : List (Home (Option BookSeen))) (views : List PassView) (b : BookSeen) (i : ℕ) (v w : PassView) → Rule callers turn homes views b
@@ -127,7 +130,7 @@ rule_put callers turn homes views b i v w r at new = record {
   place = place_put turn homes views b i v w at new.still new.stays r.place;
   within = each_set (λ seat u. IsWithin b u) views i w r.within new.within;
   apart = apart_set views i v w r.apart at (λ caller mine. sym new.caller ∙ mine);
-  root = root_put callers b views i v w at new.caller new.passes r.root;
+  root = root_put callers b views i v w at new.caller new.passes new.all r.root;
 }
 
 -- ---- a view is added that is unheld
@@ -147,6 +150,7 @@ rule_more callers turn homes views b u r nobody stays within = record {
     out = each_more (λ seat w. (caller : ℕ) → w.caller ≡ Some caller → place_of r.root.view.passes caller ≡ Out) views u r.root.out
         (λ caller mine. no_some u.caller caller nobody mine);
     not_made = r.root.not_made;
+    all = r.root.all;
   };
 }
 
@@ -175,6 +179,7 @@ rule_spent callers turn homes views b i v r at later still = record {
     out = each_set (λ seat u. (caller : ℕ) → u.caller ≡ Some caller → place_of r.root.view.passes caller ≡ Out) views i spent r.root.out
         (λ caller is. no_some spent.caller caller refl is);
     not_made = r.root.not_made;
+    all = r.root.all;
   };
 }
 
@@ -211,6 +216,7 @@ rule_steps callers turn homes views b i caller v w turn' homes' c r at mine same
         out = each_set (λ seat u. (caller' : ℕ) → u.caller ≡ Some caller' → place_of r.root.view.passes caller' ≡ Out) views i w r.root.out
             (λ caller' is. r.root.out i v at caller' (sym same ∙ is));
         not_made = λ caller' unmade. new.not_made caller' (unmade_apart callers b views r.root caller' unmade) (r.root.not_made caller' unmade);
+        all = λ looked back. absurd (back caller (r.root.out i v at caller mine));
       };
     }
 

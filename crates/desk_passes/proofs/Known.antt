@@ -23,7 +23,7 @@ use Rattle.desk_book.specs.Kept.{IsOpenTake}
 use Rattle.desk_passes.specs.declared.seen.OpenTake.{OpenTake}
 use Rattle.desk_passes.specs.declared.seen.PassView.{PassView}
 use Rattle.desk_passes.specs.declared.seen.SeenEntry.{SeenEntry}
-use Rattle.desk_passes.specs.Seen.{with_line_of, log_of, of_caller, lines_done, line_next, open_with, begun, BeginsWith, EachHasEntry}
+use Rattle.desk_passes.specs.Seen.{with_line_of, log_of, of_caller, lines_done, line_next, open_with, begun, EachHasEntry}
 use Rattle.desk_passes.specs.Knowing.{IsFull, IsOwn, SeesAll}
 use Rattle.desk_passes.specs.Plays.{Seated, GoesOn, GetsTurn, Counts}
 use Rattle.desk_passes.specs.Steps.{with_turn, with_entry, without_turn}
@@ -230,8 +230,8 @@ pub closed_none : {callers : ℕ} {v : PassView} {slots : List (Option BookSeen)
 closed_none c r at empty = let clash : Some c.book ≡ None = closed_slot c r at ∙ empty in absurd (cc)
 
 pub closed_book : {callers : ℕ} {v : PassView} {slots : List (Option BookSeen)} (c : Closes callers v slots) (r : Option BookSeen) (book : BookSeen) → get_elem? slots 0 ≡ some r → r ≡ Some book
-    → (length book.scripts ≡ callers) × BeginsWith (log_of book) v.seen × EachHasEntry book
+    → (length book.scripts ≡ callers) × (v.seen ≡ log_of book) × EachHasEntry book
 closed_book {callers} {v} {slots} c r book at is =
     let both : Some c.book ≡ Some book = closed_slot c r at ∙ is in
     let one : c.book ≡ book = cc in
-    subst (λ (b : BookSeen). (length b.scripts ≡ callers) × BeginsWith (log_of b) v.seen × EachHasEntry b) one (c.count, c.seen, c.each)
+    subst (λ (b : BookSeen). (length b.scripts ≡ callers) × (v.seen ≡ log_of b) × EachHasEntry b) one (c.count, c.seen, c.each)

@@ -1,5 +1,5 @@
 -- The root's passes are made and come back: that keeps the rule.
-use Rattle.std.proofs.Common.{◌≡◌, ◌≢◌, ℕ, zero, suc, ◌<◌, List, [], ◌∷◌, ◌++◌, refl, sym, ◌∙◌, ap, subst, arith, Option, Some, None, slice_set, length}
+use Rattle.std.proofs.Common.{true, false, ◌≡◌, ◌≢◌, ℕ, zero, suc, ◌<◌, List, [], ◌∷◌, ◌++◌, refl, sym, ◌∙◌, ap, subst, arith, Option, Some, None, slice_set, length}
 use Rattle.std.proofs.Common.{length-set, get_or-set_same, get_or-set_other}
 use mathlib.Core.Option.{Option as Home, some}
 use lib.ListN.{get_elem?}
@@ -79,15 +79,16 @@ makes_pass callers turn homes views b caller v r at unmade =
             let ne : caller' ≢ caller = λ same.
             let clash : Out ≡ NotMade = sym here ∙ ap (place_of w.passes) (sym same) ∙ unmade'' in absurd (cc) in
             r.root.not_made caller' (sym (ap (λ (ps : List PassPlace). place_of ps caller') passes) ∙ sym (get_or-set_other v.passes caller caller' Out Back ne) ∙ unmade'');
+        all = λ looked back. absurd (back caller here);
       };
     }
 
 -- the root is told of a pass that is back, which is no view's any more
 pub takes_back : (callers turn : ℕ) (homes : List (Home (Option BookSeen))) (views : List PassView) (b : BookSeen) (caller : ℕ) (v w : PassView) → Rule callers turn homes views b
     → get_elem? views 0 ≡ some v → EachView (λ seat u. u.caller ≢ Some caller) views → caller < callers
-    → w.caller ≡ v.caller → w.turn ≡ v.turn → w.passes ≡ slice_set v.passes caller Back → IsWithin b w
+    → w.caller ≡ v.caller → w.turn ≡ v.turn → w.passes ≡ slice_set v.passes caller Back → w.looked ≡ false → IsWithin b w
     → Rule callers turn homes (slice_set views 0 w) b
-takes_back callers turn homes views b caller v w r at unheld low same turned back within =
+takes_back callers turn homes views b caller v w r at unheld low same turned back unlooked within =
     let is : r.root.view ≡ v = same_there views 0 r.root.view v r.root.at at in
     let nobody : v.caller ≡ None = ap (λ (x : PassView). x.caller) (sym is) ∙ r.root.nobody in
     let still : v.turn ≡ None = (r.within 0 v at).nobody nobody in
@@ -114,5 +115,6 @@ takes_back callers turn homes views b caller v w r at unheld low same turned bac
             let ne : other ≢ caller = λ one.
             let clash : Back ≡ NotMade = sym here ∙ ap (place_of w.passes) (sym one) ∙ unmade in absurd (cc) in
             r.root.not_made other (sym (others other ne) ∙ unmade);
+        all = λ looked _. let clash : false ≡ true = sym unlooked ∙ looked in absurd (cc);
       };
     }

@@ -1,5 +1,5 @@
 -- What the table asks of each step.
-use Rattle.std.proofs.Common.{◌≡◌, ◌≢◌, ℕ, zero, suc, ◌+◌, ◌%◌, ◌^◌, ◌<◌, List, [], ◌∷◌, ◌++◌, refl, sym, ◌∙◌, ap, subst, ◌⊎◌, inl, inr, arith, Option, Some, None, slice_set, slice_index, length, mod-eq_of_lt}
+use Rattle.std.proofs.Common.{true, ◌≡◌, ◌≢◌, ℕ, zero, suc, ◌+◌, ◌%◌, ◌^◌, ◌<◌, List, [], ◌∷◌, ◌++◌, refl, sym, ◌∙◌, ap, subst, ◌⊎◌, inl, inr, arith, Option, Some, None, slice_set, slice_index, length, mod-eq_of_lt}
 use Rattle.std.specs.Prelude.{replicate}
 use Rattle.std.proofs.Common.{length-append, ◌≤◌}
 use Rattle.std.proofs.lemmas.List.{length-replicate}
@@ -14,13 +14,12 @@ use Rattle.desk_passes.specs.declared.seen.PassPlace.{PassPlace}
 use Rattle.desk_passes.specs.declared.seen.PassPlace.TheVariants.{NotMade, Out}
 use Rattle.desk_passes.specs.declared.seen.PassView.{PassView}
 use Rattle.desk_passes.specs.declared.seen.SeenEntry.{SeenEntry}
-use Rattle.desk_passes.specs.Seen.{log_of, open_with, line_next, BeginsWith, EachHasEntry}
+use Rattle.desk_passes.specs.Seen.{log_of, open_with, line_next, EachHasEntry}
 use Rattle.desk_passes.specs.Knowing.{IsFull, IsOwn, SeesAll}
 use Rattle.desk_passes.specs.Plays.{Seated, GoesOn, Looks, GetsTurn, TriesTurn, Counts, GivesTurn}
-use Rattle.desk_passes.specs.Rule.{EachView, IsHome, IsOut, IsWithin, place_of, Rule, RuleHolds}
+use Rattle.desk_passes.specs.Rule.{EachIsBack, EachView, IsHome, IsOut, IsWithin, place_of, Rule, RuleHolds}
 use Rattle.desk_passes.specs.Steps.{spent, first_view, having_seen, with_turn, with_entry, without_turn, with_pass_out, new_pass, copied, informed, with_back, with_pass_back}
 use Rattle.desk_passes.specs.Turns.{HasOneMore, HasEntry}
-use Rattle.desk_passes.specs.Calls.{EachIsBack}
 use Rattle.desk_passes.proofs.Logs.{begins_same, begins_none, length_lined}
 use Rattle.desk_passes.proofs.Views.{each_others, swap_first}
 use Rattle.desk_passes.proofs.Keeping.{no_some, same_there, holder_out, rule_put, rule_more, rule_spent, takes_turn, gives_turn, counts}
@@ -84,6 +83,7 @@ module _ (callers : ℕ) (s : State (Option BookSeen) PassView) (id : ℕ) (me :
             still = still;
             stays = still;
             within = record { seen = begins_same (log_of b); told = begins_none (log_of b); mine = λ c is. let it : IsOwn b c v = within.mine c is in record { low = it.low; own = it.own; take = it.take }; nobody = λ _. still };
+            all = λ _ _ _. refl;
           };
         },
         (b, refl, goes_on b v within, sees_all w refl refl refl refl),
@@ -235,6 +235,7 @@ joins_note callers s id other v w still nobody no_passes h at ne there =
       still = still;
       stays = still;
       within = informed_within b v w old within;
+      all = λ old looked back. old looked back;
     } in
     let later : other ≢ 0 = λ first.
     let is : h.rule.root.view ≡ w = same_there s.views 0 h.rule.root.view w h.rule.root.at (subst (λ (k : ℕ). get_elem? s.views k ≡ some w) first before) in
@@ -278,7 +279,7 @@ joins_pass callers s id other caller v w first mine still h at ne there =
       words = h.words;
       rule = subst (λ (vs : List PassView). Rule callers h.turn s.homes vs b) (sym swapped)
           (takes_back callers h.turn s.homes views b caller v both mid (set_else s.views other 0 spent (λ e. later (sym e)) ∙ at') unheld (subst (λ (n : ℕ). caller < n) h.rule.shared.count own.low)
-          refl refl (ap (with_back v.passes) mine)
+          refl refl (ap (with_back v.passes) mine) refl
           record {
             seen = old.seen;
             told = within.seen;
@@ -323,6 +324,7 @@ opens callers full =
           count = length-replicate callers NotMade;
           out = each_one (λ seat v. (caller : ℕ) → v.caller ≡ Some caller → place_of x.passes caller ≡ Out) x (λ caller is. no_some x.caller caller refl is);
           not_made = λ caller _. (refl, ap (open_with (line_next b caller)) (no_take callers caller));
+          all = λ _ _. refl;
         };
       };
     }
@@ -332,7 +334,7 @@ pub record Closes (callers : ℕ) (v : PassView) (slots : List (Option BookSeen)
   pub book : BookSeen
   pub slot : get_elem? slots 0 ≡ some (Some book)
   pub count : length book.scripts ≡ callers
-  pub seen : BeginsWith (log_of book) v.seen
+  pub seen : v.seen ≡ log_of book
   pub each : EachHasEntry book
 
 nobody_out : (callers turn : ℕ) (homes : List (Home (Option BookSeen))) (views : List PassView) (b : BookSeen) (v : PassView) → Rule callers turn homes views b → get_elem? views 0 ≡ some v
@@ -347,9 +349,9 @@ at_home : (callers turn : ℕ) (homes : List (Home (Option BookSeen))) (views : 
 at_home callers turn homes views b v r at back (inl home) = home
 at_home callers turn homes views b v r at back (inr out) = absurd (nobody_out callers turn homes views b v r at back out out.view.caller refl)
 
-pub closes : (callers : ℕ) (v : PassView) (id : ℕ) (words : List ℕ) (slots : List (Option BookSeen)) → id ≡ 0 → EachIsBack v → Final (Seen (RuleHolds callers) id v) words slots
+pub closes : (callers : ℕ) (v : PassView) (id : ℕ) (words : List ℕ) (slots : List (Option BookSeen)) → id ≡ 0 → v.looked ≡ true → EachIsBack v → Final (Seen (RuleHolds callers) id v) words slots
     → Closes callers v slots
-closes callers v id words slots first back final =
+closes callers v id words slots first looked back final =
     let s : State (Option BookSeen) PassView = final.0 in
     let h : RuleHolds callers s = final.1.0 in
     let at : get_elem? s.views 0 ≡ some v = subst (λ (k : ℕ). get_elem? s.views k ≡ some v) first final.1.1 in
@@ -358,6 +360,6 @@ closes callers v id words slots first back final =
       book = h.book;
       slot = final.4 0 (Some h.book) (subst (λ (hs : List (Home (Option BookSeen))). get_elem? hs 0 ≡ some (some (Some h.book))) (sym home.slot) refl);
       count = h.rule.shared.count;
-      seen = (h.rule.within 0 v at).seen;
+      seen = (subst (λ (u : PassView). u.looked ≡ true → EachIsBack u → u.seen ≡ log_of h.book) (same_there s.views 0 h.rule.root.view v h.rule.root.at at) h.rule.root.all) looked back;
       each = h.rule.shared.full.each;
     }

@@ -1,5 +1,5 @@
 -- What each call of a shared desk does to what its pass knows.
-use Rattle.std.specs.Prelude.{◌≡◌, ◌≢◌, ℕ, List, [], ◌∷◌, ◌++◌, length, slice_get, Option, Some, None}
+use Rattle.std.specs.Prelude.{◌≡◌, ℕ, List, [], ◌∷◌, ◌++◌, length, slice_get, Option, Some, None}
 use Rattle.plan_io.specs.declared.lines.ScriptLine.{ScriptLine}
 use Rattle.plan_io.specs.declared.lines.ScriptLine.TheVariants.{TooLong}
 use Rattle.desk_events.specs.declared.entry.EventEntry.{EventEntry}
@@ -15,13 +15,11 @@ use Rattle.desk_passes.specs.declared.holders.Note.{Note}
 use Rattle.desk_passes.specs.declared.holders.Pass.{Pass}
 use Rattle.desk_passes.specs.declared.holders.Root.{Root}
 use Rattle.desk_passes.specs.declared.seen.OpenTake.{OpenTake}
-use Rattle.desk_passes.specs.declared.seen.PassPlace.TheVariants.{Out}
 use Rattle.desk_passes.specs.declared.seen.PassView.{PassView}
 use Rattle.desk_passes.specs.declared.seen.SeenEntry.{SeenEntry}
 use Rattle.desk_passes.specs.declared.desk.SharedDesk.{SharedDesk}
 use Rattle.desk_passes.specs.Seen.{BeginsWith}
 use Rattle.desk_passes.specs.Knowing.{SeesHistory}
-use Rattle.desk_passes.specs.Rule.{place_of}
 
 -- ---- whose a root, a pass and a note is, and what it knows
 
@@ -45,10 +43,6 @@ view pass = pass.inner.me.0
 
 abbrev pub note_view : Note → PassView
 note_view note = note.inner.me.0
-
--- every pass that was made was given back
-abbrev pub EachIsBack : PassView → Type 0
-EachIsBack v = (caller : ℕ) → place_of v.passes caller ≢ Out
 
 -- ---- what a call does
 

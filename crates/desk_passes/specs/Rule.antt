@@ -1,5 +1,5 @@
 -- The rule of a desk that callers share: what holds of its two words, of its slot and of all views between any two steps.
-use Rattle.std.specs.Prelude.{◌≡◌, ◌≢◌, ℕ, ◌⊎◌, List, [], ◌∷◌, length, slice_index_or, Option, Some, None}
+use Rattle.std.specs.Prelude.{true, ◌≡◌, ◌≢◌, ℕ, ◌⊎◌, List, [], ◌∷◌, length, slice_index_or, Option, Some, None}
 use Rattle.atomic_table.specs.Table.{State}
 use mathlib.Core.Option.{Option as Home, some, none}
 use lib.ListN.{get_elem?}
@@ -55,7 +55,12 @@ AreApart views = EachView (λ i v. EachView (λ j w. (caller : ℕ) → v.caller
 abbrev pub place_of : List PassPlace → ℕ → PassPlace
 place_of passes caller = slice_index_or passes caller Back
 
--- the first view is the root's, which knows where the passes of all callers are; whose pass was not made has no entry
+-- every pass that was made was given back
+abbrev pub EachIsBack : PassView → Type 0
+EachIsBack v = (caller : ℕ) → place_of v.passes caller ≢ Out
+
+-- the first view is the root's, which knows where the passes of all callers are, and has seen all once each that was made is back;
+-- whose pass was not made has no entry
 pub record IsRoot (callers : ℕ) (b : BookSeen) (views : List PassView) : Type 0 where
   pub view : PassView
   pub at : get_elem? views 0 ≡ some view
@@ -63,6 +68,7 @@ pub record IsRoot (callers : ℕ) (b : BookSeen) (views : List PassView) : Type 
   pub count : length view.passes ≡ callers
   pub out : EachView (λ seat v. (caller : ℕ) → v.caller ≡ Some caller → place_of view.passes caller ≡ Out) views
   pub not_made : (caller : ℕ) → place_of view.passes caller ≡ NotMade → (of_caller caller (log_of b) ≡ []) × (open_take b caller ≡ None)
+  pub all : view.looked ≡ true → EachIsBack view → view.seen ≡ log_of b
 
 -- ---- all of it
 

@@ -46,4 +46,6 @@ pub struct PassView {
     pub turn: Option<Book>,
     /// Where the passes of all callers are; known to the root alone.
     pub passes: LinkedList<PassPlace>,
+    /// Whether the root has seen all that was there since it last got a pass back.
+    pub looked: bool,
 }

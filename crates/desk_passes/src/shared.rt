@@ -5,7 +5,7 @@ ghost use Rattle.desk_book.specs.Seen.{empty_book};
 ghost use Rattle.desk_passes.specs.declared.seen.PassPlace.TheVariants.{NotMade};
 ghost use Rattle.desk_passes.specs.Seen.{log_of, BeginsWith, EachHasEntry};
 ghost use Rattle.desk_passes.specs.Knowing.{SeesHistory};
-ghost use Rattle.desk_passes.specs.Rule.{place_of};
+ghost use Rattle.desk_passes.specs.Rule.{place_of, EachIsBack};
 ghost use Rattle.desk_passes.specs.Steps.{first_view, new_pass, with_back, with_pass_out};
 ghost use Rattle.desk_passes.specs.Calls.{
   callers_of,
@@ -15,7 +15,6 @@ ghost use Rattle.desk_passes.specs.Calls.{
   root_view,
   view,
   note_view,
-  EachIsBack,
   SeesMore,
 };
 
@@ -115,13 +114,12 @@ impl SharedDesk {
         self.table.shared.load::<Look>(&mut root.inner, COUNT);
     }
 
-    /// The book, once every pass was given back. Its history begins with all that the root has seen, and each line has its
-    /// entry.
+    /// The book, once every pass was given back. Its history is what the root has seen, and each line has its entry.
     pub fn close(self, root: Root) -> Book
         requires root { IsRootOf self root }
         requires back { EachIsBack (root_view root) }
         ensures callers { length result.scripts ≡ callers_of self }
-        ensures seen { BeginsWith (log_of result) (root_view root).seen }
+        ensures seen { (root_view root).seen ≡ log_of result }
         ensures each { EachHasEntry result }
     {
         let SharedDesk { table } = self;

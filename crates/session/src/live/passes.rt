@@ -3,7 +3,8 @@ ghost use Rattle.std.specs.Prelude.{◌≡◌, ◌<◌, ◌≤◌, ◌+◌, ℕ,
 ghost use Rattle.desk_book.specs.Seen.{IsOver};
 ghost use Rattle.desk_passes.specs.Seen.{lines_done};
 ghost use Rattle.desk_passes.specs.Steps.{first_view};
-ghost use Rattle.desk_passes.specs.Calls.{IsRootOf, IsPassOf, root_view, view, EachIsBack};
+ghost use Rattle.desk_passes.specs.Rule.{EachIsBack};
+ghost use Rattle.desk_passes.specs.Calls.{IsRootOf, IsPassOf, root_view, view};
 ghost use Rattle.session.specs.Passes.{IsFresh, IsOf, EachPass, OnlyOut};
 
 use super::same::is_same;
