@@ -5,6 +5,8 @@ from __future__ import annotations
 import os
 import shlex
 import shutil
+import threading
+from contextlib import ExitStack
 from pathlib import Path
 from types import TracebackType
 from typing import Iterable, Mapping, Sequence, TypeVar
@@ -12,6 +14,7 @@ from typing import Iterable, Mapping, Sequence, TypeVar
 from purvelj import lines
 from purvelj.documents import compact, write_text
 from purvelj.history import Exchange, History, read_history
+from purvelj.journal import Journal
 from purvelj.lines import Line, Pairs
 from purvelj.model import Claim
 from purvelj.moments import Moment
@@ -33,8 +36,10 @@ from purvelj.replies import (
     Submitted,
     TelescopeAdded,
     Withdrawn,
+    is_taken,
     read_reply,
 )
+from purvelj.resume import line_again, output_again
 
 R = TypeVar("R", bound=Reply)
 
@@ -57,6 +62,18 @@ class Refusal(DeskError):
         self.members = reply.members
         self.line = reply.line
         self.version = reply.version
+
+
+class ReplyDiffers(DeskError):
+    """A new session replied to a line of a journal, ``line``, with something else than stands there.
+
+    The program isn't the one that the journal was written with, or the journal was changed.
+    """
+
+    def __init__(self, line: int, wanted: Sequence[str], found: Sequence[str]) -> None:
+        texts = [" and ".join(each[:200] for each in texts) for texts in (found, wanted)]
+        super().__init__(f"line {line}: the reply differs from the journal's: {texts[0]} instead of {texts[1]}")
+        self.line = line
 
 
 def default_program() -> list[str]:
@@ -100,15 +117,58 @@ class Desk:
     The program has to reply to each line before it reads the next. Use the desk in a ``with``
     statement, which ends the program. Each command is a method that gives the
     typed reply, or raises ``Refusal``; ``DeskEnded`` where the program ended, ``NoReply`` where it
-    took longer than ``timeout`` seconds (None is no limit), after which the desk is of no more use. A desk is for one
-    thread.
+    took longer than ``timeout`` seconds (None is no limit). After any other fault than a refusal, and where a
+    call was interrupted, the desk is of no more use. Several threads may use a desk: a line of one waits until that
+    of another is replied to.
 
     All that was sent is kept in ``history``; ``save`` writes it as a script, and ``replay`` sends one.
+    With a ``journal``, such as ``"tonight"``, each line is written to ``tonight.lines.jsonl`` before it is sent, and
+    each reply to ``tonight.replies.jsonl`` before it is given; ``resume`` goes on with them.
     """
 
-    def __init__(self, program: Sequence[str] | None = None, timeout: float | None = TIMEOUT) -> None:
+    def __init__(
+        self,
+        program: Sequence[str] | None = None,
+        timeout: float | None = TIMEOUT,
+        journal: str | Path | None = None,
+    ) -> None:
+        """Starts the program; ``FileError`` where a file of the journal is there already."""
         self._exchanges: list[Exchange] = []
+        self._lock = threading.Lock()
+        self._lost = False
+        self._journal: Journal | None = None
+        #: The lines of the journal that weren't wholly replied to; only ``resume`` may find any.
+        self.unanswered: tuple[str, ...] = ()
         self._program = LineProgram(default_program() if program is None else program, timeout)
+        if journal is not None:
+            with ExitStack() as faults:
+                faults.callback(self.close)
+                self._journal = Journal.begin(journal)
+                faults.pop_all()
+
+    @classmethod
+    def resume(
+        cls, journal: str | Path, program: Sequence[str] | None = None, timeout: float | None = TIMEOUT
+    ) -> Desk:
+        """A desk that goes on where the one with this journal stopped, in a new session.
+
+        The new session is sent the lines that were wholly replied to, with the claims of its plans in the place of
+        ``plan`` lines. ``ReplyDiffers`` where a reply isn't the journal's, but for those that say ``taken``. What was
+        torn at the ends of the files is dropped, and so are the lines without their replies: these are given in
+        ``unanswered``, to be sent again.
+        """
+        with ExitStack() as faults:
+            kept = Journal.go_on(journal)
+            faults.callback(kept.close)
+            found = kept.stopped()
+            desk = cls(program, timeout)
+            faults.callback(desk.close)
+            for exchange in found.done:
+                desk._do_again(exchange)
+            kept.cut(found.done)
+            desk._journal, desk.unanswered = kept, found.unanswered
+            faults.pop_all()
+        return desk
 
     def __enter__(self) -> Desk:
         return self
@@ -122,8 +182,13 @@ class Desk:
         self.close()
 
     def close(self) -> int:
-        """Ends the session and gives the program's exit status; a program that goes on is ended."""
-        return self._program.close()
+        """Ends the session and gives the program's exit status; a program that goes on is ended.
+
+        Where another thread has sent a line, its replies are waited for.
+        """
+        with self._lock:
+            self._close_journal()
+            return self._program.close()
 
     @property
     def history(self) -> History:
@@ -139,17 +204,18 @@ class Desk:
         text = line if isinstance(line, str) else compact(line)
         if "\n" in text:
             raise ValueError("a line has no newline in it")
-        place = len(self._exchanges) + 1
-        self._program.write(text.encode("utf-8", "surrogatepass"))
-        texts: list[str] = []
-        replies: list[Reply] = []
-        while not replies or (len(replies) == 1 and _is_taken(replies[0])):
-            texts.append(self._program.read().decode("utf-8", "surrogatepass"))
-            replies.append(read_reply(texts[-1], f"reply to line {place}"))
-            if replies[-1].line != place:
-                raise DeskError(f"a reply to line {replies[-1].line} came back to line {place}")
-        self._exchanges.append(Exchange(text, tuple(texts), tuple(replies)))
-        return tuple(replies)
+        with self._lock:
+            self._test_usable()
+            try:
+                if self._journal:
+                    self._journal.line(text)
+                exchange = self._exchange(text)
+                self._exchanges.append(exchange)
+            except BaseException:
+                self._lost = True
+                self._close_journal()
+                raise
+        return exchange.replies
 
     def ask(self, line: Mapping[str, object] | str) -> Reply:
         """Sends any line and gives its last reply; ``Refusal`` where that is one."""
@@ -267,9 +333,36 @@ class Desk:
             return reply
         raise self._odd(reply)
 
+    def _test_usable(self) -> None:
+        self._program.test_open()
+        if self._lost:
+            raise DeskError("a line wasn't wholly replied to, so the desk is of no more use")
+
+    def _exchange(self, line: str) -> Exchange:
+        """Sends the next line and reads its replies."""
+        place = len(self._exchanges) + 1
+        self._program.write(line.encode("utf-8", "surrogatepass"))
+        texts: list[str] = []
+        replies: list[Reply] = []
+        while not replies or (len(replies) == 1 and is_taken(replies[0])):
+            texts.append(self._program.read().decode("utf-8", "surrogatepass"))
+            replies.append(read_reply(texts[-1], f"reply to line {place}"))
+            if replies[-1].line != place:
+                raise DeskError(f"a reply to line {replies[-1].line} came back to line {place}")
+            if self._journal:
+                self._journal.reply(texts[-1])
+        return Exchange(line, tuple(texts), tuple(replies))
+
+    def _do_again(self, exchange: Exchange) -> None:
+        """Brings the session to the state that an exchange of another left."""
+        found, wanted = self._exchange(line_again(exchange)).output, output_again(exchange)
+        if found != wanted:
+            raise ReplyDiffers(len(self._exchanges) + 1, wanted, found)
+        self._exchanges.append(exchange)
+
+    def _close_journal(self) -> None:
+        if self._journal:
+            self._journal.close()
+
     def _odd(self, reply: Reply) -> DeskError:
         return DeskError(f"line {reply.line}: a reply of another kind than the line's came back: {reply}")
-
-
-def _is_taken(reply: Reply) -> bool:
-    return isinstance(reply, Done) and reply.ok == "taken"

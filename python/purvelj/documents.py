@@ -31,21 +31,39 @@ def parse(text: str, source: str) -> Any:
         raise FileError(f"{source}: not JSON: {_where_it_breaks(text, fault)}") from None
 
 
-def read_text(path: str | Path) -> str:
-    """The text of a file, or of standard input where the path is ``-``."""
+def source_of(path: str | Path) -> str:
+    """What a path that is read is called in messages: standard input where it is ``-``."""
+    return "standard input" if str(path) == "-" else str(path)
+
+
+def read_bytes(path: str | Path) -> bytes:
+    """The bytes of a file, or of standard input where the path is ``-``."""
     try:
-        if str(path) == "-":
-            return sys.stdin.read()
-        return Path(path).read_text(encoding="utf-8")
+        if str(path) != "-":
+            return Path(path).read_bytes()
+        if sys.stdin is None:
+            raise FileError("standard input: can't be read: it is closed")
+        return sys.stdin.buffer.read()
     except OSError as fault:
-        raise FileError(f"{path}: can't be read: {fault.strerror or fault}") from None
+        raise FileError(f"{source_of(path)}: can't be read: {fault.strerror or fault}") from None
+
+
+def decoded(data: bytes, source: str, errors: str = "strict") -> str:
+    """The text that bytes are in UTF-8; ``FileError``, naming ``source``, where they are none."""
+    try:
+        return data.decode("utf-8", errors)
     except UnicodeDecodeError:
-        raise FileError(f"{path}: not a text in UTF-8") from None
+        raise FileError(f"{source}: not a text in UTF-8") from None
+
+
+def read_text(path: str | Path) -> str:
+    """The text of a file, or of standard input where the path is ``-``. Its line ends stay as they are."""
+    return decoded(read_bytes(path), source_of(path))
 
 
 def read_json(path: str | Path) -> Any:
     """The JSON value of a file, or of standard input where the path is ``-``."""
-    return parse(read_text(path), _source(path))
+    return parse(read_text(path), source_of(path))
 
 
 def write_text(path: str | Path, text: str) -> None:
@@ -191,10 +209,6 @@ def kind_of(value: object) -> str:
         dict: "an object",
     }
     return kinds.get(type(value), f"a {type(value).__name__}")
-
-
-def _source(path: str | Path) -> str:
-    return "standard input" if str(path) == "-" else str(path)
 
 
 def _refuse_constant(word: str) -> Any:

@@ -4,7 +4,7 @@ from __future__ import annotations
 
 from dataclasses import dataclass
 from itertools import groupby
-from typing import Sequence
+from typing import Iterable, Sequence
 
 from purvelj.documents import parse
 from purvelj.errors import DocumentError, PurveljError
@@ -61,10 +61,15 @@ def read_history(output: str, script: str | None = None, source: str = "output")
     the script.
     """
     texts = [text for text in output.split("\n") if text.strip()]
+    sent = None if script is None else script.removesuffix("\n").split("\n")
+    return history_of(texts, sent, source)
+
+
+def history_of(texts: Iterable[str], sent: Sequence[str] | None, source: str) -> History:
+    """As ``read_history``, where the texts of the replies and of the lines that were sent are parted already."""
     pairs = [(text, read_reply(text, f"{source}, line {i}")) for i, text in enumerate(texts, start=1)]
     if len({reply.caller for _, reply in pairs}) > 1:
         raise DocumentError(source, "it has the replies to several callers")
-    sent = None if script is None else script.removesuffix("\n").split("\n")
     exchanges = []
     for line, replied in groupby(pairs, key=lambda pair: pair[1].line):
         both = list(replied)

@@ -47,6 +47,7 @@ class LineProgram:
         self.command = tuple(command)
         self._timeout = timeout
         self._left = b""
+        self._ended_early = False
         self._process = _started(self.command)
         assert self._process.stdin and self._process.stdout
         self._input = self._process.stdin.fileno()
@@ -56,7 +57,7 @@ class LineProgram:
 
     def write(self, line: bytes) -> None:
         """Writes a line, to which the newline is added here."""
-        self._test_open()
+        self.test_open()
         left = memoryview(line + b"\n")
         deadline = self._deadline()
         while left:
@@ -70,7 +71,7 @@ class LineProgram:
 
     def read(self) -> bytes:
         """Reads a line, without its newline."""
-        self._test_open()
+        self.test_open()
         deadline = self._deadline()
         while b"\n" not in self._left:
             self._wait(self._output, select.POLLIN, deadline)
@@ -89,9 +90,12 @@ class LineProgram:
         self._finalizer()
         return self._process.returncode
 
-    def _test_open(self) -> None:
-        if not self._finalizer.alive:
+    def test_open(self) -> None:
+        """``DeskError`` where the desk was closed, and ``DeskEnded`` where the program had ended before."""
+        if self._ended_early:
             raise self._ended()
+        if not self._finalizer.alive:
+            raise DeskError("the desk was closed")
 
     def _deadline(self) -> float | None:
         return None if self._timeout is None else time.monotonic() + self._timeout
@@ -104,6 +108,7 @@ class LineProgram:
             raise NoReply(f"{' '.join(self.command)} didn't answer within {self._timeout:g} s")
 
     def _ended(self) -> DeskEnded:
+        self._ended_early = True
         return DeskEnded(self.command, self.close())
 
 

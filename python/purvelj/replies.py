@@ -149,6 +149,11 @@ class Shown(Reply):
     document: dict[str, Any]
 
 
+def is_taken(reply: Reply) -> bool:
+    """Whether the reply says that a plan is sought, and another follows."""
+    return isinstance(reply, Done) and reply.ok == "taken"
+
+
 def read_reply(text: str, source: str = "reply") -> Reply:
     """The reply that a line of a desk's output is.
 

@@ -8,7 +8,7 @@ import sys
 from typing import Sequence
 
 from purvelj import __version__
-from purvelj.cli import chart, claims, portal, replay, sky
+from purvelj.cli import chart, claims, portal, replay, resume, sky
 from purvelj.errors import PurveljError, Status
 
 #: Packages that a command may find missing, and the Debian package that has each.
@@ -33,7 +33,7 @@ def parser() -> argparse.ArgumentParser:
     )
     words.add_argument("--version", action="version", version=f"purvelj {__version__}")
     commands = words.add_subparsers(dest="command", required=True, metavar="COMMAND")
-    for module in (sky, portal, replay, claims, chart):
+    for module in (sky, portal, replay, resume, claims, chart):
         module.add_commands(commands)
     return words
 

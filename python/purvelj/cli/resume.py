@@ -1,0 +1,45 @@
+"""``resume``: the lines with which a new session goes on where another stopped."""
+
+from __future__ import annotations
+
+import argparse
+
+from purvelj.cli.words import Commands, tell
+from purvelj.documents import decoded, read_bytes, source_of
+from purvelj.resume import Stopped, line_again, pieces, stopped
+
+
+def add_commands(commands: Commands) -> None:
+    """Adds the command to a parser."""
+    resume = commands.add_parser(
+        "resume",
+        help="print the lines that bring a new session to the state at which another stopped",
+        description="Prints the lines that were wholly replied to, one for one, with the claim of each published plan "
+        "in the place of its `plan` line. The new session's replies are the old ones but for those that say `taken`.",
+    )
+    resume.add_argument("output", help="all that the session replied, whose end may be torn")
+    resume.add_argument("--script", metavar="FILE", required=True, help="the lines that were sent")
+    resume.set_defaults(run=run_resume)
+
+
+def run_resume(options: argparse.Namespace) -> int:
+    """Runs ``resume``."""
+    source = source_of(options.output)
+    output, _ = pieces(read_bytes(options.output))
+    script, torn = pieces(read_bytes(options.script))
+    replies = [text for text in decoded(output, source).split("\n") if text.strip()]
+    lines = decoded(script, source_of(options.script)).split("\n")[:-1]
+    found = stopped(replies, lines, torn, source)
+    for exchange in found.done:
+        print(line_again(exchange))
+    _tell(found)
+    return 0
+
+
+def _tell(found: Stopped) -> None:
+    count = len(found.done)
+    tell(f"{count} lines were done, {found.plans} of them published plans")
+    if found.unanswered:
+        tell(f"from line {count + 1} on, {len(found.unanswered)} lines weren't replied to: send them again")
+    if found.torn:
+        tell(f"line {count + len(found.unanswered) + 1} isn't among them: it has no newline at its end and may be torn")

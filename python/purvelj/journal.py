@@ -1,0 +1,110 @@
+"""A journal: two files with the lines that a desk is sent and with its replies, which outlive a crash."""
+
+from __future__ import annotations
+
+import fcntl
+import os
+from pathlib import Path
+from typing import Iterable
+
+from purvelj.documents import decoded
+from purvelj.errors import FileError
+from purvelj.history import Exchange
+from purvelj.resume import Stopped, pieces, stopped
+
+
+class Journal:
+    """The files ``NAME.lines.jsonl`` and ``NAME.replies.jsonl`` of a desk; ``NAME`` may begin with a folder.
+
+    What is written is on the disk when the call returns. A journal is of one desk at a time. ``FileError`` where a file
+    can't be opened, read or written.
+    """
+
+    def __init__(self, name: str | Path, mode: str) -> None:
+        """Opens the files in the mode ``xb`` or ``r+b``."""
+        self._lines = _File(f"{name}.lines.jsonl", mode)
+        self._replies = _File(f"{name}.replies.jsonl", mode)
+
+    @staticmethod
+    def begin(name: str | Path) -> Journal:
+        """A new journal; ``FileError`` where one of its files is there."""
+        for path in (f"{name}.lines.jsonl", f"{name}.replies.jsonl"):
+            if os.path.lexists(path):
+                raise FileError(f"{path}: it is there already; a desk goes on with it by Desk.resume")
+        return Journal(name, "xb")
+
+    @staticmethod
+    def go_on(name: str | Path) -> Journal:
+        """A journal that is there."""
+        return Journal(name, "r+b")
+
+    def stopped(self) -> Stopped:
+        """Where the session stopped whose journal this is."""
+        replies, _ = self._replies.pieces()
+        lines, torn = self._lines.pieces()
+        return stopped(replies, lines, torn, self._replies.path)
+
+    def cut(self, done: Iterable[Exchange]) -> None:
+        """Drops what isn't of these exchanges, with which the journal begins."""
+        done = list(done)
+        self._lines.cut([exchange.line for exchange in done])
+        self._replies.cut([text for exchange in done for text in exchange.output])
+
+    def line(self, text: str) -> None:
+        """Writes a line that is to be sent."""
+        self._lines.write(f"{text}\n")
+
+    def reply(self, text: str) -> None:
+        """Writes a reply that was read."""
+        self._replies.write(f"{text}\n")
+
+    def close(self) -> None:
+        """Closes both files, so that another desk may go on with them."""
+        self._lines.close()
+        self._replies.close()
+
+
+class _File:
+    """A file of lines, which no other has at the same time."""
+
+    def __init__(self, path: str, mode: str) -> None:
+        self.path = path
+        try:
+            self._file = open(path, mode, buffering=0)
+            fcntl.flock(self._file, fcntl.LOCK_EX | fcntl.LOCK_NB)
+        except BlockingIOError:
+            raise FileError(f"{path}: another desk writes it") from None
+        except OSError as fault:
+            raise FileError(f"{path}: can't be opened: {fault.strerror or fault}") from None
+
+    def pieces(self) -> tuple[list[str], bytes]:
+        """The whole lines that the file begins with, and what stands after the last newline."""
+        try:
+            self._file.seek(0)
+            whole, torn = pieces(self._file.readall())
+        except OSError as fault:
+            raise FileError(f"{self.path}: can't be read: {fault.strerror or fault}") from None
+        return decoded(whole, self.path, "surrogatepass").split("\n")[:-1], torn
+
+    def write(self, text: str) -> None:
+        left = memoryview(text.encode("utf-8", "surrogatepass"))
+        try:
+            while left:
+                left = left[self._file.write(left) :]
+            os.fsync(self._file.fileno())
+        except OSError as fault:
+            raise FileError(f"{self.path}: can't be written: {fault.strerror or fault}") from None
+
+    def cut(self, lines: list[str]) -> None:
+        """Leaves these lines, with which the file begins; the last may lack its newline."""
+        size = len("".join(f"{line}\n" for line in lines).encode("utf-8", "surrogatepass"))
+        try:
+            missing = self._file.seek(0, os.SEEK_END) < size
+            self._file.truncate(size - missing)
+            self._file.seek(size - missing)
+        except OSError as fault:
+            raise FileError(f"{self.path}: can't be written: {fault.strerror or fault}") from None
+        self.write("\n" if missing else "")
+
+    def close(self) -> None:
+        self._file.close()

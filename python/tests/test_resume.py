@@ -1,0 +1,274 @@
+"""Sessions that stop, and those that go on where they stopped."""
+
+from __future__ import annotations
+
+import json
+import os
+import signal
+import threading
+from pathlib import Path
+
+import pytest
+
+from purvelj import cli
+from purvelj.desk import Desk, ReplyDiffers, run_script
+from purvelj.errors import DocumentError, FileError
+from purvelj.history import Exchange
+from purvelj.pipes import DeskEnded, DeskError, NoReply
+from purvelj.replies import Balances, Shown, read_reply
+from purvelj.resume import line_again, stopped
+from script import CLAIM, LINES, REPLIES
+from test_desk import program
+
+EXAMPLES = Path(__file__).resolve().parents[2] / "examples"
+NIGHT = (EXAMPLES / "night.jsonl").read_text(encoding="utf-8").splitlines()
+OUTPUT = (EXAMPLES / "night.replies").read_text(encoding="utf-8").splitlines()
+PUBLISH = f'{{"claim":{CLAIM},"do":"publish","version":7}}'
+TAKEN = '"ok":"taken"'
+
+
+@pytest.fixture
+def resume(tmp_path: Path, monkeypatch: pytest.MonkeyPatch, capfd):
+    """Runs ``resume`` over an output and a script: its status, the lines and the messages that it writes."""
+    monkeypatch.chdir(tmp_path)
+
+    def command(output: str | bytes, script: str | bytes) -> tuple[int, list[str], list[str]]:
+        for name, content in (("output.jsonl", output), ("script.jsonl", script)):
+            Path(name).write_bytes(content if isinstance(content, bytes) else content.encode())
+        status = cli.main(["resume", "output.jsonl", "--script", "script.jsonl"])
+        out, err = capfd.readouterr()
+        return status, out.splitlines(), [line.removeprefix("purvelj: ") for line in err.splitlines()]
+
+    return command
+
+
+def joined(lines: list[str]) -> str:
+    return "".join(f"{line}\n" for line in lines)
+
+
+def place_of(line: int, ok: str) -> int:
+    """How many replies of the night come before the one to this line with this word."""
+    replies = [json.loads(text) for text in OUTPUT]
+    return next(i for i, reply in enumerate(replies) if (reply["line"], reply.get("ok")) == (line, ok))
+
+
+def test_a_plan_is_published_again_in_its_place(resume) -> None:
+    status, lines, told = resume(joined(REPLIES), joined(LINES))
+    assert (status, lines) == (0, [*LINES[:7], PUBLISH, LINES[8]])
+    assert told == ["9 lines were done, 1 of them published plans"]
+
+
+def test_lines_without_all_their_replies_are_left_to_be_sent(resume) -> None:
+    status, lines, told = resume(joined(REPLIES[:8]), joined(LINES))
+    assert (status, lines) == (0, LINES[:7])
+    assert told == [
+        "7 lines were done, 0 of them published plans",
+        "from line 8 on, 2 lines weren't replied to: send them again",
+    ]
+    assert resume("", joined(LINES))[1] == []
+
+
+def test_a_torn_reply_is_none_even_where_a_letter_is_torn(resume) -> None:
+    shown = '{"caller":0,"document":{"name":"M51 \U0001f52d"},"group":1,"line":8,"ok":"shown","requests":[],"version":7}'
+    torn = joined(REPLIES[:7]).encode() + shown.encode().partition(b"\xf0\x9f\x94")[0] + b"\xf0\x9f"
+    assert resume(torn, joined(LINES))[1] == LINES[:7]
+
+
+def test_a_torn_line_counts_only_where_it_was_replied_to(resume) -> None:
+    script = joined(LINES[:8]) + LINES[8]
+    assert resume(joined(REPLIES), script)[1] == [*LINES[:7], PUBLISH, LINES[8]]
+    status, lines, told = resume(joined(REPLIES[:7]), script)
+    assert (status, lines) == (0, LINES[:7])
+    assert told[1:] == [
+        "from line 8 on, 1 lines weren't replied to: send them again",
+        "line 9 isn't among them: it has no newline at its end and may be torn",
+    ]
+
+
+def test_a_plan_that_was_refused_stays(resume) -> None:
+    refused = '{"caller":0,"line":1,"no":20,"refused":"NotOpened","version":0}'
+    assert resume(joined([refused]), '{"do":"plan"}\n')[1] == ['{"do":"plan"}']
+    stale = '{"asked":7,"caller":0,"line":8,"newer":8,"no":31,"refused":"Stale","version":8}'
+    assert resume(joined([*REPLIES[:8], stale]), joined(LINES))[1] == LINES[:8]
+
+
+def test_the_caller_of_a_plan_is_kept() -> None:
+    line = '{"caller":3,"do":"plan"}'
+    texts = tuple(text.replace('"caller":0', '"caller":3') for text in REPLIES[7:9])
+    exchange = Exchange(line, texts, tuple(read_reply(text) for text in texts))
+    assert line_again(exchange) == f'{{"caller":3,"claim":{CLAIM},"do":"publish","version":7}}'
+
+
+@pytest.mark.parametrize(
+    "replies, lines, message",
+    [
+        (REPLIES[1:], LINES, "output: a reply to line 2 stands where one to line 1 should be"),
+        (REPLIES[:3] + REPLIES[:1], LINES, "output: a reply to line 1 stands where one to line 4 should be"),
+        (REPLIES, LINES[:8], "output: it replies to line 9, and the script has 8 lines"),
+        (REPLIES, LINES[:7] + ["{}", "{}"], "output: it replies to line 8 with a plan, which that line doesn't"),
+        (REPLIES[:8] + REPLIES[9:], LINES, "output: it has other replies to line 8 than a session writes"),
+        (REPLIES[:2] + REPLIES[1:], LINES, "output: it has other replies to line 2 than a session writes"),
+        ([REPLIES[0], REPLIES[1].replace('"caller":0', '"caller":1')], LINES, "output: it has the replies to several"),
+    ],
+)
+def test_an_output_that_is_not_the_scripts_is_refused(replies, lines, message: str) -> None:
+    with pytest.raises(DocumentError) as caught:
+        stopped(replies, lines, b"", "output")
+    assert str(caught.value).startswith(message)
+
+
+@pytest.mark.parametrize(
+    "replies, piece, done",
+    [
+        (place_of(44, "closed") + 1, 0, 44),
+        (place_of(48, "published") + 1, 100, 48),
+        (place_of(51, "taken") + 1, 0, 50),
+        (place_of(61, "published"), 5000, 60),
+    ],
+    ids=["after a reply", "within a reply", "between taken and published", "within a publication"],
+)
+def test_a_night_goes_on_as_if_it_had_not_stopped(resume, netsched, replies: int, piece: int, done: int) -> None:
+    cut = joined(OUTPUT[:replies]) + OUTPUT[replies][:piece]
+    status, lines, told = resume(cut, joined(NIGHT))
+    assert (status, len(lines)) == (0, done)
+    assert told[1] == f"from line {done + 1} on, {65 - done} lines weren't replied to: send them again"
+    again = run_script([*lines, *NIGHT[done:]], netsched).output().splitlines()
+    assert again == [text for text in OUTPUT if json.loads(text)["line"] > done or TAKEN not in text]
+
+
+def test_a_desk_of_four_workers_has_its_plan_again(netsched, tmp_path: Path) -> None:
+    lines = [NIGHT[0].replace('"workers":1', '"workers":4'), *NIGHT[1:44]]
+    with Desk(netsched, journal=tmp_path / "night") as desk:
+        desk.replay(lines)
+        before = desk.plan().claim, desk.export(), desk.balances()
+    with Desk.resume(tmp_path / "night", netsched) as again:
+        assert again.history == desk.history
+        exported = again.export()
+        assert (exported.claim, exported.snapshot) == (before[0], before[1].snapshot)
+        assert again.balances() == before[2]
+
+
+def kill(desk: Desk) -> None:
+    """Ends the desk's program as ``kill -9`` does."""
+    os.kill(desk._program._process.pid, signal.SIGKILL)
+
+
+def test_a_journal_outlives_two_kills(netsched, tmp_path: Path) -> None:
+    name = tmp_path / "tonight"
+    with Desk(netsched, journal=name) as desk:
+        desk.replay(LINES[:8])
+        kill(desk)
+        with pytest.raises(DeskEnded, match="SIGKILL"):
+            desk.export()
+        with Desk.resume(name, netsched) as second:
+            assert second.unanswered == ('{"do":"export"}',)
+            assert second.history.output().splitlines() == REPLIES[:9]
+            second.export()
+            kill(second)
+            with pytest.raises(DeskEnded, match="SIGKILL"):
+                second.clock(1)
+    with Desk.resume(name, netsched) as third:
+        assert third.unanswered == ('{"at":1,"do":"clock"}',)
+        assert third.history.output().splitlines() == REPLIES
+        assert third.clock(1).started == (1,)
+        assert third.report(1, 95, 280).charged == 280
+    written = (tmp_path / "tonight.lines.jsonl").read_text().splitlines()
+    assert [json.loads(line)["do"] for line in written[6:]] == ["submit", "plan", "export", "clock", "report"]
+    assert (tmp_path / "tonight.replies.jsonl").read_text().splitlines()[:10] == REPLIES
+
+
+def journal(folder: Path, lines: str, replies: str) -> Path:
+    """The name of a journal with these contents."""
+    (folder / "night.lines.jsonl").write_text(lines)
+    (folder / "night.replies.jsonl").write_text(replies)
+    return folder / "night"
+
+
+def test_a_torn_journal_is_cut_and_goes_on_twice(netsched, tmp_path: Path) -> None:
+    name = journal(tmp_path, joined(LINES) + '{"do":"bal', joined(REPLIES[:8]) + REPLIES[8][:50])
+    with Desk.resume(name, netsched) as desk:
+        assert desk.unanswered == (LINES[7], LINES[8])
+        assert (tmp_path / "night.lines.jsonl").read_text() == joined(LINES[:7])
+        assert (tmp_path / "night.replies.jsonl").read_text() == joined(REPLIES[:7])
+        desk.replay(desk.unanswered)
+    assert (tmp_path / "night.lines.jsonl").read_text() == joined(LINES)
+    with open(tmp_path / "night.replies.jsonl", "r+") as replies:
+        replies.truncate(len(joined(REPLIES)) - 1)
+    with Desk.resume(name, netsched) as desk:
+        assert desk.unanswered == (LINES[8],)
+        assert desk.ask(LINES[8]).version == 8
+    assert (tmp_path / "night.replies.jsonl").read_text() == joined(REPLIES)
+
+
+def test_a_line_of_a_journal_that_lacks_only_its_newline_gets_it(netsched, tmp_path: Path) -> None:
+    name = journal(tmp_path, joined(LINES)[:-1], joined(REPLIES))
+    with Desk.resume(name, netsched) as desk:
+        assert desk.unanswered == ()
+        desk.balances()
+    assert (tmp_path / "night.lines.jsonl").read_text() == joined([*LINES, '{"do":"balances"}'])
+
+
+def test_another_reply_than_the_journals_is_told(netsched, tmp_path: Path) -> None:
+    replies = [REPLIES[5].replace("1000", "1001"), *REPLIES[6:8]]
+    name = journal(tmp_path, joined(LINES), joined([*REPLIES[:5], *replies]))
+    with pytest.raises(ReplyDiffers) as caught:
+        Desk.resume(name, netsched)
+    assert caught.value.line == 6
+    assert str(caught.value) == f"line 6: the reply differs from the journal's: {REPLIES[5]} instead of {replies[0]}"
+    assert (tmp_path / "night.lines.jsonl").read_text() == joined(LINES)
+    wrong = journal(tmp_path, joined(LINES), joined(REPLIES).replace('"bound":50000', '"bound":50001'))
+    with pytest.raises(ReplyDiffers, match='line 8: .*"refused":"Rejected"'):
+        Desk.resume(wrong, netsched)
+
+
+def test_a_journal_is_of_one_desk(netsched, tmp_path: Path) -> None:
+    name = tmp_path / "night"
+    with Desk(netsched, journal=name) as desk:
+        desk.open(0, 300, 12, (0, 15_552_000))
+        with pytest.raises(FileError, match="night.lines.jsonl: it is there already; a desk goes on with it by"):
+            Desk(netsched, journal=name)
+        with pytest.raises(FileError, match="night.lines.jsonl: another desk writes it"):
+            Desk.resume(name, netsched)
+        assert desk.plan().claim.placements == ()
+    with Desk.resume(name, netsched) as desk:
+        assert [len(each.replies) for each in desk.history.exchanges] == [1, 2]
+    with pytest.raises(FileError, match="dawn.lines.jsonl: can't be opened: No such file"):
+        Desk.resume(tmp_path / "dawn", netsched)
+    with pytest.raises(FileError, match="nowhere/dawn.lines.jsonl: can't be opened: No such file"):
+        Desk(netsched, journal=tmp_path / "nowhere" / "dawn")
+
+
+def test_a_journal_can_be_resumed_by_hand(resume, netsched, tmp_path: Path) -> None:
+    with Desk(netsched, journal=tmp_path / "night") as desk:
+        desk.replay(LINES)
+    files = [(tmp_path / f"night.{kind}.jsonl").read_bytes() for kind in ("replies", "lines")]
+    assert resume(*files)[1] == [*LINES[:7], PUBLISH, LINES[8]]
+
+
+def test_a_desk_that_waits_for_a_reply_in_vain_is_of_no_more_use(tmp_path: Path) -> None:
+    silent = program("import sys; sys.stdin.read()")
+    with Desk(silent, timeout=0.3, journal=tmp_path / "night") as desk:
+        with pytest.raises(NoReply):
+            desk.plan()
+        with pytest.raises(DeskError, match="a line wasn't wholly replied to, so the desk is of no more use"):
+            desk.balances()
+    assert (tmp_path / "night.lines.jsonl").read_text() == '{"do":"plan"}\n'
+
+
+def test_threads_get_their_own_replies(netsched) -> None:
+    with Desk(netsched, timeout=20) as desk:
+        desk.replay(LINES[:7])
+        found: dict[str, list[type]] = {}
+
+        def ask(word: str, line: dict[str, object]) -> None:
+            found[word] = [type(desk.ask(line)) for _ in range(50)]
+
+        lines = {"balances": {"do": "balances"}, "show": {"do": "show", "group_number": 1}}
+        threads = [threading.Thread(target=ask, args=each) for each in lines.items()]
+        for thread in threads:
+            thread.start()
+        for thread in threads:
+            thread.join()
+        assert found == {"balances": [Balances] * 50, "show": [Shown] * 50}
+        for exchange in desk.history.exchanges[7:]:
+            assert exchange.command["do"] == ("balances" if isinstance(exchange.reply, Balances) else "show")
