@@ -1,17 +1,26 @@
 # shellcheck shell=sh
 # What the scripts of this folder share: finding the Python that Debian's packages are for.
 
-# Sets $python to the interpreter of $PURVELJ_PYTHON, or else to Debian's own, and says so where there is none.
-# Another python3 that comes first on the search path doesn't see Debian's packages.
+# Sets $python to the interpreter that $PURVELJ_PYTHON names, or where it names none to Debian's own, and says so where that
+# doesn't serve. Another python3 that comes first on the search path doesn't see Debian's packages.
 find_python() {
-    for python in "${PURVELJ_PYTHON:-}" /usr/bin/python3 /bin/python3; do
-        if [ -n "$python" ] && "$python" -c 'import sys; sys.exit(sys.version_info < (3, 11))' 2>/dev/null; then
-            return 0
-        fi
+    if [ -n "${PURVELJ_PYTHON:-}" ]; then
+        python=$PURVELJ_PYTHON
+        serves && return 0
+        echo "$1: PURVELJ_PYTHON names $python, which isn't a Python 3.11 or later" >&2
+        return 1
+    fi
+    for python in /usr/bin/python3 /bin/python3; do
+        serves && return 0
     done
     echo "$1: there is no Python 3.11 or later at /usr/bin/python3; set PURVELJ_PYTHON to one that has numpy, scipy," \
         "astropy, astroplan, matplotlib and rich" >&2
     return 1
+}
+
+# Whether $python is a Python 3.11 or later.
+serves() {
+    "$python" -c 'import sys; sys.exit(sys.version_info < (3, 11))' 2>/dev/null
 }
 
 # Prints those of the modules that $python doesn't have.

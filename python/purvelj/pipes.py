@@ -178,5 +178,6 @@ def _ending(exit_status: int) -> str:
         3: "writing its output failed",
         4: "it ran out of memory",
         5: "its input is longer than it may be",
+        126: "it could be neither found nor built",
     }
     return f"ended with status {exit_status}" + (f" ({words[exit_status]})" if exit_status in words else "")

@@ -1,0 +1,74 @@
+"""The scripts that start programs and commands, over a folder like the top of the repository."""
+
+from __future__ import annotations
+
+import os
+import shutil
+import subprocess
+from pathlib import Path
+
+import pytest
+
+TOP = Path(__file__).resolve().parents[2]
+PROGRAM = '#!/bin/sh\necho "netsched $*"\nexit 5\n'
+
+
+@pytest.fixture
+def top(tmp_path: Path) -> Path:
+    """A repository with one program that isn't built."""
+    shutil.copytree(TOP / "bin", tmp_path / "bin")
+    (tmp_path / "crates" / "netsched" / "src").mkdir(parents=True)
+    (tmp_path / "crates" / "netsched" / "src" / "main.rt").write_text("fn main() {}\n")
+    (tmp_path / "crates.txt").write_text("netsched:\n")
+    (tmp_path / "HANDLES").write_text("")
+    return tmp_path
+
+
+def build(top: Path, kind: str) -> Path:
+    """Puts a build in its place and gives the folder that it is in."""
+    command = ["sh", "-c", '. "$top/bin/lib.sh"; built netsched "$1" "$(sum_of netsched)"', "test", kind]
+    done = subprocess.run(command, env={**os.environ, "top": str(top)}, capture_output=True, text=True, check=True)
+    path = Path(done.stdout.strip())
+    path.parent.mkdir(exist_ok=True)
+    path.write_text(PROGRAM)
+    path.chmod(0o755)
+    return path.parent
+
+
+def start(program: Path, *words: str) -> subprocess.CompletedProcess:
+    environment = {**os.environ, "PATH": "/usr/bin:/bin"}
+    return subprocess.run([program, *words], env=environment, capture_output=True, text=True, check=False)
+
+
+def test_a_built_program_is_run_and_nothing_is_written(top: Path) -> None:
+    out = build(top, "unproved")
+    done = start(top / "bin" / "netsched", "session")
+    assert (done.returncode, done.stdout) == (5, "netsched session\n")
+    assert done.stderr.startswith("netsched: this build is not proved")
+    assert len(list(out.iterdir())) == 1
+
+
+def test_a_link_of_another_name_starts_the_same_program(top: Path) -> None:
+    build(top, "proved")
+    (top / "sched").symlink_to("bin/netsched")
+    for words in (["session"], ["--proved", "session"]):
+        done = start(top / "sched", *words)
+        assert (done.returncode, done.stdout, done.stderr) == (5, "netsched session\n", "")
+
+
+def test_a_start_that_fails_has_a_status_of_its_own(top: Path) -> None:
+    done = start(top / "bin" / "netsched", "session")
+    assert (done.returncode, done.stdout) == (126, "")
+    assert done.stderr == "netsched: the command rt of the Rattle toolchain is not there\n"
+    build(top, "unproved")
+    done = start(top / "bin" / "netsched", "--proved", "session")
+    assert (done.returncode, done.stdout) == (126, "")
+    assert done.stderr == "netsched: not proved for the sources as they are: bin/prove does that\n"
+
+
+@pytest.mark.parametrize("python", ["/nosuch", "/bin/false"])
+def test_an_interpreter_that_is_named_and_does_not_serve_is_told(python: str) -> None:
+    environment = {**os.environ, "PURVELJ_PYTHON": python}
+    done = subprocess.run([TOP / "python" / "run", "--help"], env=environment, capture_output=True, text=True, check=False)
+    assert (done.returncode, done.stdout) == (126, "")
+    assert done.stderr == f"python/run: PURVELJ_PYTHON names {python}, which isn't a Python 3.11 or later\n"
