@@ -84,7 +84,7 @@ def default_program() -> list[str]:
     """
     chosen = os.environ.get("PURVELJ_PROGRAM")
     if chosen:
-        return shlex.split(chosen)
+        return command_of(chosen)
     own = Path(__file__).resolve().parents[2] / "bin" / "netsched"
     found = str(own) if own.exists() else shutil.which("netsched")
     if found is None:
@@ -92,15 +92,29 @@ def default_program() -> list[str]:
     return [found, "session"]
 
 
+def command_of(program: Sequence[str] | str | None) -> list[str]:
+    """The words of a command: a text is parted as a shell does, and None is the default program."""
+    if program is None:
+        return default_program()
+    try:
+        words = shlex.split(program) if isinstance(program, str) else list(program)
+    except ValueError as fault:
+        raise DeskError(f"{program!r} is no command: {fault}") from None
+    if not words:
+        raise DeskError("the command of the session program has no words")
+    return words
+
+
 def run_script(
-    script: Sequence[str], program: Sequence[str] | None = None, timeout: float | None = TIMEOUT
+    script: Sequence[str], program: Sequence[str] | str | None = None, timeout: float | None = TIMEOUT
 ) -> History:
     """Sends the lines of a script all at once to a session program, and gives what it replied.
 
     This serves a program, too, that reads all its input before it replies. ``DeskEnded`` where it ends
     with a status above 0, ``NoReply`` where it takes longer than ``timeout`` seconds.
     """
-    command = default_program() if program is None else program
+    _test_lines(script)
+    command = command_of(program)
     text = "".join(f"{line}\n" for line in script)
     output, exit_status = run_through(command, text, timeout)
     if exit_status:
@@ -109,6 +123,11 @@ def run_script(
     if len(history.exchanges) != len(script):
         raise DeskError(f"{len(script)} lines were sent, and {len(history.exchanges)} were replied to")
     return history
+
+
+def _test_lines(script: object) -> None:
+    if isinstance(script, (str, bytes)):
+        raise TypeError("a script is a list of lines or an open file, and not one text")
 
 
 class Desk:
@@ -128,18 +147,21 @@ class Desk:
 
     def __init__(
         self,
-        program: Sequence[str] | None = None,
+        program: Sequence[str] | str | None = None,
         timeout: float | None = TIMEOUT,
         journal: str | Path | None = None,
     ) -> None:
-        """Starts the program; ``FileError`` where a file of the journal is there already."""
+        """Starts the program, by default ``default_program``: the words of a command, or a text that has them.
+
+        ``FileError`` where a file of the journal is there already.
+        """
         self._exchanges: list[Exchange] = []
         self._lock = threading.Lock()
         self._lost = False
         self._journal: Journal | None = None
         #: The lines of the journal that weren't wholly replied to; only ``resume`` may find any.
         self.unanswered: tuple[str, ...] = ()
-        self._program = LineProgram(default_program() if program is None else program, timeout)
+        self._program = LineProgram(command_of(program), timeout)
         if journal is not None:
             with ExitStack() as faults:
                 faults.callback(self.close)
@@ -148,7 +170,7 @@ class Desk:
 
     @classmethod
     def resume(
-        cls, journal: str | Path, program: Sequence[str] | None = None, timeout: float | None = TIMEOUT
+        cls, journal: str | Path, program: Sequence[str] | str | None = None, timeout: float | None = TIMEOUT
     ) -> Desk:
         """A desk that goes on where the one with this journal stopped, in a new session.
 
@@ -226,6 +248,7 @@ class Desk:
 
     def replay(self, script: Iterable[str]) -> list[tuple[Reply, ...]]:
         """Sends the lines of a script one after another and gives the replies to each, refusals among them."""
+        _test_lines(script)
         return [self.send(line.rstrip("\n")) for line in script]
 
     def open(

@@ -1,8 +1,8 @@
 """The lines that a desk reads, one function a command.
 
-Each function gives the line as a ``dict``; ``documents.compact`` makes the text of it. Moments are
-anything that ``moments.seconds_of`` takes, and spans are of whole seconds. Ranges are tested by the
-desk, which refuses a line that is out of them.
+Each function gives the line as a ``dict``; ``documents.compact`` makes the text of it. Moments, those of
+spans too, are anything that ``moments.seconds_of`` takes. Other ranges are tested by the desk, which
+refuses a line that is out of them.
 """
 
 from __future__ import annotations
@@ -13,8 +13,8 @@ from purvelj.model import Claim
 from purvelj.moments import Moment, seconds_of
 
 Line = dict[str, object]
-#: Anything that is a list of pairs of seconds.
-Pairs = Iterable[tuple[int, int]]
+#: Spans: pairs of moments, each the first second and the one after the last.
+Pairs = Iterable[tuple[Moment, Moment]]
 #: The accounts that a grant can go to.
 ACCOUNTS = ("standard", "time_critical", "rapid_response", "ipp")
 
@@ -164,4 +164,5 @@ def _scope(site: str, enclosure: str | None, telescope: str | None) -> Line:
 
 
 def _lists(spans: Pairs) -> list[list[int]]:
-    return [[start, end] for start, end in spans]
+    pairs = enumerate(spans)
+    return [[seconds_of(each, f"spans[{place}]") for each in (start, end)] for place, (start, end) in pairs]

@@ -4,9 +4,11 @@ from __future__ import annotations
 
 import json
 import os
+import shlex
 import signal
 import sys
 import time
+from datetime import datetime, timezone
 from pathlib import Path
 
 import pytest
@@ -15,7 +17,7 @@ from purvelj.desk import Desk, Refusal, default_program, run_script
 from purvelj.documents import compact
 from purvelj.errors import DocumentError, FileError
 from purvelj.history import read_history
-from purvelj.lines import submit_line
+from purvelj.lines import night_line, submit_line, visibility_line
 from purvelj.model import Placement
 from purvelj.pipes import DeskEnded, DeskError, NoReply
 from purvelj.replies import Balance, Completed, Failed, Refused, Submitted
@@ -175,6 +177,36 @@ def test_a_line_of_any_text_is_one_line(desk: Desk) -> None:
     assert len(desk.history.exchanges) == 2
     with pytest.raises(ValueError, match="no newline"):
         desk.send('{"do":\n"plan"}')
+
+
+def test_spans_have_moments_as_all_lines_have() -> None:
+    moment = datetime(2026, 11, 28, tzinfo=timezone.utc)
+    line = night_line("coj", [("2026-11-27", "2026-11-27T10:00:00Z"), (1_795_780_800, moment)])
+    assert line["spans"] == [[1_795_737_600, 1_795_773_600], [1_795_780_800, 1_795_824_000]]
+    with pytest.raises(DocumentError, match=r"spans\[1\]: 'noon' is no date and time"):
+        visibility_line("M51", "coj", [(0, 1), ("noon", 2)])
+
+
+def test_a_script_that_is_one_text_is_refused(desk: Desk, netsched: list[str]) -> None:
+    with pytest.raises(TypeError, match="a script is a list of lines or an open file, and not one text"):
+        desk.replay("script.jsonl")
+    with pytest.raises(TypeError, match="a script is a list of lines"):
+        run_script(LINES[0], netsched)
+    assert desk.history.exchanges == ()
+
+
+def test_a_program_is_words_or_a_text_that_has_them(netsched: list[str]) -> None:
+    with Desk(shlex.join(netsched), timeout=20) as desk:
+        assert desk.open(0, 300, 12, (0, 15_552_000)).version == 0
+    assert run_script(LINES[:1], shlex.join(netsched)).output() == f"{REPLIES[0]}\n"
+    with pytest.raises(DeskError, match="'netsched \"session' is no command: No closing quotation"):
+        Desk('netsched "session')
+
+
+def test_a_closed_desk_says_so(desk: Desk) -> None:
+    assert desk.close() == 0
+    with pytest.raises(DeskError, match="^the desk was closed$"):
+        desk.balances()
 
 
 def alive(process: int) -> bool:
