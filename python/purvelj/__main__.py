@@ -2,6 +2,12 @@
 
 import sys
 
-from purvelj.cli import main
+try:
+    from purvelj.cli import main
 
-sys.exit(main())
+    status = main()
+except KeyboardInterrupt:
+    # Before the command began, or as it ended.
+    print("purvelj: interrupted", file=sys.stderr)
+    status = 130
+sys.exit(status)

@@ -4,6 +4,7 @@ from __future__ import annotations
 
 import json
 import sys
+from contextlib import contextmanager
 from decimal import Decimal
 from pathlib import Path
 from typing import Any, Callable, Iterator, Mapping, Sequence, TypeVar
@@ -68,13 +69,35 @@ def read_json(path: str | Path) -> Any:
 
 def write_text(path: str | Path, text: str) -> None:
     """Writes a file, or standard output where the path is ``-``."""
+    if str(path) == "-":
+        write_output(text)
+        return
     try:
-        if str(path) == "-":
-            sys.stdout.write(text)
-        else:
-            Path(path).write_text(text, encoding="utf-8")
+        Path(path).write_text(text, encoding="utf-8")
     except OSError as fault:
         raise FileError(f"{path}: can't be written: {fault.strerror or fault}") from None
+
+
+def write_output(text: str, flush: bool = False) -> None:
+    """Writes a text to standard output, and at once where it is to be flushed; for faults see ``writing_output``."""
+    if sys.stdout is None and text:
+        raise FileError("standard output: can't be written: it is closed")
+    with writing_output():
+        if sys.stdout is not None:
+            sys.stdout.write(text)
+            if flush:
+                sys.stdout.flush()
+
+
+@contextmanager
+def writing_output() -> Iterator[None]:
+    """Where writing to standard output fails, ``FileError``; but ``BrokenPipeError`` where its reader has left."""
+    try:
+        yield
+    except BrokenPipeError:
+        raise
+    except OSError as fault:
+        raise FileError(f"standard output: can't be written: {fault.strerror or fault}") from None
 
 
 class Document:
@@ -218,6 +241,8 @@ def _refuse_constant(word: str) -> Any:
 def _where_it_breaks(text: str, fault: ValueError) -> str:
     if not isinstance(fault, json.JSONDecodeError):
         return str(fault)
+    if text.startswith("\ufeff"):
+        return "it begins with a byte order mark"
     if fault.pos >= len(text.rstrip()) or fault.msg.startswith("Unterminated string"):
         return f"it ends in the middle, after {len(text)} characters"
     return f"{fault.msg}, line {fault.lineno}, column {fault.colno}"

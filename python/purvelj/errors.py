@@ -9,7 +9,7 @@ class Status(IntEnum):
     """The exit statuses of ``python3 -m purvelj``."""
 
     DONE = 0
-    #: Chosen by ``argparse``.
+    #: The words of the command line are others; ``argparse`` chose the number.
     WORDS = 2
     #: A file can't be read or written, or holds no JSON.
     FILE = 3
@@ -23,14 +23,22 @@ class Status(IntEnum):
     NO = 7
     #: HiGHS gave no solution in time.
     TIME = 8
-    #: The session program ended, refused a line or can't be started.
+    #: The session program can't be started, ended or didn't reply in time; or, where it matters, it refused a line.
     DESK = 9
+    #: A user interrupted it, as a shell says it: 128 and the number of SIGINT.
+    INTERRUPTED = 130
 
 
 class PurveljError(Exception):
     """A fault that is told in one message. ``status`` is the exit status that it ends a command with."""
 
     status = Status.DOCUMENT
+
+
+class WordsError(PurveljError):
+    """The words of the command line don't go together."""
+
+    status = Status.WORDS
 
 
 class FileError(PurveljError):

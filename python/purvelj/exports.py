@@ -6,7 +6,7 @@ from dataclasses import dataclass
 from pathlib import Path
 from typing import Any
 
-from purvelj.documents import Document, parse, read_text
+from purvelj.documents import Document, parse, read_text, source_of
 from purvelj.errors import DocumentError, FileError
 from purvelj.model import Claim, Snapshot, read_claim, read_snapshot
 
@@ -38,7 +38,7 @@ def read_export(path: str | Path) -> Export:
 
     ``FileError`` where the file can't be read or is no JSON, ``DocumentError`` where it has no export.
     """
-    source = "standard input" if str(path) == "-" else str(path)
+    source = source_of(path)
     document = Document(_last_object(read_text(path), source), f"{source}:")
     if not document.has("snapshot"):
         raise DocumentError(source, "there is no `snapshot`, so it isn't the reply to an `export` line")

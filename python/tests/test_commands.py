@@ -5,6 +5,7 @@ from __future__ import annotations
 import json
 import os
 import shlex
+import signal
 import subprocess
 import sys
 from pathlib import Path
@@ -113,6 +114,14 @@ def test_replay_prints_the_replies(run, netsched: list[str]) -> None:
     assert ran.err == "purvelj: 1 of 10 lines were refused\n"
 
 
+def test_replay_sends_each_line_as_it_is(run, netsched: list[str]) -> None:
+    ran = run("replay", "script.jsonl", "--program", shlex.join(netsched), files={"script.jsonl": "\n \n{}\r\n"})
+    assert ran.status == 0
+    assert [(line["line"], line["refused"]) for line in ran.lines()] == [(1, "NotJson"), (2, "NotJson"), (3, "Missing")]
+    assert ran.err == "purvelj: 3 of 3 lines were refused\n"
+    assert run("replay", "none.jsonl", "--program", shlex.join(netsched), files={"none.jsonl": ""}).out == ""
+
+
 def test_check_says_what_plancheck_says(run) -> None:
     ran = run("check", "export.json", files={"export.json": EXPORT})
     assert (ran.status, ran.out) == (0, '{"bound":50000,"ok":"yes","value":50000}\n')
@@ -175,7 +184,7 @@ def test_chart_draws_both(run) -> None:
     assert (ran.status, ran.out, ran.err) == (0, "", "")
     assert "coj doma 1m0a" in Path("plan.svg").read_text() and Path("accounts.png").stat().st_size > 5000
     ran = run("chart", "output.jsonl")
-    assert (ran.status, ran.err) == (0, "purvelj: nothing is drawn: name a file by --plan or --accounts\n")
+    assert (ran.status, ran.err) == (2, "purvelj: chart draws nothing: name a file by --plan or --accounts\n")
 
 
 BALANCES = {
@@ -215,6 +224,9 @@ FILES = {
     "order.json": EXPORT.replace('"usable":[[0,3600]]', '"usable":[[0,1800],[1800,3600]]'),
     "wrong.json": EXPORT.replace('"bound":50000', '"bound":50001'),
     "nan.json": '{"snapshot":NaN}',
+    "mark.json": "\ufeff" + EXPORT,
+    "twice.json": [SITES[0], SITES[1], SITES[0]],
+    "names.json": [{"name": "M1", "ra": 1, "dec": 1}, {"name": "M1", "ra": 2, "dec": 1}],
     "output.jsonl": "\n".join(REPLIES[:-1]),
     "cutoutput.jsonl": "\n".join(REPLIES)[:-30],
     "group.json": DOCUMENT.replace('"name": "M 51 in r",', ""),
@@ -228,6 +240,15 @@ BAD = [
     (("nights", "list.json", *HORIZON), 4, "list.json: 0 elements, where 1 to 100000 may be"),
     (("nights", "pole.json", *HORIZON), 4, "pole.json: sites[0].latitude: -91.3 is out of -90 to 90"),
     (("nights", "place.json", *HORIZON), 4, "place.json: sites[0].latitude: is missing"),
+    (("nights", "mark.json", *HORIZON), 3, "mark.json: not JSON: it begins with a byte order mark"),
+    (("nights", "twice.json", *HORIZON), 4, "twice.json: sites[2].site: 'lsc' is there twice"),
+    (("visibility", "twice.json", "targets.json", *HORIZON), 4, "twice.json: sites[2].site: 'lsc' is there twice"),
+    (("visibility", "sites.json", "names.json", *HORIZON), 4, "names.json: targets[1].name: 'M1' is there twice"),
+    (
+        ("nights", "sites.json", "--from", "9999-12-31", "--days", "2"),
+        4,
+        "--days: 2 days from 9999-12-31T00:00:00Z on end after the year 9999",
+    ),
     (("nights", "sites.json", "--from", "soon", "--days", "1"), 4, "--from: 'soon' is no date and time"),
     (
         ("nights", "sites.json", "--from", "1960-01-01", "--days", "1"),
@@ -288,6 +309,12 @@ BAD = [
         9,
         "false ended with status 1 (the words of its command line",
     ),
+    (
+        ("replay", "script.jsonl", "--program", "sh -c 'exit 126'"),
+        9,
+        "sh -c exit 126 ended with status 126 (it could be neither found nor built) before",
+    ),
+    (("replay", "script.jsonl", "--program", ""), 9, "the command of the session program has no words"),
 ]
 
 
@@ -308,6 +335,8 @@ def test_bad_input_is_told_in_one_message(run, words, status: int, message: str)
         (("portal", "a"), "the following arguments are required: --priority"),
         (("tighten", "a", "--seconds", "0"), "0 is out of 1 to 86400"),
         (("visibility", "a", "b", *HORIZON, "--moon", "200"), "200 is out of 0 to 180"),
+        (("replay", "a", "--program", "it's"), "\"it's\" is no command: No closing quotation"),
+        (("resume", "a"), "the following arguments are required: --script"),
     ],
 )
 def test_wrong_words_are_told(run, words, message: str) -> None:
@@ -338,6 +367,59 @@ def process(*words: str, **members) -> subprocess.Popen:
 def test_standard_input_is_read(tmp_path: Path) -> None:
     with process("check", "-", stdin=subprocess.PIPE) as ran:
         assert ran.communicate(EXPORT) == ('{"bound":50000,"ok":"yes","value":50000}\n', "")
+
+
+def shell(command: str, folder: Path) -> tuple[int, str]:
+    """The exit status of a shell's command, in which ``purvelj`` is the package, and what it says on standard error."""
+    (folder / "export.json").write_text(EXPORT)
+    text = f'purvelj() {{ {shlex.quote(sys.executable)} -m purvelj "$@"; }}; {command}'
+    environment = {**os.environ, "PYTHONPATH": str(TOP)}
+    done = subprocess.run(["sh", "-c", text], cwd=folder, env=environment, capture_output=True, text=True, check=False)
+    return done.returncode, done.stderr
+
+
+@pytest.mark.parametrize(
+    "command, message",
+    [
+        ("purvelj check export.json >/dev/full", "standard output: can't be written: No space left on device"),
+        ("purvelj --help >/dev/full", "standard output: can't be written: No space left on device"),
+        ("purvelj --version >/dev/full", "standard output: can't be written: No space left on device"),
+        ("purvelj check export.json >&-", "standard output: can't be written: it is closed"),
+        ("purvelj check - <&-", "standard input: can't be read: it is closed"),
+        ("printf '\\377' | purvelj check -", "standard input: not a text in UTF-8"),
+        ("echo {} | purvelj nights - --from 2026-11-27 --days 1", "standard input: sites: is missing"),
+        ("echo [] | purvelj portal - --priority 1", "standard input: there is no request group in it"),
+    ],
+)
+def test_streams_that_fail_are_told(command: str, message: str, tmp_path: Path) -> None:
+    status, err = shell(command, tmp_path)
+    assert (status, err) == (4 if "missing" in message or "group" in message else 3, f"purvelj: {message}\n")
+
+
+@pytest.mark.parametrize(
+    "command, status", [("check nowhere.json 2>&-", 3), ("check nowhere.json 2>/dev/full", 3), ("sing 2>&-", 2)]
+)
+def test_a_standard_error_that_fails_leaves_the_status(command: str, status: int, tmp_path: Path) -> None:
+    assert shell(f"out=$(purvelj {command}); status=$?; echo \"$out\" >&2; exit $status", tmp_path) == (status, "\n")
+
+
+def test_results_are_utf_8_in_every_country(tmp_path: Path, netsched: list[str]) -> None:
+    script = [*LINES[:6], LINES[6].replace('"g"', '"\U0001f52d"'), '{"do":"show","group_number":1}']
+    (tmp_path / "script.jsonl").write_text("\n".join(script))
+    words = ["replay", str(tmp_path / "script.jsonl"), "--program", shlex.join(netsched)]
+    environment = {**os.environ, "PYTHONPATH": str(TOP), "PYTHONIOENCODING": "latin-1"}
+    done = subprocess.run([sys.executable, "-m", "purvelj", *words], env=environment, capture_output=True, check=False)
+    assert (done.returncode, done.stderr) == (0, b"")
+    assert '"name":"\U0001f52d"'.encode() in done.stdout
+
+
+def test_an_interrupted_command_says_so(tmp_path: Path) -> None:
+    (tmp_path / "script.jsonl").write_text("{}\n")
+    sleep = "sh -c 'echo started >&2; exec sleep 60'"
+    with process("replay", str(tmp_path / "script.jsonl"), "--program", sleep) as ran:
+        assert ran.stderr.readline() == "started\n"
+        ran.send_signal(signal.SIGINT)
+        assert (ran.wait(60), ran.stdout.read(), ran.stderr.read()) == (130, "", "purvelj: interrupted\n")
 
 
 def test_a_reader_that_leaves_is_no_fault(tmp_path: Path) -> None:

@@ -3,23 +3,12 @@
 from __future__ import annotations
 
 import argparse
-import os
-import sys
 from typing import Sequence
 
 from purvelj import __version__
 from purvelj.cli import chart, claims, portal, replay, resume, sky
-from purvelj.errors import PurveljError, Status
-
-#: Packages that a command may find missing, and the Debian package that has each.
-PACKAGES = {
-    "numpy": "python3-numpy",
-    "scipy": "python3-scipy",
-    "astropy": "python3-astropy",
-    "astroplan": "python3-astroplan",
-    "matplotlib": "python3-matplotlib",
-    "rich": "python3-rich",
-}
+from purvelj.cli.ending import ended
+from purvelj.documents import writing_output
 
 
 def parser() -> argparse.ArgumentParser:
@@ -29,7 +18,8 @@ def parser() -> argparse.ArgumentParser:
         description="An astronomer's tools beside the Purvelj telescope scheduler.",
         epilog="Exit statuses: 0 done, 2 the words are others, 3 a file can't be read or written or is no JSON, "
         "4 a document isn't what it should be, 5 a request group can't be turned into a line, 6 no night or no "
-        "visibility, 7 the checker says No, 8 HiGHS gave no solution in time, 9 the session program ended.",
+        "visibility, 7 the checker says No, 8 HiGHS gave no solution in time, 9 the session program can't be started, "
+        "ended or didn't reply in time, 130 interrupted.",
     )
     words.add_argument("--version", action="version", version=f"purvelj {__version__}")
     commands = words.add_subparsers(dest="command", required=True, metavar="COMMAND")
@@ -40,23 +30,15 @@ def parser() -> argparse.ArgumentParser:
 
 def main(arguments: Sequence[str] | None = None) -> int:
     """Runs one command and gives its exit status. What a user can mend is told in one message."""
-    options = parser().parse_args(arguments)
+    return ended("purvelj", lambda: _run(arguments))
+
+
+def _run(arguments: Sequence[str] | None) -> int:
+    """Runs one command, or prints what ``--help`` and ``--version`` ask for, and gives its exit status."""
     try:
-        status: int = options.run(options)
-        sys.stdout.flush()
-        return status
-    except PurveljError as fault:
-        print(f"purvelj: {fault}", file=sys.stderr)
-        return int(fault.status)
-    except ModuleNotFoundError as fault:
-        package = PACKAGES.get((fault.name or "").split(".")[0])
-        if package is None:
-            raise
-        print(f"purvelj: {fault.name} isn't there: python/setup installs {package}", file=sys.stderr)
-        return int(Status.FILE)
-    except BrokenPipeError:
-        os.dup2(os.open(os.devnull, os.O_WRONLY), sys.stdout.fileno())
-        return int(Status.FILE)
-    except KeyboardInterrupt:
-        print("purvelj: interrupted", file=sys.stderr)
-        return 130
+        with writing_output():
+            options = parser().parse_args(arguments)
+    except SystemExit as end:
+        return int(end.code or 0)
+    status: int = options.run(options)
+    return status

@@ -5,7 +5,8 @@ from __future__ import annotations
 import argparse
 
 from purvelj.cli.words import Commands, tell
-from purvelj.documents import read_text
+from purvelj.documents import read_text, source_of
+from purvelj.errors import WordsError
 from purvelj.history import read_history
 
 
@@ -29,15 +30,14 @@ def run_chart(options: argparse.Namespace) -> int:
     """Runs ``chart``."""
     from purvelj.chart import draw_plan, draw_shares, plan_view, save, shares, story_of
 
-    source = "standard input" if options.output == "-" else options.output
+    if not options.plan and not options.accounts:
+        raise WordsError("chart draws nothing: name a file by --plan or --accounts")
     script = read_text(options.script) if options.script else None
-    story = story_of(read_history(read_text(options.output), script, source))
+    story = story_of(read_history(read_text(options.output), script, source_of(options.output)))
     if options.plan:
         save(draw_plan(plan_view(story)), options.plan)
     if options.accounts:
         save(draw_shares(shares(story)), options.accounts)
-    if not options.plan and not options.accounts:
-        tell("nothing is drawn: name a file by --plan or --accounts")
     for note in dict.fromkeys(story.notes):
         tell(note)
     return 0

@@ -5,7 +5,7 @@ from __future__ import annotations
 import argparse
 import sys
 
-from purvelj.cli.words import Commands, ranged, tell
+from purvelj.cli.words import Commands, put, ranged, tell
 from purvelj.documents import compact
 from purvelj.errors import Status
 from purvelj.exports import Export, read_export
@@ -47,7 +47,7 @@ def run_check(options: argparse.Namespace) -> int:
 
     export = read_export(options.export)
     verdict = check(export.snapshot, export.claim)
-    print(verdict.text())
+    put(verdict.text())
     return 0 if verdict.yes else int(Status.NO)
 
 
@@ -60,7 +60,7 @@ def run_tighten(options: argparse.Namespace) -> int:
     _tell_of_changes(export, options.version)
     with Progress(options.seconds, shown=sys.stderr.isatty() and not options.quiet) as progress:
         found = tighten(export.snapshot, export.claim, options.seconds, progress.tell)
-    print(compact(publish_line(export.next_version if options.version is None else options.version, found.claim)))
+    put(compact(publish_line(export.next_version if options.version is None else options.version, found.claim)))
     tell(f"before: {_text(found.before)}")
     tell(f"after:  {_text(found.claim)}, in {found.seconds:.0f} s")
     if not found.in_time:

@@ -3,11 +3,10 @@
 from __future__ import annotations
 
 import argparse
-import sys
 from typing import Iterator
 
-from purvelj.cli.words import Commands, ranged
-from purvelj.documents import compact, read_json, write_text
+from purvelj.cli.words import Commands, put, ranged, tell
+from purvelj.documents import compact, read_json, source_of, write_text
 from purvelj.errors import DocumentError
 from purvelj.portal.convert import convert
 from purvelj.portal.notes import Note, Notes, PortalError, summary
@@ -42,18 +41,18 @@ def run_portal(options: argparse.Namespace) -> int:
     """Runs ``portal``."""
     values = [each for path in options.documents for each in _groups(path)]
     if not values:
-        raise DocumentError(", ".join(options.documents), "there is no request group in it")
+        raise DocumentError(", ".join(map(source_of, options.documents)), "there is no request group in it")
     conversions = [convert(value, options.priority, options.fade, path) for path, value in values]
     notes = [note for conversion in conversions for note in conversion.notes]
     faults = any(conversion.group is None for conversion in conversions)
     if options.targets and not faults:
         notes += _write_targets(options.targets, values)
     for line in summary(tuple(notes)):
-        print(f"purvelj: {line}", file=sys.stderr)
+        tell(line)
     if faults or (options.strict and notes):
         return int(PortalError.status)
     for conversion in conversions:
-        print(compact(conversion.line()))
+        put(compact(conversion.line()))
     return 0
 
 
@@ -63,10 +62,10 @@ def _groups(path: str) -> Iterator[tuple[str, object]]:
     if isinstance(value, dict) and isinstance(value.get("results"), list):
         value = value["results"]
     if not isinstance(value, list):
-        yield f"{path}:", value
+        yield f"{source_of(path)}:", value
         return
     for place, each in enumerate(value):
-        yield f"{path}: [{place}]", each
+        yield f"{source_of(path)}: [{place}]", each
 
 
 def _write_targets(path: str, values: list[tuple[str, object]]) -> tuple[Note, ...]:

@@ -4,7 +4,7 @@ from __future__ import annotations
 
 import argparse
 
-from purvelj.cli.words import Commands, tell
+from purvelj.cli.words import Commands, put, tell
 from purvelj.documents import decoded, read_bytes, source_of
 from purvelj.resume import Stopped, line_again, pieces, stopped
 
@@ -31,7 +31,7 @@ def run_resume(options: argparse.Namespace) -> int:
     lines = decoded(script, source_of(options.script)).split("\n")[:-1]
     found = stopped(replies, lines, torn, source)
     for exchange in found.done:
-        print(line_again(exchange))
+        put(line_again(exchange))
     _tell(found)
     return 0
 

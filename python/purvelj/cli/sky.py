@@ -5,10 +5,10 @@ from __future__ import annotations
 import argparse
 from typing import Callable, TypeVar
 
-from purvelj.cli.words import Commands, ranged, tell
-from purvelj.documents import Document, compact, elements, read_json
+from purvelj.cli.words import Commands, put, ranged, tell
+from purvelj.documents import Document, compact, elements, read_json, source_of
 from purvelj.errors import DocumentError
-from purvelj.moments import seconds_of
+from purvelj.moments import LAST, seconds_of, text_of
 from purvelj.places import Limits, Site, Target
 
 T = TypeVar("T")
@@ -65,7 +65,7 @@ def run_nights(options: argparse.Namespace) -> int:
     """Runs ``nights``."""
     from purvelj.sky.almanac import Almanac, SkyError
 
-    sites = _read_all(options.sites, "sites", Site.read)
+    sites = _read_sites(options.sites)
     almanac = Almanac(*_horizon(options))
     lines = list(almanac.night_lines(sites, options.sun_below))
     dark = {line["site"] for line in lines if line["spans"]}
@@ -75,7 +75,7 @@ def run_nights(options: argparse.Namespace) -> int:
     if not dark:
         raise SkyError("no site has a night in these days")
     for line in lines:
-        print(compact(line))
+        put(compact(line))
     return 0
 
 
@@ -83,11 +83,9 @@ def run_visibility(options: argparse.Namespace) -> int:
     """Runs ``visibility``."""
     from purvelj.sky.almanac import Almanac, SkyError
 
-    sites = _read_all(options.sites, "sites", Site.read)
+    sites = _read_sites(options.sites)
     default = Limits(options.altitude, options.airmass, options.moon)
-    targets = dict(
-        _read_all(options.targets, "targets", lambda each: (Target.read(each), Limits.read(each, default)))
-    )
+    targets = _read_targets(options.targets, default)
     almanac = Almanac(*_horizon(options))
     lines = list(almanac.visibility_lines(targets, sites))
     seen = {target for target, _, line in lines if line["spans"]}
@@ -98,22 +96,43 @@ def run_visibility(options: argparse.Namespace) -> int:
             raise SkyError(f"{text}; --hidden goes on without them")
         tell(text)
     for _, _, line in lines:
-        print(compact(line))
+        put(compact(line))
     return 0
 
 
 def _horizon(options: argparse.Namespace) -> tuple[int, int]:
     start = seconds_of(options.start, "--from")
-    return start, start + round(options.days * 86_400)
+    end = start + round(options.days * 86_400)
+    if end > LAST:
+        raise DocumentError("--days", f"{options.days:g} days from {text_of(start)} on end after the year 9999")
+    return start, end
+
+
+def _read_sites(path: str) -> list[Site]:
+    sites = _read_all(path, "sites", Site.read)
+    _test_once(path, "sites", "site", [site.code for site in sites])
+    return sites
+
+
+def _read_targets(path: str, default: Limits) -> dict[Target, Limits]:
+    targets = _read_all(path, "targets", lambda each: (Target.read(each), Limits.read(each, default)))
+    _test_once(path, "targets", "name", [target.name for target, _ in targets])
+    return dict(targets)
+
+
+def _test_once(path: str, name: str, member: str, values: list[str]) -> None:
+    """Tests that each value of a member stands once in a list, since of two lines for it the last would count."""
+    seen: set[str] = set()
+    for place, value in enumerate(values):
+        if value in seen:
+            raise DocumentError(f"{source_of(path)}: {name}[{place}].{member}", f"{value!r} is there twice")
+        seen.add(value)
 
 
 def _read_all(path: str, name: str, read: Callable[[Document], T]) -> list[T]:
     """The elements of a JSON list, or of the list that is the member with this name of an object."""
-    value = read_json(path)
+    value, source = read_json(path), source_of(path)
     if isinstance(value, dict):
-        value = Document(value, f"{path}:").list(name)
-    items = elements(value, path, 1, 100_000)
-    found = [read(Document(item, f"{path}: {name}[{place}]")) for place, item in enumerate(items)]
-    if not found:
-        raise DocumentError(path, "the list is empty")
-    return found
+        value = Document(value, f"{source}:").list(name)
+    items = elements(value, source, 1, 100_000)
+    return [read(Document(item, f"{source}: {name}[{place}]")) for place, item in enumerate(items)]

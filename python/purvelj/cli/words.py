@@ -3,8 +3,11 @@
 from __future__ import annotations
 
 import argparse
+import shlex
 import sys
 from typing import Any, Callable
+
+from purvelj.documents import write_output
 
 Commands = Any
 
@@ -22,6 +25,19 @@ def ranged(kind: Callable[[str], float], least: float, most: float) -> Callable[
         return value
 
     return read
+
+
+def command(text: str) -> list[str]:
+    """A command of a command line, as ``argparse`` takes it, parted as a shell does."""
+    try:
+        return shlex.split(text)
+    except ValueError as fault:
+        raise argparse.ArgumentTypeError(f"{text!r} is no command: {fault}") from None
+
+
+def put(text: str) -> None:
+    """Writes a line of the result to standard output."""
+    write_output(f"{text}\n")
 
 
 def tell(text: str) -> None:
