@@ -45,10 +45,13 @@ class Journal:
         return stopped(replies, lines, torn, self._replies.path)
 
     def cut(self, done: Iterable[Exchange]) -> None:
-        """Drops what isn't of these exchanges, with which the journal begins."""
+        """Drops what isn't of these exchanges, with which the journal begins.
+
+        Replies go first: after a crash in between there are lines without replies, and never the other way round.
+        """
         done = list(done)
-        self._lines.cut([exchange.line for exchange in done])
         self._replies.cut([text for exchange in done for text in exchange.output])
+        self._lines.cut([exchange.line for exchange in done])
 
     def line(self, text: str) -> None:
         """Writes a line that is to be sent."""

@@ -64,7 +64,7 @@ def is_plan(exchange: Exchange) -> bool:
 
 
 def line_again(exchange: Exchange) -> str:
-    """The line that a new session does in the place of one that was done: the same, or a plan's claim to be published."""
+    """The line that a new session does in the place of one that was done: the same, or a plan's claim."""
     if not is_plan(exchange) or not isinstance(exchange.reply, Published):
         return exchange.line
     line = publish_line(exchange.reply.version, exchange.reply.claim)

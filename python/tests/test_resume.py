@@ -55,22 +55,21 @@ def place_of(line: int, ok: str) -> int:
 def test_a_plan_is_published_again_in_its_place(resume) -> None:
     status, lines, told = resume(joined(REPLIES), joined(LINES))
     assert (status, lines) == (0, [*LINES[:7], PUBLISH, LINES[8]])
-    assert told == ["9 lines were done, 1 of them published plans"]
+    assert told == ["lines that were done: 9, published plans among them: 1"]
 
 
 def test_lines_without_all_their_replies_are_left_to_be_sent(resume) -> None:
     status, lines, told = resume(joined(REPLIES[:8]), joined(LINES))
     assert (status, lines) == (0, LINES[:7])
     assert told == [
-        "7 lines were done, 0 of them published plans",
-        "from line 8 on, 2 lines weren't replied to: send them again",
+        "lines that were done: 7, published plans among them: 0",
+        "lines that weren't wholly replied to, and are to be sent again: 8 to 9",
     ]
     assert resume("", joined(LINES))[1] == []
 
 
 def test_a_torn_reply_is_none_even_where_a_letter_is_torn(resume) -> None:
-    shown = '{"caller":0,"document":{"name":"M51 \U0001f52d"},"group":1,"line":8,"ok":"shown","requests":[],"version":7}'
-    torn = joined(REPLIES[:7]).encode() + shown.encode().partition(b"\xf0\x9f\x94")[0] + b"\xf0\x9f"
+    torn = joined(REPLIES[:7]).encode() + b'{"caller":0,"document":{"name":"M51 ' + "\U0001f52d".encode()[:2]
     assert resume(torn, joined(LINES))[1] == LINES[:7]
 
 
@@ -80,8 +79,8 @@ def test_a_torn_line_counts_only_where_it_was_replied_to(resume) -> None:
     status, lines, told = resume(joined(REPLIES[:7]), script)
     assert (status, lines) == (0, LINES[:7])
     assert told[1:] == [
-        "from line 8 on, 1 lines weren't replied to: send them again",
-        "line 9 isn't among them: it has no newline at its end and may be torn",
+        "lines that weren't wholly replied to, and are to be sent again: 8 to 8",
+        "line 9 has no newline at its end and no reply: it may be torn",
     ]
 
 
@@ -131,7 +130,7 @@ def test_a_night_goes_on_as_if_it_had_not_stopped(resume, netsched, replies: int
     cut = joined(OUTPUT[:replies]) + OUTPUT[replies][:piece]
     status, lines, told = resume(cut, joined(NIGHT))
     assert (status, len(lines)) == (0, done)
-    assert told[1] == f"from line {done + 1} on, {65 - done} lines weren't replied to: send them again"
+    assert told[1] == f"lines that weren't wholly replied to, and are to be sent again: {done + 1} to 65"
     again = run_script([*lines, *NIGHT[done:]], netsched).output().splitlines()
     assert again == [text for text in OUTPUT if json.loads(text)["line"] > done or TAKEN not in text]
 

@@ -69,6 +69,7 @@ def test_a_start_that_fails_has_a_status_of_its_own(top: Path) -> None:
 @pytest.mark.parametrize("python", ["/nosuch", "/bin/false"])
 def test_an_interpreter_that_is_named_and_does_not_serve_is_told(python: str) -> None:
     environment = {**os.environ, "PURVELJ_PYTHON": python}
-    done = subprocess.run([TOP / "python" / "run", "--help"], env=environment, capture_output=True, text=True, check=False)
+    command = [TOP / "python" / "run", "--help"]
+    done = subprocess.run(command, env=environment, capture_output=True, text=True, check=False)
     assert (done.returncode, done.stdout) == (126, "")
     assert done.stderr == f"python/run: PURVELJ_PYTHON names {python}, which isn't a Python 3.11 or later\n"

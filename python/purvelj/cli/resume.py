@@ -37,9 +37,9 @@ def run_resume(options: argparse.Namespace) -> int:
 
 
 def _tell(found: Stopped) -> None:
-    count = len(found.done)
-    tell(f"{count} lines were done, {found.plans} of them published plans")
+    done, sent = len(found.done), len(found.done) + len(found.unanswered)
+    tell(f"lines that were done: {done}, published plans among them: {found.plans}")
     if found.unanswered:
-        tell(f"from line {count + 1} on, {len(found.unanswered)} lines weren't replied to: send them again")
+        tell(f"lines that weren't wholly replied to, and are to be sent again: {done + 1} to {sent}")
     if found.torn:
-        tell(f"line {count + len(found.unanswered) + 1} isn't among them: it has no newline at its end and may be torn")
+        tell(f"line {sent + 1} has no newline at its end and no reply: it may be torn")
