@@ -13,8 +13,8 @@ from typing import Any, Iterator
 from campaign import CAMERAS, GRANTS, Campaign
 from purvelj import lines
 from purvelj.chart import draw_plan, draw_shares, plan_view, save, shares, story_of
+from purvelj.cli.ending import ended
 from purvelj.desk import Desk
-from purvelj.errors import PurveljError
 from purvelj.lines import Line
 from purvelj.model import Claim
 from purvelj.moments import seconds_of
@@ -33,12 +33,7 @@ OVERHEADS = {"front_ms": 90_000, "config_ms": 16_000, "readout_ms": 28_000, "cha
 def main() -> int:
     """Runs the example and gives its exit status."""
     options = words().parse_args()
-    try:
-        run(options)
-    except PurveljError as fault:
-        print(f"examples/sky/run: {fault}", file=sys.stderr)
-        return int(fault.status)
-    return 0
+    return ended("examples/sky/run", lambda: run(options))
 
 
 def words() -> argparse.ArgumentParser:
@@ -52,8 +47,8 @@ def words() -> argparse.ArgumentParser:
     return parser
 
 
-def run(options: argparse.Namespace) -> None:
-    """Sets a desk up, plans, tightens, lets five hours pass, plans again, and draws."""
+def run(options: argparse.Namespace) -> int:
+    """Sets a desk up, plans, tightens, lets five hours pass, plans again, and draws, and gives the exit status."""
     options.out.mkdir(parents=True, exist_ok=True)
     start = seconds_of(options.date, "--date")
     script = list(set_up(options.date, options.days, start))
@@ -71,6 +66,7 @@ def run(options: argparse.Namespace) -> None:
             desk.save(options.out / "script.jsonl")
             (options.out / "output.jsonl").write_text(desk.history.output(), encoding="utf-8")
     print(f"script, output and pictures are in {os.path.relpath(options.out)}")
+    return 0
 
 
 def set_up(date: str, days: int, start: int) -> Iterator[Line]:
