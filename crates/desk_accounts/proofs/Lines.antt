@@ -23,7 +23,7 @@ use Rattle.desk_events.specs.declared.reply.Reply.{Reply}
 use Rattle.desk_events.specs.declared.reply.Reply.TheVariants as reply
 use Rattle.desk_events.specs.Ranges.{IsCommand}
 use Rattle.desk_core.specs.declared.desk.Opening.{Opening}
-use Rattle.desk_core.specs.declared.desk.Publication.{Publication}
+use Rattle.desk_core.specs.Publication.{PublicationSeen}
 use Rattle.desk_core.specs.declared.desk.Submitted.{Submitted}
 use Rattle.desk_core.specs.Closing.{on_withdraw, on_amend}
 use Rattle.desk_core.specs.Desk.{DeskSeen, StateSeen, Stepped, refused, accepted, decided, told}
@@ -59,7 +59,7 @@ told_goes : (known : List GroupTold) (version : ℕ) (d : DeskSeen) (c : Command
 told_goes known version d c (Ok r) stepped h k quiet is = same_goes known (opened version d) c (record { reply = r; state = opened version d }) stepped h k quiet refl is
 told_goes known version d c (Err refusal) stepped h k quiet is = same_goes known (opened version d) c (refused (opened version d) refusal) stepped h k (refused_quiet (Ok c) refusal) refl is
 
-export_quiet : (line : Result Command CommandFault) (o : Option Publication) → IfOk (on_export o) (λ r. IsQuiet (record { line = line; reply = r }))
+export_quiet : (line : Result Command CommandFault) (o : Option PublicationSeen) → IfOk (on_export o) (λ r. IsQuiet (record { line = line; reply = r }))
 export_quiet line None = tt
 export_quiet line (Some p) = record { group = refl; tally = λ groups key. refl }
 

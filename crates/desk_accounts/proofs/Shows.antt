@@ -16,7 +16,7 @@ use Rattle.desk_events.specs.declared.refusal.Refusal.{Refusal}
 use Rattle.desk_events.specs.declared.refusal.Refusal.TheVariants.{AlreadyOpened}
 use Rattle.desk_events.specs.declared.reply.Reply.{Reply}
 use Rattle.desk_events.specs.declared.reply.Reply.TheVariants as reply
-use Rattle.desk_core.specs.declared.desk.Publication.{Publication}
+use Rattle.desk_core.specs.Publication.{PublicationSeen}
 use Rattle.desk_core.specs.declared.desk.Submitted.{Submitted}
 use Rattle.desk_core.specs.declared.desk.Wanted.{Wanted}
 use Rattle.desk_core.specs.Asking.{MadeSeen, made_of}
@@ -72,7 +72,7 @@ report_shows o c after d number percent used None = tt
 report_shows o c after d number percent used (Some p) =
     tests_show o c after d number used p (is_placed d.progress.running number) (nat_lt p.1.0.seconds used) (nat_le p.1.1.threshold percent)
 
-export_shows : (o : Option DeskSeen) (c : Command) (s : StateSeen) (p : Option Publication) → (let now : Stepped = told s (on_export p) in Shows o c now.state now.reply)
+export_shows : (o : Option DeskSeen) (c : Command) (s : StateSeen) (p : Option PublicationSeen) → (let now : Stepped = told s (on_export p) in Shows o c now.state now.reply)
 export_shows o c s None = tt
 export_shows o c s (Some p) = tt
 

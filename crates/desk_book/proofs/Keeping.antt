@@ -174,12 +174,15 @@ line_entry caller n s reply = record { caller = caller; line = n + 1; what = Lin
 -- the claim of a step is sent and not planned
 sent_claims : (scripts : List (List ScriptLine)) (h : List EventEntry) (s : StateSeen) (caller n : ℕ) (reply : Reply) → replay scripts h ≡ s → IsBoundedReply s reply
     → IsClaimEntry scripts h (line_entry caller n s reply)
-sent_claims scripts h s caller n reply left bounded claim e =
-    let known = bounded claim e in (
-      known.0,
-      record { reply = e; snapshot = subst (λ (t : StateSeen). IsSnapshotOf t known.0) (sym left) known.1 },
-      record { bounded = known.2; planned = λ planned. cc },
-    )
+sent_claims scripts h s caller n reply left bounded = record {
+  published = λ claim e.
+      let known = bounded.published claim e in (
+        known.0,
+        record { reply = e; snapshot = subst (λ (t : StateSeen). IsSnapshotOf t known.0) (sym left) known.1 },
+        record { bounded = known.2; planned = λ planned. cc },
+      );
+  exported = bounded.exported;
+}
 
 pub kept_step : (scripts : List (List ScriptLine)) (h : List EventEntry) (s t : StateSeen) (takes : List (Option TakenParts)) (caller n : ℕ) (read : Result Command CommandFault) (reply : Reply)
     → IsKept scripts h s takes
@@ -209,22 +212,25 @@ kept_take scripts h s takes caller n read taken k low says asks is named =
     kept_more scripts h s s takes (slice_set takes caller (Some taken)) (take_entry caller n s) k refl
     (subst (λ (u : StateSeen). IsTake u (said (script_of scripts caller) (n + 1 - 1))) (sym k.left) here)
     refl
-    (λ claim e. cc)
+    (record { published = λ claim e. cc; exported = λ claim parts e. cc })
     (opens_take scripts h s takes (take_entry caller n s) taken k.left refl named is low k.opens)
 
 -- a Publish
 abbrev pub publish_entry : ℕ → ℕ → StateSeen → Reply → EventEntry
 publish_entry caller n s reply = record { caller = caller; line = n + 1; what = Publish; version = s.version; reply = reply }
 
-planned_claims : (scripts : List (List ScriptLine)) (h : List EventEntry) (s : StateSeen) (caller n : ℕ) (reply : Reply) → replay scripts h ≡ s
+planned_claims : (scripts : List (List ScriptLine)) (h : List EventEntry) (s : StateSeen) (caller n v : ℕ) (reply : Reply) → replay scripts h ≡ s → IsPublication s v reply
     → ((claim : Claim) → reply ≡ Published claim → IsDeskClaim s claim)
     → IsClaimEntry scripts h (publish_entry caller n s reply)
-planned_claims scripts h s caller n reply left known claim e =
-    let d : IsDeskClaim s claim = known claim e in (
-      d.parts,
-      record { reply = e; snapshot = subst (λ (t : StateSeen). IsSnapshotOf t d.parts) (sym left) d.snapshot },
-      subst (λ (t : StateSeen). IsPublishedClaim Publish t d.parts claim) (sym left) (record { bounded = d.bounded; planned = λ _. d.planned }),
-    )
+planned_claims scripts h s caller n v reply left publication known = record {
+  published = λ claim e.
+      let d : IsDeskClaim s claim = known claim e in (
+        d.parts,
+        record { reply = e; snapshot = subst (λ (t : StateSeen). IsSnapshotOf t d.parts) (sym left) d.snapshot },
+        subst (λ (t : StateSeen). IsPublishedClaim Publish t d.parts claim) (sym left) (record { bounded = d.bounded; planned = λ _. d.planned }),
+      );
+  exported = λ claim parts e. absurd (subst (IsPublication s v) e publication);
+}
 
 pub kept_publish : (scripts : List (List ScriptLine)) (h : List EventEntry) (s : StateSeen) (takes : List (Option TakenParts)) (caller n : ℕ) (taken : TakenParts) (reply : Reply)
     → IsKept scripts h s takes
@@ -234,5 +240,5 @@ kept_publish scripts h s takes caller n taken reply k low is publication known =
     kept_more scripts h s (after_publish s reply) takes (slice_set takes caller None) (publish_entry caller n s reply) k refl
     (taken.snapshot.version, has_taken scripts h caller taken k.each (k.opens caller taken is), subst (λ (u : StateSeen). IsPublication u taken.snapshot.version reply) (sym k.left) publication)
     refl
-    (planned_claims scripts h s caller n reply k.left known)
+    (planned_claims scripts h s caller n taken.snapshot.version reply k.left publication known)
     (opens_publish scripts h takes (publish_entry caller n s reply) low k.opens)

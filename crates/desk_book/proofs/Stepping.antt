@@ -1,4 +1,4 @@
--- What a step leaves, and when it publishes a claim.
+-- What a step leaves, and which claim it tells.
 use Rattle.std.proofs.Common.{◌≡◌, ◌∙◌, ℕ, ◌+◌, ◌≤◌, Bool, true, false, not, cond, ◌==◌, nat_lt, nat_le, refl, ap, sym, subst, Option, Some, None, Result, Ok, Err}
 use Rattle.std.proofs.Common.{IfSome, pos, ◌≤ℤ◌, List, arith}
 use Rattle.std.proofs.lemmas.Bool.{eqb-true}
@@ -33,17 +33,17 @@ use Rattle.desk_core.specs.Registering.{times, on_instrument, on_telescope, on_n
 use Rattle.desk_core.specs.Submitting.{on_submit, on_made}
 use Rattle.desk_core.specs.Closing.{on_withdraw, on_amend}
 use Rattle.desk_core.specs.Timing.{on_clock, on_report, on_reported, on_refused, on_completed, on_failed}
+use Rattle.desk_core.specs.Publication.{PublicationSeen, IsCheckable}
 use Rattle.desk_core.specs.Publishing.{with_publication, rejection}
 use Rattle.desk_core.specs.Showing.{on_export, on_balances, on_show, shown_group}
 use Rattle.desk_core.specs.Refusals.{refusal_in}
-use Rattle.desk_core.specs.declared.desk.Publication.{Publication}
 use Rattle.desk_runs.specs.declared.group.Group.{Group}
 use Rattle.desk_runs.specs.Numbers.{is_placed}
 use Rattle.desk_core.specs.Timing.{request_with}
 use Rattle.desk_core.specs.Step.{step_by, step_unopened, IsAsked, IsStep, IsSnapshotOf, opened}
 use Rattle.desk_core.specs.History.{IsPlanning, verdict_told, left_by, after_line}
 use Rattle.desk_core.proofs.Publications.{certified_by}
-use Rattle.desk_book.specs.Claims.{IsBoundedClaim, IsBoundedReply}
+use Rattle.desk_book.specs.Claims.{IsBoundedClaim}
 use Rattle.desk_book.specs.Doing.{IsStepDone}
 
 -- ---- the verdict that a reply tells
@@ -89,12 +89,13 @@ told_by v s (Some d) (command.Show group) stepped h = h
 pub step_left : (s : StateSeen) (c : Command) (stepped : Stepped) → IsStep s c stepped → after_line s (Ok c) stepped.reply ≡ stepped.state
 step_left s c stepped h = ap (left_by s) (told_by h.0 s s.desk c stepped h.2)
 
--- ---- which step publishes
+-- ---- which step tells a claim
 
--- whether a reply publishes a claim
-abbrev publishes : Reply → Bool
-publishes (reply.Published claim) = true
-publishes _ = false
+-- the claim that a reply publishes, or exports with its snapshot
+abbrev claim_in : Reply → Option (Claim × Option Parts)
+claim_in (reply.Published claim) = Some (claim, None)
+claim_in (reply.Exported claim snapshot) = Some (claim, Some snapshot)
+claim_in _ = None
 
 -- a command is that of a claim for the current version
 abbrev IsCurrent : Verdict → StateSeen → Option DeskSeen → Command → Claim → Stepped → Type 0
@@ -102,48 +103,55 @@ IsCurrent v s o c claim stepped =
     (d : DeskSeen) × (o ≡ Some d) × ((asked : ℕ) × (c ≡ command.Publish asked claim) × (asked ≡ s.version) × (rejection v ≡ None))
     × (stepped.state ≡ opened (s.version + 1) (with_publication s.version claim d))
 
-decided_publishes : (s : StateSeen) (refusal : Option Refusal) (r : Reply) (e : DeskSeen) → publishes r ≡ false → publishes (decided s record { refusal = refusal; reply = r; desk = e }).reply ≡ false
-decided_publishes s None r e h = h
-decided_publishes s (Some refusal) r e h = refl
+-- a claim and its snapshot are the last publication
+abbrev IsLast : StateSeen → Option DeskSeen → Claim → Parts → Stepped → Type 0
+IsLast s o claim parts stepped = (d : DeskSeen) × (o ≡ Some d) × (d.published ≡ Some record { snapshot = parts; claim = claim }) × (stepped.state ≡ s)
 
--- no other step does
-other : {X : Type 0} (now stepped : Stepped) (claim : Claim) → publishes now.reply ≡ false → Some now ≡ Some stepped → stepped.reply ≡ reply.Published claim → X
-other now stepped claim plain is e =
-    let same : now ≡ stepped = same_Some now stepped is in
-    let yes : publishes now.reply ≡ true = ap publishes (ap (λ (x : Stepped). x.reply) same ∙ e) in
-    let clash : true ≡ false = sym yes ∙ plain in
+-- where a claim comes from
+abbrev Comes : Verdict → StateSeen → Option DeskSeen → Command → Stepped → Claim × Option Parts → Type 0
+Comes v s o c stepped (claim, None) = IsCurrent v s o c claim stepped
+Comes v s o c stepped (claim, Some parts) = IsLast s o claim parts stepped
+
+decided_plain : (s : StateSeen) (refusal : Option Refusal) (r : Reply) (e : DeskSeen) → claim_in r ≡ None → claim_in (decided s record { refusal = refusal; reply = r; desk = e }).reply ≡ None
+decided_plain s None r e h = h
+decided_plain s (Some refusal) r e h = refl
+
+-- the claim that a step tells
+told_claim : (now stepped : Stepped) (x : Claim × Option Parts) → Some now ≡ Some stepped → claim_in stepped.reply ≡ Some x → claim_in now.reply ≡ Some x
+told_claim now stepped x is e = ap (λ (y : Stepped). claim_in y.reply) (same_Some now stepped is) ∙ e
+
+-- no other step tells one
+other : {X : Type 0} (now stepped : Stepped) (x : Claim × Option Parts) → claim_in now.reply ≡ None → Some now ≡ Some stepped → claim_in stepped.reply ≡ Some x → X
+other now stepped x plain is e =
+    let clash : ◌≡◌ {A = Option (Claim × Option Parts)} None (Some x) = sym plain ∙ told_claim now stepped x is e in
     absurd (cc)
 
-by_decision : {X : Type 0} (s : StateSeen) (decision : Decision) (stepped : Stepped) (claim : Claim) → publishes decision.reply ≡ false → Some (decided s decision) ≡ Some stepped
-    → stepped.reply ≡ reply.Published claim → X
-by_decision s decision stepped claim plain is e = other (decided s decision) stepped claim (decided_publishes s decision.refusal decision.reply decision.desk plain) is e
+by_decision : {X : Type 0} (s : StateSeen) (decision : Decision) (stepped : Stepped) (x : Claim × Option Parts) → claim_in decision.reply ≡ None → Some (decided s decision) ≡ Some stepped
+    → claim_in stepped.reply ≡ Some x → X
+by_decision s decision stepped x plain is e = other (decided s decision) stepped x (decided_plain s decision.refusal decision.reply decision.desk plain) is e
 
-made_plain : (d : DeskSeen) (document : GroupDoc) (r : Result (List MadeSeen) Refusal) → publishes (on_made d document r).reply ≡ false
+made_plain : (d : DeskSeen) (document : GroupDoc) (r : Result (List MadeSeen) Refusal) → claim_in (on_made d document r).reply ≡ None
 made_plain d document (Ok made) = refl
 made_plain d document (Err refusal) = refl
 
 reported_by : (d : DeskSeen) (request : RequestNo) (percent used : ℕ) (p : Submitted × (Request × Wanted)) (a b c : Bool)
-    → publishes
+    → claim_in
     (cond (not a) (on_refused d request NotRunning) (cond b (on_refused d request (UsedTooLong p.1.0.seconds used)) (cond c (on_completed d request used p.0 p.1.1) (on_failed d request)))).reply
-    ≡ false
+    ≡ None
 reported_by d request percent used p false b c = refl
 reported_by d request percent used p true true c = refl
 reported_by d request percent used p true false true = refl
 reported_by d request percent used p true false false = refl
 
-reported_plain : (d : DeskSeen) (request : RequestNo) (percent used : ℕ) (o : Option (Submitted × (Request × Wanted))) → publishes (on_reported d request percent used o).reply ≡ false
+reported_plain : (d : DeskSeen) (request : RequestNo) (percent used : ℕ) (o : Option (Submitted × (Request × Wanted))) → claim_in (on_reported d request percent used o).reply ≡ None
 reported_plain d request percent used None = refl
 reported_plain d request percent used (Some p) = reported_by d request percent used p (is_placed d.progress.running request) (nat_lt p.1.0.seconds used) (nat_le p.1.1.threshold percent)
 
-export_plain : (s : StateSeen) (o : Option Publication) → publishes (told s (on_export o)).reply ≡ false
-export_plain s None = refl
-export_plain s (Some p) = refl
-
-shown_plain : (s : StateSeen) (o : Option (Submitted × Group)) → publishes (told s (shown_group o)).reply ≡ false
+shown_plain : (s : StateSeen) (o : Option (Submitted × Group)) → claim_in (told s (shown_group o)).reply ≡ None
 shown_plain s None = refl
 shown_plain s (Some p) = refl
 
-unopened_plain : (s : StateSeen) (c : Command) → publishes (step_unopened s c).reply ≡ false
+unopened_plain : (s : StateSeen) (c : Command) → claim_in (step_unopened s c).reply ≡ None
 unopened_plain s (command.Open now slice horizon semester lanes rounds workers quota) = refl
 unopened_plain s (command.Instrument name front config readout change) = refl
 unopened_plain s (command.Telescope site enclosure telescope class instruments) = refl
@@ -163,43 +171,50 @@ unopened_plain s command.Export = refl
 unopened_plain s command.Balances = refl
 unopened_plain s (command.Show group) = refl
 
-publish_is : (s : StateSeen) (d : DeskSeen) (b : Bool) (v : Verdict) (asked : ℕ) (sent claim : Claim) (stepped : Stepped) → (asked == s.version) ≡ b
+publish_is : (s : StateSeen) (d : DeskSeen) (b : Bool) (v : Verdict) (asked : ℕ) (sent : Claim) (stepped : Stepped) (x : Claim × Option Parts) → (asked == s.version) ≡ b
     → Some (decided s record { refusal = cond b (rejection v) (Some (Stale asked s.version)); reply = reply.Published sent; desk = with_publication s.version sent d }) ≡ Some stepped
-    → stepped.reply ≡ reply.Published claim → IsCurrent v s (Some d) (command.Publish asked sent) claim stepped
-publish_is s d false v asked sent claim stepped at h e = other (refused s (Stale asked s.version)) stepped claim refl h e
-publish_is s d true (No reason) asked sent claim stepped at h e = other (refused s (Rejected reason)) stepped claim refl h e
-publish_is s d true (Yes value bound) asked sent claim stepped at h e =
-    let same = same_Some _ stepped h in
-    let replied : reply.Published sent ≡ reply.Published claim = ap (λ (x : Stepped). x.reply) same ∙ e in
-    let one : sent ≡ claim = cc in
-    let left : stepped.state ≡ opened (s.version + 1) (with_publication s.version sent d) = sym (ap (λ (x : Stepped). x.state) same) in
-    (d, refl, (asked, ap (command.Publish asked) one, eqb-true asked s.version at, refl), left ∙ ap (λ (c : Claim). opened (s.version + 1) (with_publication s.version c d)) one)
+    → claim_in stepped.reply ≡ Some x → Comes v s (Some d) (command.Publish asked sent) stepped x
+publish_is s d false v asked sent stepped x at h e = other (refused s (Stale asked s.version)) stepped x refl h e
+publish_is s d true (No reason) asked sent stepped x at h e = other (refused s (Rejected reason)) stepped x refl h e
+publish_is s d true (Yes value bound) asked sent stepped x at h e =
+    let one : (sent, None) ≡ x = same_Some (sent, None) x (told_claim _ stepped x h e) in
+    let left : stepped.state ≡ opened (s.version + 1) (with_publication s.version sent d) = sym (ap (λ (y : Stepped). y.state) (same_Some _ stepped h)) in
+    subst (Comes (Yes value bound) s (Some d) (command.Publish asked sent) stepped) one (d, refl, (asked, refl, eqb-true asked s.version at, refl), left)
 
-current : (v : Verdict) (s : StateSeen) (o : Option DeskSeen) (c : Command) (claim : Claim) (stepped : Stepped) → step_by v s o c ≡ Some stepped → stepped.reply ≡ reply.Published claim
-    → IsCurrent v s o c claim stepped
-current v s None c claim stepped h e = other (step_unopened s c) stepped claim (unopened_plain s c) h e
-current v s (Some d) (command.Open now slice horizon semester lanes rounds workers quota) claim stepped h e = other (refused s AlreadyOpened) stepped claim refl h e
-current v s (Some d) (command.Instrument name front config readout change) claim stepped h e = by_decision s (on_instrument d name (times front config readout change)) stepped claim refl h e
-current v s (Some d) (command.Telescope site enclosure telescope class instruments) claim stepped h e =
-    by_decision s (on_telescope d record { site = site; enclosure = enclosure; telescope = telescope } class instruments) stepped claim refl h e
-current v s (Some d) (command.Night site spans) claim stepped h e = by_decision s (on_night d site spans) stepped claim refl h e
-current v s (Some d) (command.Visibility target site spans) claim stepped h e = by_decision s (on_visibility d target site spans) stepped claim refl h e
-current v s (Some d) (command.Close scope spans) claim stepped h e = by_decision s (on_closure d Close scope spans reply.Closed) stepped claim refl h e
-current v s (Some d) (command.Reopen scope spans) claim stepped h e = by_decision s (on_closure d Reopen scope spans reply.Reopened) stepped claim refl h e
-current v s (Some d) (command.Grant key seconds) claim stepped h e = by_decision s (on_grant d key seconds) stepped claim refl h e
-current v s (Some d) (command.Submit document) claim stepped h e = by_decision s (on_submit d document) stepped claim (made_plain d document (made_of d document)) h e
-current v s (Some d) (command.Amend old document) claim stepped h e = by_decision s (on_amend d old document) stepped claim refl h e
-current v s (Some d) (command.Withdraw group) claim stepped h e = by_decision s (on_withdraw d group) stepped claim refl h e
-current v s (Some d) (command.Clock at) claim stepped h e = by_decision s (on_clock d at) stepped claim refl h e
-current v s (Some d) (command.Report request percent used) claim stepped h e =
-    by_decision s (on_report d request percent used) stepped claim (reported_plain d request percent used (request_with d request)) h e
-current v s (Some d) command.Plan claim stepped h e = absurd (cc)
-current v s (Some d) (command.Publish asked sent) claim stepped h e = publish_is s d (asked == s.version) v asked sent claim stepped refl h e
-current v s (Some d) command.Export claim stepped h e = other (told s (on_export d.published)) stepped claim (export_plain s d.published) h e
-current v s (Some d) command.Balances claim stepped h e = other (told s (on_balances d.books)) stepped claim refl h e
-current v s (Some d) (command.Show group) claim stepped h e = other (told s (on_show d group)) stepped claim (shown_plain s _) h e
+export_is : (v : Verdict) (s : StateSeen) (d : DeskSeen) (o : Option PublicationSeen) (stepped : Stepped) (x : Claim × Option Parts) → d.published ≡ o → Some (told s (on_export o)) ≡ Some stepped
+    → claim_in stepped.reply ≡ Some x → Comes v s (Some d) command.Export stepped x
+export_is v s d None stepped x last h e = other (told s (on_export None)) stepped x refl h e
+export_is v s d (Some p) stepped x last h e =
+    let one : (p.claim, Some p.snapshot) ≡ x = same_Some (p.claim, Some p.snapshot) x (told_claim _ stepped x h e) in
+    let left : stepped.state ≡ s = sym (ap (λ (y : Stepped). y.state) (same_Some _ stepped h)) in
+    subst (Comes v s (Some d) command.Export stepped) one (d, refl, last, left)
 
--- ---- the claim that a step publishes
+-- where the claim of a step comes from
+comes : (v : Verdict) (s : StateSeen) (o : Option DeskSeen) (c : Command) (stepped : Stepped) (x : Claim × Option Parts) → step_by v s o c ≡ Some stepped → claim_in stepped.reply ≡ Some x
+    → Comes v s o c stepped x
+comes v s None c stepped x h e = other (step_unopened s c) stepped x (unopened_plain s c) h e
+comes v s (Some d) (command.Open now slice horizon semester lanes rounds workers quota) stepped x h e = other (refused s AlreadyOpened) stepped x refl h e
+comes v s (Some d) (command.Instrument name front config readout change) stepped x h e = by_decision s (on_instrument d name (times front config readout change)) stepped x refl h e
+comes v s (Some d) (command.Telescope site enclosure telescope class instruments) stepped x h e =
+    by_decision s (on_telescope d record { site = site; enclosure = enclosure; telescope = telescope } class instruments) stepped x refl h e
+comes v s (Some d) (command.Night site spans) stepped x h e = by_decision s (on_night d site spans) stepped x refl h e
+comes v s (Some d) (command.Visibility target site spans) stepped x h e = by_decision s (on_visibility d target site spans) stepped x refl h e
+comes v s (Some d) (command.Close scope spans) stepped x h e = by_decision s (on_closure d Close scope spans reply.Closed) stepped x refl h e
+comes v s (Some d) (command.Reopen scope spans) stepped x h e = by_decision s (on_closure d Reopen scope spans reply.Reopened) stepped x refl h e
+comes v s (Some d) (command.Grant key seconds) stepped x h e = by_decision s (on_grant d key seconds) stepped x refl h e
+comes v s (Some d) (command.Submit document) stepped x h e = by_decision s (on_submit d document) stepped x (made_plain d document (made_of d document)) h e
+comes v s (Some d) (command.Amend old document) stepped x h e = by_decision s (on_amend d old document) stepped x refl h e
+comes v s (Some d) (command.Withdraw group) stepped x h e = by_decision s (on_withdraw d group) stepped x refl h e
+comes v s (Some d) (command.Clock at) stepped x h e = by_decision s (on_clock d at) stepped x refl h e
+comes v s (Some d) (command.Report request percent used) stepped x h e =
+    by_decision s (on_report d request percent used) stepped x (reported_plain d request percent used (request_with d request)) h e
+comes v s (Some d) command.Plan stepped x h e = absurd (cc)
+comes v s (Some d) (command.Publish asked sent) stepped x h e = publish_is s d (asked == s.version) v asked sent stepped x refl h e
+comes v s (Some d) command.Export stepped x h e = export_is v s d d.published stepped x refl h e
+comes v s (Some d) command.Balances stepped x h e = other (told s (on_balances d.books)) stepped x refl h e
+comes v s (Some d) (command.Show group) stepped x h e = other (told s (on_show d group)) stepped x (shown_plain s _) h e
+
+-- ---- the claim that a step tells
 
 greatest : (parts : Parts) (claim : Claim) → IsOrderly parts → IsCertified parts claim → (plan : List Placement) → IsFeasible parts plan → value_of_plan parts plan ≤ claim.bound
 greatest parts claim o c plan f =
@@ -210,27 +225,35 @@ greatest parts claim o c plan f =
 pub bounded_claim : (parts : Parts) (claim : Claim) → IsOrderly parts → IsCertified parts claim → IsBoundedClaim parts claim
 bounded_claim parts claim o c = record { certified = c; given = c.bound; greatest = greatest parts claim o c }
 
--- the snapshot of the last publication is in order
-abbrev pub IsPublishedInOrder : StateSeen → Type 0
-IsPublishedInOrder t = IfSome t.desk (λ d. IfSome d.published (λ p. IsOrderly p.snapshot))
+-- what is known of the last publication: its snapshot is in order, and its document is checked with Yes
+abbrev pub IsPublishedRight : StateSeen → Type 0
+IsPublishedRight t = IfSome t.desk (λ d. IfSome d.published (λ p. IsOrderly p.snapshot × IsCheckable p.snapshot p.claim))
 
-bounded_step : (s t : StateSeen) (c : Command) (r : Reply) → IsStep s c record { reply = r; state = t } → IsPublishedInOrder t → IsBoundedReply s r
-bounded_step s t c r h o claim e =
-    let now = current h.0 s s.desk c claim record { reply = r; state = t } h.2 e in
+published_bounded : (s t : StateSeen) (c : Command) (r : Reply) → IsStep s c record { reply = r; state = t } → IsPublishedRight t → (claim : Claim) → r ≡ reply.Published claim
+    → (parts : Parts) × IsSnapshotOf s parts × IsBoundedClaim parts claim
+published_bounded s t c r h o claim e =
+    let now = comes h.0 s s.desk c record { reply = r; state = t } (claim, None) h.2 (ap claim_in e) in
     let d = now.0 in
     let asked = now.2.0 in
     let verdict : asked ≡ s.version → (parts : Parts) → IsSnapshotOf s parts → IsVerdict parts claim h.0 = subst (λ (k : Command). IsAsked s k h.0) now.2.1 h.1 in
     let judged : IsVerdict (snapshot_of s.version d) claim h.0 = verdict now.2.2 (snapshot_of s.version d) (d, now.1, refl) in
     let certified = certified_by s.version d claim h.0 judged now.2.3 in
-    let order : IsOrderly (snapshot_of s.version d) = subst IsPublishedInOrder now.3 o in
+    let order : IsOrderly (snapshot_of s.version d) = (subst IsPublishedRight now.3 o).0 in
     (snapshot_of s.version d, (d, now.1, refl), bounded_claim (snapshot_of s.version d) claim order certified)
 
+exported_right : (s t : StateSeen) (c : Command) (r : Reply) → IsStep s c record { reply = r; state = t } → IsPublishedRight t → (claim : Claim) (parts : Parts)
+    → r ≡ reply.Exported claim parts → IsCheckable parts claim
+exported_right s t c r h o claim parts e =
+    let now = comes h.0 s s.desk c record { reply = r; state = t } (claim, Some parts) h.2 (ap claim_in e) in
+    let there = subst (λ (desk : Option DeskSeen). IfSome desk (λ d. IfSome d.published (λ p. IsOrderly p.snapshot × IsCheckable p.snapshot p.claim))) now.1 (subst IsPublishedRight now.3 o) in
+    (subst (λ (last : Option PublicationSeen). IfSome last (λ p. IsOrderly p.snapshot × IsCheckable p.snapshot p.claim)) now.2 there).1
+
 -- a step that was made
-pub step_done : (s t : StateSeen) (c : Command) (r : Reply) → ¬ (IsPlanning s (Ok c)) → IsStep s c record { reply = r; state = t } → IsPublishedInOrder t → IsStepDone s (Ok c) r t
+pub step_done : (s t : StateSeen) (c : Command) (r : Reply) → ¬ (IsPlanning s (Ok c)) → IsStep s c record { reply = r; state = t } → IsPublishedRight t → IsStepDone s (Ok c) r t
 step_done s t c r differs h o = record {
   differs = differs;
   replied = (record { reply = r; state = t }, h, refl);
-  bounded = bounded_step s t c r h o;
+  bounded = record { published = published_bounded s t c r h o; exported = exported_right s t c r h o };
   left = sym (step_left s c record { reply = r; state = t } h);
 }
 
@@ -239,6 +262,6 @@ pub fault_done : (s : StateSeen) (f : CommandFault) (r : Refusal) → refusal_in
 fault_done s f r is = record {
   differs = λ asks. absurd (cc);
   replied = (r, is, refl);
-  bounded = λ claim e. absurd (cc);
+  bounded = record { published = λ claim e. absurd (cc); exported = λ claim parts e. absurd (cc) };
   left = refl;
 }

@@ -21,7 +21,7 @@ use Rattle.desk_events.specs.declared.refusal.Refusal.{Refusal}
 use Rattle.desk_events.specs.declared.refusal.Refusal.TheVariants.{NotRunning, UsedTooLong}
 use Rattle.desk_events.specs.declared.reply.Reply.{Reply}
 use Rattle.desk_events.specs.declared.reply.Reply.TheVariants as reply
-use Rattle.desk_core.specs.declared.desk.Publication.{Publication}
+use Rattle.desk_core.specs.Publication.{PublicationSeen}
 use Rattle.desk_core.specs.declared.desk.Submitted.{Submitted}
 use Rattle.desk_core.specs.declared.desk.Wanted.{Wanted}
 use Rattle.desk_core.specs.Asking.{MadeSeen, made_of}
@@ -76,7 +76,7 @@ reported_change : (d : DeskSeen) (request : RequestNo) (percent used : ℕ) (o :
 reported_change d request percent used None = refl
 reported_change d request percent used (Some p) = reported_by d request percent used p (is_placed d.progress.running request) (nat_lt p.1.0.seconds used) (nat_le p.1.1.threshold percent)
 
-export_counts : (s : StateSeen) (o : Option Publication) → Counts s (Some (told s (on_export o)))
+export_counts : (s : StateSeen) (o : Option PublicationSeen) → Counts s (Some (told s (on_export o)))
 export_counts s None = omega arith
 export_counts s (Some p) = omega arith
 

@@ -14,8 +14,9 @@ use Rattle.desk_events.specs.declared.entry.EventEntry.{EventEntry}
 use Rattle.desk_events.specs.declared.entry.What.{What}
 use Rattle.desk_events.specs.declared.entry.What.TheVariants.{Publish}
 use Rattle.desk_events.specs.declared.reply.Reply.{Reply}
-use Rattle.desk_events.specs.declared.reply.Reply.TheVariants.{Published}
+use Rattle.desk_events.specs.declared.reply.Reply.TheVariants.{Published, Exported}
 use Rattle.desk_core.specs.Desk.{DeskSeen, StateSeen}
+use Rattle.desk_core.specs.Publication.{IsCheckable}
 use Rattle.desk_core.specs.Step.{IsSnapshotOf}
 use Rattle.desk_core.specs.History.{replay, Publishes}
 
@@ -34,10 +35,11 @@ pub record IsPublishedClaim (what : What) (s : StateSeen) (parts : Parts) (claim
   pub bounded : IsBoundedClaim parts claim
   pub planned : what ≡ Publish → IsPlannedOver s parts claim
 
--- a claim that is published over the state is bounded, for the snapshot of the state
-abbrev pub IsBoundedReply : StateSeen → Reply → Type 0
-IsBoundedReply s reply =
-    (claim : Claim) → reply ≡ Published claim → (parts : Parts) × IsSnapshotOf s parts × IsBoundedClaim parts claim
+-- a claim that the reply publishes over the state is bounded, for the snapshot of the state, and the document of one that it
+-- exports is checked with Yes
+pub record IsBoundedReply (s : StateSeen) (reply : Reply) : Type 0 where
+  pub published : (claim : Claim) → reply ≡ Published claim → (parts : Parts) × IsSnapshotOf s parts × IsBoundedClaim parts claim
+  pub exported : (claim : Claim) (parts : Parts) → reply ≡ Exported claim parts → IsCheckable parts claim
 
 -- the claim that a plan publishes over this state
 pub record IsDeskClaim (s : StateSeen) (claim : Claim) : Type 0 where
@@ -47,9 +49,9 @@ pub record IsDeskClaim (s : StateSeen) (claim : Claim) : Type 0 where
   pub bounded : IsBoundedClaim parts claim
   pub planned : IsPlannedOver s parts claim
 
--- the claim that an entry publishes after these entries, if it does, is bounded for the snapshot of the entry's version, and
--- planned where a `plan` line asked for it
-abbrev pub IsClaimEntry : List (List ScriptLine) → List EventEntry → EventEntry → Type 0
-IsClaimEntry scripts before e =
-    (claim : Claim) → e.reply ≡ Published claim
-    → (parts : Parts) × Publishes scripts before e parts claim × IsPublishedClaim e.what (replay scripts before) parts claim
+-- The claim that an entry publishes after these entries, if it does, is bounded for the snapshot of the entry's version, and
+-- planned where a `plan` line asked for it. The document of one that it exports is checked with Yes.
+pub record IsClaimEntry (scripts : List (List ScriptLine)) (before : List EventEntry) (e : EventEntry) : Type 0 where
+  pub published : (claim : Claim) → e.reply ≡ Published claim
+      → (parts : Parts) × Publishes scripts before e parts claim × IsPublishedClaim e.what (replay scripts before) parts claim
+  pub exported : (claim : Claim) (parts : Parts) → e.reply ≡ Exported claim parts → IsCheckable parts claim

@@ -28,6 +28,7 @@ pub mod Along
 pub mod ToldAlong
 pub mod WentOn
 pub mod SnapshotListing
+pub mod SnapshotRanges
 pub mod SnapshotParts
 pub mod Submissions
 pub mod Amendments

@@ -67,7 +67,7 @@ each_request d h P each =
     (λ p along. All-map P (request_part d) (waiting_of d p) (All-weaker (IsMember (target_count d)) (λ m. P (request_part d m)) each (waiting_of d p) (members d p along)))
     (listed_groups d) (listed_along d h)))
 
-all_from_map : {X Y : Type 0} (P : Y → Type 0) (f : X → Y) (xs : List X) → All P (map f xs) → All (λ x. P (f x)) xs
+pub all_from_map : {X Y : Type 0} (P : Y → Type 0) (f : X → Y) (xs : List X) → All P (map f xs) → All (λ x. P (f x)) xs
 all_from_map P f [] h = All-nil (λ x. P (f x))
 all_from_map P f (x ∷ xs) h = All-cons (λ y. P (f y)) x xs (All-head P (f x) (map f xs) h) (all_from_map P f xs (All-tail P (f x) (map f xs) h))
 

@@ -27,7 +27,7 @@ use Rattle.desk_core.specs.declared.desk.Submitted.{Submitted}
 use Rattle.desk_core.specs.Desk.{DeskSeen}
 use Rattle.desk_core.specs.Kept.{IsDesk}
 use Rattle.desk_core.specs.DeskSnapshot.{in_horizon, waiting_of, listed_groups, proposals_of, quota_place, quotas_of, group_part, targets_listed, sky_part}
-use Rattle.desk_core.specs.DeskSnapshot.{skies_at, skies_of, IsSmall}
+use Rattle.desk_core.specs.DeskSnapshot.{skies_at, skies_of, HasFew}
 use Rattle.plan_base.proofs.Lists.{all_flat}
 use Rattle.desk_core.proofs.SnapshotLists.{Rise, rise_all, all_inserted, range_below, range_rises, pairs_append, length_flat, length_some, all_some}
 use Rattle.desk_core.proofs.SnapshotLists.{pairs_some, less_each}
@@ -48,8 +48,8 @@ targets_known d h =
 pub targets_rise : (d : DeskSeen) → Rise (targets_listed d)
 targets_rise d = rise_all (map (λ t. t.0) (flat_map (λ p. flat_map (λ m. m.1.targets) (waiting_of d p)) (listed_groups d))) [] (λ i j e l m. absurd (omega arith))
 
-pub targets_few : (d : DeskSeen) → IsDesk d → IsSmall d.network → length (targets_listed d) ≤ 2048
-targets_few d h small = omega (arith, length_below (targets_listed d) (target_count d) (λ i j e l m same. omega (arith, same, targets_rise d i j e l m)) (targets_known d h), small.targets)
+pub targets_few : (d : DeskSeen) → IsDesk d → HasFew d.network → length (targets_listed d) ≤ 2048
+targets_few d h few = omega (arith, length_below (targets_listed d) (target_count d) (λ i j e l m same. omega (arith, same, targets_rise d i j e l m)) (targets_known d h), few.targets)
 
 -- ---- the skies
 
@@ -113,16 +113,16 @@ skies_sorted d =
     (λ y is. rw is.spans_are (seconds_in d (has (sky_of d.network.calendar.skies (key_of y)))).sorted) (skies_of d) (all_skies d)
 
 -- there are at most 32,768 skies ..
-pub skies_few : (d : DeskSeen) → IsDesk d → IsSmall d.network → length (skies_of d) ≤ 32768
-skies_few d h small =
+pub skies_few : (d : DeskSeen) → IsDesk d → HasFew d.network → length (skies_of d) ≤ 32768
+skies_few d h few =
     let each : sum_by (λ t. length (skies_at d t)) (targets_listed d) ≤ length (targets_listed d) * 16
     = sum_by-le (λ t. length (skies_at d t)) 16 (targets_listed d) (λ k e lt. omega (
       arith,
       length_some (sky_part d (get_or (targets_listed d) k e)) (range_with_len 0 (length d.network.registry.sites)),
       length-range_with_len 0 (length d.network.registry.sites),
-      small.sites,
+      few.sites,
     ))
-    in omega (arith, length_flat (skies_at d) (targets_listed d), each, targets_few d h small)
+    in omega (arith, length_flat (skies_at d) (targets_listed d), each, targets_few d h few)
 
 spans_counted : (d : DeskSeen) → IsWithinLimits d.network.calendar → sum_by (λ y. length y.spans) (skies_of d) ≤ 262144
 spans_counted d within =
@@ -138,7 +138,7 @@ spans_counted d within =
     in omega (arith, sum_map (λ key. length (sky_of skies key)) key_of (skies_of d), counted, less, within.visibility)
 
 -- a sky is of a target and a site that have numbers
-skies_known : (d : DeskSeen) → IsDesk d → All (λ y. (y.target.0 < target_count d) × (y.site.0 < length d.network.registry.sites)) (skies_of d)
+pub skies_known : (d : DeskSeen) → IsDesk d → All (λ y. (y.target.0 < target_count d) × (y.site.0 < length d.network.registry.sites)) (skies_of d)
 skies_known d h =
     all_flat (λ y. (y.target.0 < target_count d) × (y.site.0 < length d.network.registry.sites)) (skies_at d) (targets_listed d) (λ k e lt.
     all_some (sky_part d (get_or (targets_listed d) k e)) (λ site. site < length d.network.registry.sites) (λ y. (y.target.0 < target_count d) × (y.site.0 < length d.network.registry.sites))
@@ -148,8 +148,8 @@ skies_known d h =
     (range_with_len 0 (length d.network.registry.sites)) (range_below (length d.network.registry.sites)))
 
 -- .. of at most 262,144 spans
-pub spans_few : (d : DeskSeen) → IsDesk d → IsSmall d.network → sum_by (λ y. length y.spans) (skies_of d) ≤ 262144
-spans_few d h small = by_first (skies_of d) refl
+pub spans_few : (d : DeskSeen) → IsDesk d → HasFew d.network → sum_by (λ y. length y.spans) (skies_of d) ≤ 262144
+spans_few d h few = by_first (skies_of d) refl
   where
     by_first : (skies : List Sky) → skies ≡ skies_of d → sum_by (λ y. length y.spans) (skies_of d) ≤ 262144
     by_first [] none = rw (sym none) (omega arith)
@@ -157,7 +157,7 @@ spans_few d h small = by_first (skies_of d) refl
         let known : (y.target.0 < target_count d) × (y.site.0 < length d.network.registry.sites)
         = All-head (λ z. (z.target.0 < target_count d) × (z.site.0 < length d.network.registry.sites)) y skies
         (subst (All (λ z. (z.target.0 < target_count d) × (z.site.0 < length d.network.registry.sites))) (sym is) (skies_known d h))
-        in spans_counted d (small.visible (omega (arith, known.0)) (omega (arith, known.1)))
+        in spans_counted d (few.visible (omega (arith, known.0)) (omega (arith, known.1)))
 
 -- ---- the quotas
 

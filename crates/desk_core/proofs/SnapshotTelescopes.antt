@@ -25,7 +25,7 @@ use Rattle.desk_core.specs.declared.desk.Wanted.{Wanted}
 use Rattle.desk_core.specs.Desk.{DeskSeen}
 use Rattle.desk_core.specs.Kept.{IsDesk}
 use Rattle.desk_core.specs.Asking.{is_fit}
-use Rattle.desk_core.specs.DeskSnapshot.{telescope_parts, telescope_part, telescopes_for, is_usable, site_of, observed_on, in_horizon, IsSmall}
+use Rattle.desk_core.specs.DeskSnapshot.{telescope_parts, telescope_part, telescopes_for, is_usable, site_of, observed_on, in_horizon, HasFew, IsSmall}
 use Rattle.desk_core.proofs.SnapshotLists.{places_below, places_rise}
 use Rattle.desk_core.proofs.SnapshotSpans.{seconds_in, taken_short, observed_short}
 
@@ -120,9 +120,9 @@ fits_rise d w =
     AllPairs-map (λ t u. t.0 < u.0) (λ p. record { 0 = p.0 }) (filter (λ p. is_fit w.location w.instrument p.1) (enumerate_from 0 d.network.registry.telescopes))
     (AllPairs-filter (λ p q. p.0 < q.0) (λ p. is_fit w.location w.instrument p.1) (enumerate_from 0 d.network.registry.telescopes) (places_rise d.network.registry.telescopes))
 
-pub fits_few : (d : DeskSeen) (w : Wanted) → IsSmall d.network → length (telescopes_for d w) ≤ 32
-fits_few d w small =
+pub fits_few : (d : DeskSeen) (w : Wanted) → HasFew d.network → length (telescopes_for d w) ≤ 32
+fits_few d w few =
     let all : List (ℕ × TelescopeSeen) = enumerate_from 0 d.network.registry.telescopes in
     let fit : ℕ × TelescopeSeen → Bool = λ p. is_fit w.location w.instrument p.1 in
     let number : ℕ × TelescopeSeen → TelescopeNo = λ p. record { 0 = p.0 } in
-    omega (arith, length-map (filter fit all) number, length-filter fit all, count_by-le-length fit all, length-enumerate_from 0 d.network.registry.telescopes, small.telescopes)
+    omega (arith, length-map (filter fit all) number, length-filter fit all, count_by-le-length fit all, length-enumerate_from 0 d.network.registry.telescopes, few.telescopes)

@@ -10,7 +10,7 @@ use Rattle.desk_events.specs.declared.reply.Reply.{Reply}
 use Rattle.desk_events.specs.declared.reply.Reply.TheVariants.{Refused}
 use Rattle.desk_core.specs.declared.desk.Desk.{Desk}
 use Rattle.desk_core.specs.declared.desk.Opening.{Opening}
-use Rattle.desk_core.specs.declared.desk.Publication.{Publication}
+use Rattle.desk_core.specs.Publication.{PublicationSeen}
 use Rattle.desk_core.specs.declared.desk.Submitted.{Submitted}
 use Rattle.desk_core.specs.Refusals.{refusal_in}
 
@@ -24,7 +24,7 @@ pub record DeskSeen : Type 0 where
   pub books : Books
   pub groups : List Submitted
   pub progress : Progress
-  pub published : Option Publication
+  pub published : Option PublicationSeen
 
 -- a desk as it is seen, without the room that its ledger has
 abbrev pub seen : Desk → DeskSeen

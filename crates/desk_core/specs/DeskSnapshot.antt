@@ -196,10 +196,15 @@ snapshot_of version d = record {
   quotas = quotas_of d d.opening.quota;
 }
 
--- a network has no more than it may, which its type keeps: where there are telescopes, or targets and sites, their times too
-pub record IsSmall (n : NetworkSeen) : Type 0 where
+-- a network has no more telescopes, sites and targets than it may, and where it has targets and sites no more times either, which
+-- its type keeps
+pub record HasFew (n : NetworkSeen) : Type 0 where
   pub telescopes : length n.registry.telescopes ≤ most_telescopes
   pub sites : length n.registry.sites ≤ most_sites
   pub targets : length n.registry.targets ≤ most_targets
-  pub usable : 0 < length n.registry.telescopes → IsWithinLimits n.calendar
   pub visible : 0 < length n.registry.targets → 0 < length n.registry.sites → IsWithinLimits n.calendar
+
+-- and where it has telescopes
+pub record IsSmall (n : NetworkSeen) : Type 0 where
+  pub few : HasFew n
+  pub usable : 0 < length n.registry.telescopes → IsWithinLimits n.calendar

@@ -1,4 +1,5 @@
 pub mod Refusals
+pub mod Publication
 pub mod Desk
 pub mod Seconds
 pub mod Registering

@@ -14,12 +14,12 @@ use Rattle.desk_events.specs.declared.reply.AccountBalance.{AccountBalance}
 use Rattle.desk_events.specs.declared.reply.MemberState.{MemberState}
 use Rattle.desk_events.specs.declared.reply.Reply.{Reply}
 use Rattle.desk_events.specs.declared.reply.Reply.TheVariants as reply
-use Rattle.desk_core.specs.declared.desk.Publication.{Publication}
+use Rattle.desk_core.specs.Publication.{PublicationSeen}
 use Rattle.desk_core.specs.declared.desk.Submitted.{Submitted}
 use Rattle.desk_core.specs.Desk.{DeskSeen}
 
 -- `export`: nothing was published; else the last publication
-abbrev pub on_export : Option Publication → Result Reply Refusal
+abbrev pub on_export : Option PublicationSeen → Result Reply Refusal
 on_export None = Err NothingPublished
 on_export (Some p) = Ok (reply.Exported p.claim p.snapshot)
 

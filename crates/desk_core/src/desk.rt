@@ -1,12 +1,15 @@
 // What an opened desk keeps.
 
 ghost use Rattle.std.specs.Prelude.{◌≡◌, ◌≤◌, ◌-◌, Some, length, slice_get};
+ghost use Rattle.plan_doc.specs.Ranges.{AreParts};
+ghost use Rattle.desk_core.specs.Publication.{PublicationSeen};
 
 use allocations::Ledger;
 use desk_runs::Runs;
 use plan_base::{Claim, GroupNo, ListOf, Name, Settings, Snapshot, Span, TargetNo};
 use request_model::{GroupDoc, Location};
 use site_model::Network;
+use std::marker::Model;
 
 /// What a desk was opened with, beside its moment.
 #[derive(Clone, Copy)]
@@ -41,6 +44,8 @@ pub struct Wanted {
     pub targets: ListOf<TargetNo>,
 }
 
+// These values are great, so each has a `drop` of its own: a function that leaves one behind then makes one call, whose proof
+// doesn't follow the value's parts.
 impl Drop for Wanted {
     fn drop(self) {
         let Self {
@@ -75,12 +80,10 @@ impl Drop for Submitted {
     }
 }
 
-/// A claim that was published, and the snapshot that it was published for.
+/// A claim that was published, and the snapshot that it was published for, of which a document can be made.
 pub struct Publication {
-    /// What the desk had to plan then.
-    pub snapshot: Snapshot,
-    /// Certified for that snapshot.
-    pub claim: Claim,
+    snapshot: Snapshot,
+    claim: Claim,
 }
 
 impl Drop for Publication {
@@ -89,6 +92,38 @@ impl Drop for Publication {
             snapshot: _,
             claim: _,
         } = self;
+    }
+}
+
+impl Model for Publication {
+    ghost Value = { PublicationSeen };
+
+    ghost view = { λ a. record { snapshot = a.snapshot; claim = a.claim } };
+
+    ghost invariant = { λ a. AreParts a.snapshot };
+}
+
+impl Publication {
+    pub(crate) fn new(snapshot: Snapshot, claim: Claim) -> Publication
+        requires { AreParts snapshot }
+        ensures { result ≡ record { snapshot = snapshot; claim = claim } }
+    {
+        Publication { snapshot, claim }
+    }
+
+    /// What the desk had to plan then.
+    pub fn snapshot(&self) -> &Snapshot
+        ensures snapshot { result.now ≡ self.now.snapshot }
+        ensures ranges { AreParts self.now.snapshot }
+    {
+        &self.snapshot
+    }
+
+    /// Certified for that snapshot.
+    pub fn claim(&self) -> &Claim
+        ensures { result.now ≡ self.now.claim }
+    {
+        &self.claim
     }
 }
 

@@ -1,9 +1,10 @@
 // `publish`: a claim that was made elsewhere, or one that a plan was sought for.
 
-ghost use Rattle.std.specs.Prelude.{◌≡◌, ◌≤◌, IfOk, OnOk, OnErr, map, find};
+ghost use Rattle.std.specs.Prelude.{◌≡◌, ◌≤◌, length, IfOk, OnOk, OnErr, map, find};
 ghost use Rattle.std.specs.Option.{option_map, option_map_or};
 ghost use Rattle.plan_base.specs.Limits.{most_version};
 ghost use Rattle.plan_base.specs.Verdict.{IsCertified};
+ghost use Rattle.plan_doc.specs.Ranges.{AreParts};
 ghost use Rattle.desk_runs.specs.Numbers.{requests_of, is_request};
 ghost use Rattle.desk_events.specs.declared.reply.Reply.TheVariants as reply;
 ghost use Rattle.desk_core.specs.Desk.{seen};
@@ -37,6 +38,7 @@ impl Desk {
         claim: &Claim,
     ) -> Result<Reply, CommandFault>
         requires desk { IsDesk (seen self.old) }
+        requires few { length self.old.runs.groups ≤ most_version }
         requires version { version ≤ most_version }
         ensures { DecidesByVerdict version (seen self.old) asked claim.now (seen self.new) result }
     {
@@ -63,6 +65,7 @@ impl Desk {
         claim: &Claim,
     ) -> Result<Reply, AllocError>
         requires desk { IsDesk (seen self.old) }
+        requires few { length self.old.runs.groups ≤ most_version }
         requires snapshot { snapshot ≡ snapshot_of snapshot.version (seen self.old) }
         requires certified { IsCertified snapshot claim.now }
         ensures reply { IfOk result (λ told. told ≡ reply.Published claim.now) }
@@ -83,19 +86,28 @@ impl Desk {
         claim: &Claim,
     ) -> Result<(), AllocError>
         requires desk { IsDesk (seen self.old) }
+        requires few { length self.old.runs.groups ≤ most_version }
         requires snapshot { snapshot ≡ snapshot_of snapshot.version (seen self.old) }
         requires certified { IsCertified snapshot claim.now }
         ensures desk { OnOk result (seen self.new ≡ with_publication snapshot.version claim.now (seen self.old)) }
         ensures unchanged { OnErr result (seen self.new ≡ seen self.old) }
     {
+        self.recall_document(&snapshot);
         let Copies { observations, kept } = self.copies_for(alloc, claim)?;
         self.runs.publish(observations);
-        let publication = Publication {
-            snapshot,
-            claim: kept,
-        };
-        self.published = Some(publication);
+        self.published = Some(Publication::new(snapshot, kept));
         Ok(())
+    }
+
+    // Recalls that the desk's snapshot has a document. It does nothing.
+    fn recall_document(&self, snapshot: &Snapshot)
+        requires desk { IsDesk (seen self.now) }
+        requires few { length self.now.runs.groups ≤ most_version }
+        requires snapshot { snapshot.now ≡ snapshot_of snapshot.now.version (seen self.now) }
+        ensures { AreParts snapshot.now }
+    {
+        self.recall_few();
+        snapshot.recall_valid();
     }
 
     // What is kept of a claim. Fails only for want of memory.

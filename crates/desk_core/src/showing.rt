@@ -22,8 +22,8 @@ impl Desk {
             return Err(Refusal::NothingPublished.into());
         };
         Ok(Reply::Exported {
-            claim: publication.claim.copy()?,
-            snapshot: publication.snapshot.clone()?,
+            claim: publication.claim().copy()?,
+            snapshot: publication.snapshot().clone()?,
         })
     }
 

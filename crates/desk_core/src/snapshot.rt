@@ -3,14 +3,13 @@
 ghost use Rattle.std.specs.Prelude.{◌≡◌, ◌<◌, ◌≤◌, [], Some, None, IfOk, OnOk, length, map};
 ghost use Rattle.plan_base.specs.Limits.{most_version};
 ghost use Rattle.plan_base.specs.Snapshot.{IsSnapshot};
-ghost use Rattle.site_model.specs.Calendar.{IsWithinLimits};
 ghost use Rattle.site_model.specs.Names.{number_of};
 ghost use Rattle.desk_runs.specs.declared.group.Group.{Group};
 ghost use Rattle.desk_core.specs.declared.desk.Submitted.{Submitted};
 ghost use Rattle.desk_core.specs.Desk.{seen};
 ghost use Rattle.desk_core.specs.Kept.{IsDesk};
 ghost use Rattle.desk_core.specs.DeskSnapshot.{both_at, IsGroupNo, listed_groups, proposals_of, quota_place, quotas_of};
-ghost use Rattle.desk_core.specs.DeskSnapshot.{group_part, with_numbers_of, group_targets, part_targets, skies_of, snapshot_of, IsHorizonSet, IsSmall};
+ghost use Rattle.desk_core.specs.DeskSnapshot.{group_part, with_numbers_of, group_targets, part_targets, skies_of, snapshot_of, IsHorizonSet, HasFew};
 
 use crate::desk::Desk;
 use indexmap::IndexSet;
@@ -24,7 +23,7 @@ use std::collections::BTreeSet;
 
 /// What a snapshot has of listed groups.
 #[derive(Drop)]
-struct Listed {
+struct ListedParts {
     groups: ListOf<GroupPart>,
     quotas: ListOf<u64>,
 }
@@ -47,10 +46,10 @@ impl Desk {
         ensures parts { IfOk result (λ parts. parts ≡ snapshot_of version (seen self.now)) }
         ensures snapshot { IfOk result IsSnapshot }
     {
-        self.recall_small();
+        self.recall_few();
         let horizon = self.horizon(alloc)?;
         let telescopes = self.telescope_parts(alloc, &horizon)?;
-        let Listed { groups, quotas } = self.listed_parts(alloc)?;
+        let ListedParts { groups, quotas } = self.listed_parts(alloc)?;
         let skies = self.listed_skies(alloc, &horizon, groups.as_slice())?;
         Ok(Parts {
             version,
@@ -65,14 +64,14 @@ impl Desk {
     }
 
     // The parts that come of listed groups.
-    fn listed_parts(&self, alloc: Global) -> Result<Listed, AllocError>
+    fn listed_parts(&self, alloc: Global) -> Result<ListedParts, AllocError>
         requires { IsDesk (seen self.now) }
         ensures groups { IfOk result (λ parts. parts.groups ≡ map (group_part (seen self.now)) (listed_groups (seen self.now))) }
         ensures quotas { IfOk result (λ parts. parts.quotas ≡ quotas_of (seen self.now) self.now.opening.quota) }
     {
         let listed = self.listed(alloc)?;
         let proposals = self.proposals(alloc, listed.as_slice())?;
-        Ok(Listed {
+        Ok(ListedParts {
             groups: self.group_parts(alloc, &proposals, listed.as_slice())?,
             quotas: self.quotas(alloc, proposals.len())?,
         })
@@ -94,9 +93,9 @@ impl Desk {
         self.skies(alloc, horizon, targets.as_slice())
     }
 
-    // Recalls what the network keeps of its numbers. It does nothing.
-    fn recall_small(&self)
-        ensures { (0 < length self.now.network.registry.telescopes → IsWithinLimits self.now.network.calendar) → IsSmall self.now.network }
+    /// Recalls what the network keeps of its numbers. It does nothing.
+    pub(crate) fn recall_few(&self)
+        ensures { HasFew self.now.network }
     {
         let _ = self.network.telescopes();
         let targets = self.network.targets();

@@ -6,6 +6,7 @@ ghost use Rattle.plan_base.specs.Limits.{most_version};
 ghost use Rattle.plan_base.specs.Snapshot.{IsOrderly};
 ghost use Rattle.plan_base.specs.Verdict.{IsCertified};
 ghost use Rattle.plan_json.specs.Moment.{last_moment};
+ghost use Rattle.desk_core.specs.Publication.{IsCheckable};
 ghost use Rattle.desk_core.specs.Desk.{start, seen};
 ghost use Rattle.desk_core.specs.Kept.{IsOpenedWith, IsState};
 ghost use Rattle.desk_core.specs.DeskSnapshot.{snapshot_of};
@@ -124,13 +125,13 @@ impl State {
         Ok(())
     }
 
-    /// Recalls that the snapshot of the last publication has its parts in order. It does nothing.
+    /// Recalls what is so of the last publication: its parts are in order, and a check of its document says Yes. It does nothing.
     pub fn recall_published(&self)
-        ensures { IfSome self.now.desk (λ d. IfSome d.published (λ p. IsOrderly p.snapshot)) }
+        ensures { IfSome self.now.desk (λ d. IfSome d.published (λ p. IsOrderly p.snapshot × IsCheckable p.snapshot p.claim)) }
     {
         if let Some(desk) = &self.desk {
             if let Some(publication) = &desk.published {
-                publication.snapshot.recall_valid();
+                publication.snapshot().recall_valid();
             }
         }
     }

@@ -228,7 +228,7 @@ publish_said lines before x p sound mine both take publish =
     record {
       said = subst (λ (v : ℕ). IsPublication s v p.reply) version (subst (λ (t : StateSeen). IsPublication t told.0 p.reply) state told.2);
       planned = λ claim is.
-          let known = sound.bounded front [] p cut claim is in (
+          let known = (sound.bounded front [] p cut).published claim is in (
             known.0,
             subst (λ (t : StateSeen). IsSnapshotOf t known.0) state known.1.snapshot,
             subst (λ (t : StateSeen). IsPlannedOver t known.0 claim) state (known.2.planned publish),

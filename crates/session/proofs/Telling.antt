@@ -18,7 +18,7 @@ use Rattle.desk_events.specs.declared.reply.Reply.{Reply}
 use Rattle.desk_events.specs.declared.reply.Reply.TheVariants as reply
 use Rattle.desk_events.specs.Entry.{text_of_history}
 use Rattle.desk_events.specs.Laws.{ShowsGroup, IsTelling}
-use Rattle.desk_core.specs.declared.desk.Publication.{Publication}
+use Rattle.desk_core.specs.Publication.{PublicationSeen}
 use Rattle.desk_core.specs.declared.desk.Submitted.{Submitted}
 use Rattle.desk_core.specs.declared.desk.Wanted.{Wanted}
 use Rattle.desk_core.specs.Asking.{MadeSeen, made_of}
@@ -65,7 +65,7 @@ reported_shows : (d : DeskSeen) (request : RequestNo) (percent used : ℕ) (o : 
 reported_shows d request percent used None = tt
 reported_shows d request percent used (Some p) = reported_by d request percent used p (is_placed d.progress.running request) (nat_lt p.1.0.seconds used) (nat_le p.1.1.threshold percent)
 
-export_shows : (s : StateSeen) (o : Option Publication) → Shows (Some (told s (on_export o)))
+export_shows : (s : StateSeen) (o : Option PublicationSeen) → Shows (Some (told s (on_export o)))
 export_shows s None = tt
 export_shows s (Some p) = tt
 

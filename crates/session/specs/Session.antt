@@ -20,8 +20,8 @@ use Rattle.desk_book.specs.Claims.{IsClaimEntry}
 
 -- ---- the history of a session
 
--- a legal history of the callers' scripts; each claim that it publishes, whether it was planned or sent, is bounded for the
--- snapshot of its version
+-- A legal history of the callers' scripts. Each claim that it publishes, whether it was planned or sent, is bounded for the
+-- snapshot of its version, and the document of each that it exports is checked with Yes.
 pub record IsSound (scripts : List (List ScriptLine)) (history : List EventEntry) : Type 0 where
   pub legal : IsLegal scripts history
   pub bounded : EachAfter (IsClaimEntry scripts) history

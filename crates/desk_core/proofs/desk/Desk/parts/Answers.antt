@@ -15,4 +15,4 @@ pub returns-clause-snapshot : goal.returns-clause-snapshot
 returns-clause-snapshot c =
     let d = seen c.args.self.now in
     let same = returns-clause-parts c in
-    subst IsSnapshot (sym same) (is_snapshot c.args.version d c.requires.version c.requires.desk (c.recall_small.ensures c.in_ok-telescopes.ensures.limits))
+    subst IsSnapshot (sym same) (is_snapshot c.args.version d c.requires.version c.requires.desk record { few = c.recall_few.ensures; usable = c.in_ok-telescopes.ensures.limits })

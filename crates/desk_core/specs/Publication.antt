@@ -1,0 +1,17 @@
+-- A claim that was published, with the snapshot that it was published for.
+use Rattle.plan_base.specs.declared.claim.Claim.{Claim}
+use Rattle.plan_base.specs.declared.parts.Parts.{Parts}
+use Rattle.plan_base.specs.Snapshot.{IsSnapshot}
+use Rattle.plan_base.specs.Verdict.{IsCertified}
+use Rattle.plan_doc.specs.Ranges.{AreParts}
+
+-- what contracts see of it
+pub record PublicationSeen : Type 0 where
+  pub snapshot : Parts
+  pub claim : Claim
+
+-- a document of the snapshot and the claim is read as these two, and its check says Yes
+pub record IsCheckable (s : Parts) (claim : Claim) : Type 0 where
+  pub snapshot : IsSnapshot s
+  pub ranges : AreParts s
+  pub certified : IsCertified s claim
