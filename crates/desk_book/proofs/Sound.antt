@@ -116,7 +116,7 @@ pub longer_scripts : (scripts : List (List ScriptLine)) (caller : ℕ) (line : S
 longer_scripts scripts caller line low other =
     let it = script_by scripts caller other line low (same_or_other caller other) in (it.0, it.1)
 
-go_further : (scripts more longer : List (List ScriptLine)) → GoOn scripts more → GoOn more longer → GoOn scripts longer
+pub go_further : (scripts more longer : List (List ScriptLine)) → GoOn scripts more → GoOn more longer → GoOn scripts longer
 go_further scripts more longer h g caller = (
   (h caller).0 ++ (g caller).0,
   (g caller).1 ∙ ap (λ (lines : List ScriptLine). lines ++ (g caller).0) (h caller).1 ∙ append_assoc (script_of scripts caller) (h caller).0 (g caller).0,

@@ -1,5 +1,5 @@
 -- What a call and a publication add to a book.
-use Rattle.std.proofs.Common.{◌≡◌, ◌≢◌, ℕ, zero, suc, ◌+◌, ◌-◌, ◌<◌, List, [], ◌∷◌, ◌++◌, length, refl, sym, ◌∙◌, ap, subst, ◌⊎◌, inl, inr, arith, append_assoc, length-append}
+use Rattle.std.proofs.Common.{◌≡◌, ◌≢◌, ℕ, zero, suc, ◌+◌, ◌-◌, ◌<◌, List, [], ◌∷◌, ◌++◌, length, refl, sym, ◌∙◌, ap, subst, ◌⊎◌, inl, inr, arith, length-append}
 use Rattle.std.proofs.Common.{Option, Some, None, Result, true, slice_get, slice_set, length-set, get_or-set_same, get_or-set_other}
 use Rattle.std.specs.Prelude.{slice_index_or, replicate}
 use Rattle.std.proofs.Math.ListN.{get_or-append}
@@ -21,7 +21,7 @@ use Rattle.desk_book.specs.Seen.{BookSeen, empty_book, take_of, done_of, ends_li
 use Rattle.desk_book.specs.Doing.{DoesStep, DoesTake, IsDone, IsPublished, publish_reply}
 use Rattle.desk_book.specs.Kept.{IsBook, GoOn}
 use Rattle.desk_book.proofs.Keeping.{same_or_other}
-use Rattle.desk_book.proofs.Sound.{stay, longer_scripts}
+use Rattle.desk_book.proofs.Sound.{stay, longer_scripts, go_further}
 use Rattle.desk_book.proofs.Turns.{done_more, done_same, done_other}
 use Rattle.desk_passes.specs.declared.seen.OpenTake.{OpenTake}
 use Rattle.desk_passes.specs.declared.seen.SeenEntry.{SeenEntry}
@@ -43,12 +43,6 @@ pub record Grows (b : BookSeen) (caller : ℕ) (e : EventEntry) (line : ScriptLi
   pub others : (other : ℕ) → other ≢ caller → (script_of c.scripts other ≡ script_of b.scripts other) × (take_of c.takes other ≡ take_of b.takes other)
   pub each : length (script_of c.scripts caller) ≡ done_of caller c.history + begun (take_of c.takes caller)
 
-still_longer : (scripts more longer : List (List ScriptLine)) → GoOn scripts more → GoOn more longer → GoOn scripts longer
-still_longer scripts more longer h g caller = (
-  (h caller).0 ++ (g caller).0,
-  (g caller).1 ∙ ap (λ (lines : List ScriptLine). lines ++ (g caller).0) (h caller).1 ∙ append_assoc (script_of scripts caller) (h caller).0 (g caller).0,
-)
-
 -- the line of an entry, whatever lines are sent later
 line_later : (scripts longer : List (List ScriptLine)) (caller n : ℕ) (line : ScriptLine) (e : EventEntry) → GoOn scripts longer → slice_get (script_of scripts caller) n ≡ Some line
     → e.caller ≡ caller → e.line ≡ n + 1 → line_of longer e ≡ line
@@ -68,7 +62,7 @@ lines_grown : (b c : BookSeen) (caller : ℕ) (e : EventEntry) (line : ScriptLin
 lines_grown b c caller e line longer full g more =
     ap (lined longer) g.history ∙ lined_more longer b.history e
     ∙ ap (λ (l : ScriptLine). lined longer b.history ++ record { entry = e; line = l } ∷ []) (line_later c.scripts longer caller (done_of caller b.history) line e more g.at g.mine g.number)
-    ∙ ap (λ (xs : List SeenEntry). xs ++ record { entry = e; line = line } ∷ []) (full.lines longer (still_longer b.scripts c.scripts longer g.longer more))
+    ∙ ap (λ (xs : List SeenEntry). xs ++ record { entry = e; line = line } ∷ []) (full.lines longer (go_further b.scripts c.scripts longer g.longer more))
 
 each_grown : (b c : BookSeen) (caller : ℕ) (e : EventEntry) (line : ScriptLine) → IsFull b → Grows b caller e line c → (other : ℕ) → (other ≡ caller) ⊎ (other ≢ caller)
     → length (script_of c.scripts other) ≡ done_of other c.history + begun (take_of c.takes other)
