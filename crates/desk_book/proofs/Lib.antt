@@ -11,6 +11,7 @@ pub mod Sound
 pub mod States
 pub mod Calls
 pub mod OneReply
+pub mod Again
 pub mod Replays
 pub mod Versions
 pub mod Texts

@@ -4,3 +4,4 @@ pub mod Doing
 pub mod Kept
 pub mod Inside
 pub mod Laws
+pub mod Again

@@ -1,5 +1,6 @@
 // Laws of the desk and its histories, each the contract of a function that does nothing.
 
+ghost use Rattle.desk_book.specs.Again.{HistoriesAreMadeAgain};
 ghost use Rattle.desk_book.specs.Laws.{OneReply, VersionsCount, TextTellsHistory, OneReplay, OverIsWhole};
 
 /// The law: for one state of the desk and one line that is a step there is one reply.
@@ -25,4 +26,10 @@ pub fn one_replay()
 /// The law: where no caller of a book has an open Take or a line left, its history is whole.
 pub fn over_is_whole()
     ensures { OverIsWhole }
+{}
+
+/// The law: where the lines of a legal history are sent again, with the claim of each published plan in place of the plan, they have the
+/// replies that they had, and leave the state that there was.
+pub fn histories_are_made_again()
+    ensures { HistoriesAreMadeAgain }
 {}

@@ -9,5 +9,8 @@ mod step;
 
 pub use book::Book;
 pub use doing::{apply_read, is_plan, publish_found, read_line, take_for};
-pub use laws::{one_replay, one_reply, over_is_whole, text_tells_history, versions_count};
+pub use laws::{
+    histories_are_made_again, one_replay, one_reply, over_is_whole, text_tells_history,
+    versions_count,
+};
 pub use step::{BookCall, BookStep, PublishStep};
