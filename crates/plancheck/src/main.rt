@@ -24,6 +24,9 @@ fn run<S: Source, K: Sink>(alloc: Global, words: &[String], source: &mut S, sink
     ensures words { (result ≡ Status.Words) ↔ ¬ (IsOneWord (codes "check") words.now ⊎ IsOneWord (codes "forest") words.now
         ⊎ IsOneWord (codes "explain") words.now ⊎ IsOneWord (codes "rapid") words.now) }
     ensures untouched { result ≡ Status.Words → (source.new ≡ source.old) × (sink.new ≡ sink.old) }
+    ensures unread { result ≡ Status.ReadFault → sink.new ≡ sink.old }
+    ensures over { result ≡ Status.InputOver → sink.new ≡ sink.old }
+    ensures unwritten { result ≡ Status.NoMemory → sink.new ≡ sink.old }
     ensures check { IsOneWord (codes "check") words.now → IsDocumentRun IsCheckAnswer
         (S.left source.old) (S.left source.new) (K.written sink.old) (K.written sink.new) result }
     ensures forest { IsOneWord (codes "forest") words.now → IsDocumentRun IsForestAnswer
