@@ -8,7 +8,7 @@ use std::process::ExitCode;
 /// What is written on standard error, where there is something to say.
 fn message(status: Status) -> Option<&'static str> {
     match status {
-        Status::Words => Some("usage: netsched_live live < LINES"),
+        Status::Words => Some("usage: netsched_live live | passes < LINES"),
         Status::ReadFault => Some("netsched_live: a read failed"),
         Status::WriteFault => Some("netsched_live: a write failed"),
         Status::NoMemory => Some("netsched_live: out of memory"),
