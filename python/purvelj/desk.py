@@ -212,6 +212,10 @@ class Desk:
             self._close_journal()
             return self._program.close()
 
+    def test_running(self) -> None:
+        """``DeskEnded`` where the program has ended by itself; another thread may be sending a line meanwhile."""
+        self._program.test_running()
+
     @property
     def history(self) -> History:
         """Every line that was sent so far, with its replies."""
@@ -223,7 +227,10 @@ class Desk:
 
     def send(self, line: Mapping[str, object] | str) -> tuple[Reply, ...]:
         """Sends any line and gives its replies, refusals among them."""
-        text = line if isinstance(line, str) else compact(line)
+        return self.exchange(line if isinstance(line, str) else compact(line)).replies
+
+    def exchange(self, text: str) -> Exchange:
+        """Sends a line that is a text, and gives it with its replies, whose texts are there too."""
         if "\n" in text:
             raise ValueError("a line has no newline in it")
         with self._lock:
@@ -237,7 +244,7 @@ class Desk:
                 self._lost = True
                 self._close_journal()
                 raise
-        return exchange.replies
+        return exchange
 
     def ask(self, line: Mapping[str, object] | str) -> Reply:
         """Sends any line and gives its last reply; ``Refusal`` where that is one."""

@@ -22,13 +22,17 @@ class Journal:
 
     def __init__(self, name: str | Path, mode: str) -> None:
         """Opens the files in the mode ``xb`` or ``r+b``."""
-        self._lines = _File(f"{name}.lines.jsonl", mode)
-        self._replies = _File(f"{name}.replies.jsonl", mode)
+        self._lines, self._replies = (_File(path, mode) for path in Journal.paths(name))
+
+    @staticmethod
+    def paths(name: str | Path) -> tuple[str, str]:
+        """The paths of the lines and of the replies."""
+        return f"{name}.lines.jsonl", f"{name}.replies.jsonl"
 
     @staticmethod
     def begin(name: str | Path) -> Journal:
         """A new journal; ``FileError`` where one of its files is there."""
-        for path in (f"{name}.lines.jsonl", f"{name}.replies.jsonl"):
+        for path in Journal.paths(name):
             if os.path.lexists(path):
                 raise FileError(f"{path}: it is there already; a desk goes on with it by Desk.resume")
         return Journal(name, "xb")

@@ -97,6 +97,12 @@ class LineProgram:
         if not self._finalizer.alive:
             raise DeskError("the desk was closed")
 
+    def test_running(self) -> None:
+        """``DeskEnded`` where the program has ended by itself, though nothing was written to it since."""
+        exit_status = self._process.poll()
+        if exit_status is not None:
+            raise DeskEnded(self.command, exit_status)
+
     def _deadline(self) -> float | None:
         return None if self._timeout is None else time.monotonic() + self._timeout
 

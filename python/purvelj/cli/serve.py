@@ -1,0 +1,119 @@
+"""``serve``: a server of lines over one desk."""
+
+from __future__ import annotations
+
+import argparse
+import signal
+import sys
+from contextlib import contextmanager, suppress
+from types import FrameType
+from typing import TYPE_CHECKING, Callable, Iterator
+
+from purvelj.cli.words import Commands, command, ranged
+from purvelj.errors import WordsError
+
+if TYPE_CHECKING:
+    from purvelj.desk import Desk
+    from purvelj.serve import Listener
+
+SIGNALS = (signal.SIGTERM, signal.SIGINT)
+
+
+def add_commands(commands: Commands) -> None:
+    """Adds the command to a parser."""
+    serve = commands.add_parser(
+        "serve",
+        help="take the lines of several connections to one desk with a journal",
+        description="Begins the journal, or goes on with it where its files are there, and takes lines from whoever "
+        "connects. Each connection gets the replies to its own lines. There is no authentication. SIGTERM and Ctrl-C "
+        "end it once the line that is being done is replied to; a second one ends it at once.",
+    )
+    serve.add_argument("journal", help="the name of the journal, such as tonight for tonight.lines.jsonl")
+    where = serve.add_mutually_exclusive_group()
+    where.add_argument("--socket", metavar="PATH", help="the Unix socket to listen at (default: JOURNAL.socket)")
+    where.add_argument(
+        "--port", type=ranged(int, 0, 65535), metavar="N", help="listen at this port instead; 0 is one that is free"
+    )
+    serve.add_argument("--host", metavar="ADDRESS", help="the address that has the port (default: 127.0.0.1)")
+    serve.add_argument(
+        "--program",
+        type=command,
+        metavar="COMMAND",
+        help="the session program (default: $PURVELJ_PROGRAM, or netsched session)",
+    )
+    serve.add_argument(
+        "--timeout",
+        type=ranged(float, 0, 1e6),
+        default=600.0,
+        metavar="SECONDS",
+        help="the most that a reply may take (default: 600)",
+    )
+    serve.set_defaults(run=run_serve)
+
+
+def run_serve(options: argparse.Namespace) -> int:
+    """Runs ``serve``."""
+    from purvelj.serve import Server, desk_of
+
+    if options.host is not None and options.port is None:
+        raise WordsError("--host goes with --port")
+    caught: list[int] = []
+    with desk_of(options.journal, options.program, options.timeout) as desk:
+        _tell_done(desk)
+        with _listener(options) as listener:
+            server = Server(desk, listener, _tell)
+            with _stopped_by_signals(server.stop, caught):
+                _tell(f"listening at {listener.where}")
+                server.run()
+    if signal.SIGINT in caught:
+        raise KeyboardInterrupt
+    return 0
+
+
+def _listener(options: argparse.Namespace) -> Listener:
+    from purvelj.serve import listen_at_path, listen_at_port
+
+    if options.port is not None:
+        return listen_at_port(options.host or "127.0.0.1", options.port)
+    return listen_at_path(options.socket or f"{options.journal}.socket")
+
+
+def _tell_done(desk: Desk) -> None:
+    """Tells how far the journal had come, and what the desk hasn't done."""
+    from purvelj.resume import is_plan
+
+    done = desk.history.exchanges
+    plans = sum(is_plan(exchange) for exchange in done)
+    _tell(f"lines that were done again: {len(done)}, published plans among them: {plans}")
+    if desk.unanswered:
+        _tell("lines that aren't done, and are to be sent again by whoever sent them:")
+        for line in desk.unanswered:
+            _tell(line)
+
+
+@contextmanager
+def _stopped_by_signals(stop: Callable[[], None], caught: list[int]) -> Iterator[None]:
+    """Has the first signal call ``stop`` and be noted; a second one ends the process. Ignored ones stay so."""
+
+    def handle(number: int, frame: FrameType | None) -> None:
+        for each in before:
+            signal.signal(each, signal.SIG_DFL)
+        caught.append(number)
+        stop()
+
+    before = {each: signal.getsignal(each) for each in SIGNALS}
+    before = {each: handler for each, handler in before.items() if handler is not signal.SIG_IGN}
+    for each in before:
+        signal.signal(each, handle)
+    try:
+        yield
+    finally:
+        for each, handler in before.items():
+            signal.signal(each, handler)
+
+
+def _tell(text: str) -> None:
+    """Tells the user something, from whatever thread; where nobody listens the server goes on."""
+    with suppress(OSError):
+        sys.stderr.write(f"purvelj: {text}\n")
+        sys.stderr.flush()

@@ -1,0 +1,393 @@
+"""A server of lines, as a command, with connections that come, go, break off and send too much."""
+
+from __future__ import annotations
+
+import json
+import os
+import re
+import shlex
+import signal
+import socket
+import stat
+import subprocess
+import sys
+import threading
+import time
+from pathlib import Path
+from typing import Callable
+
+import pytest
+
+from purvelj import cli
+from purvelj.desk import Desk
+from purvelj.errors import FileError
+from purvelj.serve import LONGEST, Server, listen_at_path
+from script import LINES, REPLIES
+
+TOP = Path(__file__).resolve().parents[1]
+
+#: A session program that seeks a plan until there is a file ``found``, and says so in a file ``seeking``.
+SLOW = """
+import json, pathlib, sys, time
+for place, line in enumerate(sys.stdin, start=1):
+    heads = {"caller": 0, "line": place, "version": place}
+    if json.loads(line)["do"] == "plan":
+        print(json.dumps({**heads, "ok": "taken"}), flush=True)
+        pathlib.Path("seeking").touch()
+        while not pathlib.Path("found").exists():
+            time.sleep(0.01)
+        print(json.dumps({**heads, "no": 38, "refused": "TooManyStarts", "count": 2000000}), flush=True)
+    else:
+        print(json.dumps({**heads, "ok": "night"}), flush=True)
+"""
+
+
+def until(condition: Callable[[], object]) -> None:
+    """Waits until something holds."""
+    deadline = time.monotonic() + 20
+    while not condition():
+        assert time.monotonic() < deadline, "it didn't come in time"
+        time.sleep(0.01)
+
+
+class Caller:
+    """A connection to a server."""
+
+    def __init__(self, where: Path | tuple[str, int]) -> None:
+        self.socket = socket.socket(socket.AF_INET if isinstance(where, tuple) else socket.AF_UNIX)
+        self.socket.settimeout(20)
+        self.socket.connect(where if isinstance(where, tuple) else str(where))
+        self._source = self.socket.makefile("rb")
+
+    def __enter__(self) -> Caller:
+        return self
+
+    def __exit__(self, *_: object) -> None:
+        self._source.close()
+        self.socket.close()
+
+    def send(self, *lines: str) -> None:
+        self.socket.sendall("".join(f"{line}\n" for line in lines).encode())
+
+    def read(self, replies: int) -> list[str]:
+        return [self._source.readline().decode().removesuffix("\n") for _ in range(replies)]
+
+    def ask(self, line: str, replies: int = 1) -> list[str]:
+        self.send(line)
+        return self.read(replies)
+
+    def rest(self) -> bytes:
+        """What comes until the server closes the connection."""
+        pieces = b""
+        try:
+            while piece := self._source.read1():
+                pieces += piece
+        except ConnectionResetError:
+            pass
+        return pieces
+
+
+class Served:
+    """A server that was started as a command, with the journal ``night`` in a folder."""
+
+    def __init__(self, folder: Path, program: list[str], *words: str) -> None:
+        self.folder = folder
+        self.path = folder / "night.socket"
+        command = [sys.executable, "-m", "purvelj", "serve", "night", "--program", shlex.join(program), *words]
+        environment = {**os.environ, "PYTHONPATH": str(TOP)}
+        with open(folder / "told", "w", encoding="utf-8") as told:
+            self.process = subprocess.Popen(command, cwd=folder, env=environment, stderr=told)
+
+    def told(self) -> list[str]:
+        """What it has said on standard error."""
+        lines = (self.folder / "told").read_text(encoding="utf-8").splitlines()
+        assert not any(line.startswith("Traceback") for line in lines)
+        return [line.removeprefix("purvelj: ") for line in lines]
+
+    def says(self, text: str) -> bool:
+        return any(text in line for line in self.told())
+
+    def desk_program(self) -> int:
+        """The number of the process that is the desk's program."""
+        process = self.process.pid
+        return int(Path(f"/proc/{process}/task/{process}/children").read_text().split()[0])
+
+    def written(self, kind: str) -> list[str]:
+        """The lines or the replies of its journal."""
+        return (self.folder / f"night.{kind}.jsonl").read_text(encoding="utf-8").splitlines()
+
+    def end(self) -> int:
+        self.process.terminate()
+        return self.process.wait(20)
+
+
+@pytest.fixture
+def serve(tmp_path: Path, netsched: list[str]):
+    """Starts a server, by default over the session program, and waits until it listens."""
+    started: list[Served] = []
+
+    def start(*words: str, program: list[str] | None = None) -> Served:
+        server = Served(tmp_path, program or netsched, *words)
+        started.append(server)
+        until(lambda: server.says("listening at ") or server.process.poll() is not None)
+        assert server.process.poll() is None, server.told()
+        return server
+
+    yield start
+    for server in started:
+        server.process.kill()
+        server.process.wait(20)
+
+
+def test_two_callers_take_turns(serve) -> None:
+    server = serve()
+    assert stat.S_IMODE(server.path.stat().st_mode) == 0o600
+    with Caller(server.path) as first, Caller(server.path) as second:
+        replies = []
+        for place, line in enumerate(LINES):
+            caller = first if place % 2 else second
+            replies += caller.ask(line, 2 if "plan" in line else 1)
+        assert replies == REPLIES
+    assert (server.written("lines"), server.written("replies")) == (LINES, REPLIES)
+
+
+def test_lines_that_come_at_once_get_their_own_replies(serve) -> None:
+    server = serve()
+    found: dict[str, list[dict]] = {}
+
+    def ask(word: str, line: str) -> None:
+        with Caller(server.path) as caller:
+            caller.send(*[line] * 60)
+            found[word] = [json.loads(text) for text in caller.read(60)]
+
+    with Caller(server.path) as caller:
+        caller.send(*LINES[:7])
+        assert caller.read(7) == REPLIES[:7]
+        lines = {"balances": '{"do":"balances"}', "show": '{"do":"show","group_number":1}'}
+        threads = [threading.Thread(target=ask, args=each) for each in lines.items()]
+        for thread in threads:
+            thread.start()
+        for thread in threads:
+            thread.join(20)
+        assert json.loads(caller.ask(LINES[8])[0])["line"] == 128
+    places = {word: [reply["line"] for reply in replies] for word, replies in found.items()}
+    assert {reply["ok"] for reply in found["balances"]} == {"balances"}
+    assert {reply["ok"] for reply in found["show"]} == {"shown"}
+    assert places["show"] == sorted(places["show"]) and places["balances"] == sorted(places["balances"])
+    assert sorted(places["show"] + places["balances"]) == list(range(8, 128))
+
+
+def slow(folder: Path) -> list[str]:
+    (folder / "slow.py").write_text(SLOW)
+    return [sys.executable, "slow.py"]
+
+
+def test_a_plan_lets_others_wait(serve, tmp_path: Path) -> None:
+    server = serve(program=slow(tmp_path))
+    with Caller(server.path) as planner, Caller(server.path) as other:
+        planner.send('{"do":"plan"}')
+        until((tmp_path / "seeking").exists)
+        other.send('{"do":"night"}')
+        other.socket.settimeout(0.2)
+        with pytest.raises(TimeoutError):
+            other.socket.recv(1)
+        (tmp_path / "found").touch()
+        assert [json.loads(text).get("no", 0) for text in planner.read(2)] == [0, 38]
+    assert server.written("lines")[:1] == ['{"do":"plan"}']
+    until(lambda: len(server.written("replies")) == 3)
+
+
+def test_sigterm_has_the_line_replied_to_and_takes_no_more(serve, tmp_path: Path) -> None:
+    server = serve(program=slow(tmp_path))
+    with Caller(server.path) as planner, Caller(server.path) as other:
+        planner.send('{"do":"plan"}', '{"do":"night"}')
+        until((tmp_path / "seeking").exists)
+        other.send('{"do":"night"}')
+        server.process.terminate()
+        with pytest.raises(subprocess.TimeoutExpired):
+            server.process.wait(0.2)
+        (tmp_path / "found").touch()
+        assert [json.loads(text)["line"] for text in planner.read(2)] == [1, 1]
+        assert (planner.rest(), other.rest()) == (b"", b"")
+        assert server.process.wait(20) == 0
+    assert server.written("lines") == ['{"do":"plan"}'] and not server.path.exists()
+
+
+@pytest.mark.parametrize("number, status", [(signal.SIGTERM, 0), (signal.SIGINT, 130)])
+def test_a_signal_ends_an_idle_server(serve, number: int, status: int) -> None:
+    server = serve()
+    with Caller(server.path) as caller:
+        assert caller.ask(LINES[0]) == REPLIES[:1]
+        program = server.desk_program()
+        server.process.send_signal(number)
+        assert (caller.rest(), server.process.wait(20)) == (b"", status)
+    assert not server.path.exists() and not Path(f"/proc/{program}").exists()
+    assert server.told()[2:] == (["interrupted"] if status else [])
+
+
+def test_a_second_signal_ends_it_at_once(serve, tmp_path: Path) -> None:
+    server = serve(program=slow(tmp_path))
+    with Caller(server.path) as caller:
+        caller.send('{"do":"plan"}')
+        until((tmp_path / "seeking").exists)
+        server.process.terminate()
+        with pytest.raises(subprocess.TimeoutExpired):
+            server.process.wait(0.2)
+        server.process.terminate()
+        assert server.process.wait(20) == -signal.SIGTERM
+    (tmp_path / "found").touch()
+
+
+def test_a_torn_last_piece_is_no_line(serve) -> None:
+    server = serve()
+    with Caller(server.path) as caller:
+        caller.socket.sendall(f'{LINES[0]}\n{{"do":"bal'.encode())
+        caller.socket.shutdown(socket.SHUT_WR)
+        assert caller.rest().decode() == f"{REPLIES[0]}\n"
+    until(lambda: server.says("connection 1: it ended with 10 bytes without a newline, which are no line"))
+    assert server.written("lines") == LINES[:1]
+
+
+def test_a_connection_that_leaves_early_has_its_lines_done(serve) -> None:
+    server = serve()
+    with Caller(server.path) as caller:
+        caller.send(*LINES[:7])
+    until(lambda: len(server.written("replies")) == 7)
+    with Caller(server.path) as caller:
+        assert caller.ask(LINES[7], 2) == REPLIES[7:9]
+    assert server.written("replies") == REPLIES[:9]
+
+
+def test_lines_that_cannot_be_passed_on_end_their_connection_alone(serve) -> None:
+    server = serve()
+    with Caller(server.path) as other:
+        assert other.ask(LINES[0]) == REPLIES[:1]
+        for bad in (b'{"do":"\xff"}\n', b" " * (LONGEST + 2)):
+            with Caller(server.path) as caller:
+                caller.send(LINES[1])
+                caller.socket.sendall(bad)
+                assert json.loads(caller.read(1)[0])["line"] > 1
+                assert caller.rest() == b""
+        replies = [json.loads(other.ask(line)[0]) for line in ('{"do":"\0"}', "", " " * LONGEST, '{"do":"\u2028"}')]
+    assert [reply["line"] for reply in replies] == [4, 5, 6, 7] and all(reply["no"] for reply in replies)
+    until(lambda: server.says("connection 3: a line of more than 1048576 bytes isn't done"))
+    assert server.says("connection 2: a line of 10 bytes: not a text in UTF-8: it isn't done, and the connection is")
+    assert len((server.folder / "night.lines.jsonl").read_bytes().split(b"\n")) == 8
+
+
+def test_a_kill_loses_nothing(serve) -> None:
+    server = serve()
+    with Caller(server.path) as caller:
+        caller.send(*LINES)
+        assert caller.read(10) == REPLIES
+        program = server.desk_program()
+        server.process.kill()
+        os.kill(program, signal.SIGKILL)
+        assert caller.rest() == b""
+    server.process.wait(20)
+    assert server.path.exists()
+    again = serve()
+    assert again.told() == [
+        "lines that were done again: 9, published plans among them: 1",
+        "listening at night.socket",
+    ]
+    with Caller(again.path) as caller:
+        export = json.loads(caller.ask(LINES[8])[0])
+        assert export == {**json.loads(REPLIES[9]), "line": 10}
+    assert again.end() == 0
+    assert serve().told()[0] == "lines that were done again: 10, published plans among them: 1"
+
+
+def test_a_program_that_ends_ends_the_server(serve) -> None:
+    server = serve()
+    with Caller(server.path) as caller, Caller(server.path) as other:
+        assert caller.ask(LINES[0]) == REPLIES[:1]
+        os.kill(server.desk_program(), signal.SIGKILL)
+        caller.send(LINES[1])
+        assert (caller.rest(), other.rest(), server.process.wait(20)) == (b"", b"", 9)
+    assert server.says("was ended by SIGKILL before it replied to all lines") and not server.path.exists()
+    again = serve()
+    told = again.told()
+    if len(server.written("lines")) > 1:
+        assert told[1:3] == ["lines that aren't done, and are to be sent again by whoever sent them:", LINES[1]]
+    os.kill(again.desk_program(), signal.SIGKILL)
+    assert again.process.wait(20) == 9
+
+
+def test_a_program_that_is_silent_ends_the_server(serve) -> None:
+    server = serve("--timeout", "0.2", program=[sys.executable, "-c", "import sys; sys.stdin.read()"])
+    with Caller(server.path) as caller:
+        caller.send(LINES[0])
+        assert (caller.rest(), server.process.wait(20)) == (b"", 9)
+    assert server.says("didn't answer within 0.2 s")
+    again = serve()
+    assert again.told()[1:3] == ["lines that aren't done, and are to be sent again by whoever sent them:", LINES[0]]
+
+
+def test_a_second_server_on_the_journal_is_refused(serve, netsched, tmp_path: Path, capfd) -> None:
+    server = serve()
+    words = ["serve", str(tmp_path / "night"), "--program", shlex.join(netsched)]
+    assert cli.main(words) == 3
+    assert capfd.readouterr().err == f"purvelj: {tmp_path}/night.lines.jsonl: another desk writes it\n"
+    with Caller(server.path) as caller:
+        assert caller.ask(LINES[0]) == REPLIES[:1]
+    assert cli.main([*words[:1], str(tmp_path / "dawn"), *words[2:], "--socket", str(server.path)]) == 3
+    assert capfd.readouterr().err.endswith(f"purvelj: {server.path}: another server listens there\n")
+    assert server.end() == 0 and not server.path.exists()
+
+
+def test_a_port_is_listened_at(serve) -> None:
+    server = serve("--port", "0")
+    found = re.fullmatch("listening at port ([0-9]+) of 127.0.0.1", server.told()[-1])
+    assert found
+    with Caller(("127.0.0.1", int(found[1]))) as caller:
+        assert caller.ask(LINES[0]) == REPLIES[:1]
+    assert server.end() == 0 and not server.path.exists()
+
+
+def test_a_socket_is_replaced_only_where_nobody_listens(tmp_path: Path) -> None:
+    path = str(tmp_path / "socket")
+    with listen_at_path(path):
+        with pytest.raises(FileError, match="socket: another server listens there"):
+            listen_at_path(path)
+    assert not os.path.lexists(path)
+    with socket.socket(socket.AF_UNIX) as left:
+        left.bind(path)
+    with listen_at_path(path) as listener:
+        os.rename(path, tmp_path / "moved")
+        (tmp_path / "socket").write_text("another's")
+    assert listener.socket.fileno() == -1 and (tmp_path / "socket").read_text() == "another's"
+    with pytest.raises(FileError, match="socket: it is there already, and is no socket"):
+        listen_at_path(path)
+    with pytest.raises(FileError, match="nowhere/socket: can't be listened at: No such file"):
+        listen_at_path(str(tmp_path / "nowhere" / "socket"))
+    with pytest.raises(FileError, match="can't be listened at: AF_UNIX path too long"):
+        listen_at_path(str(tmp_path / ("long" * 30)))
+
+
+def test_a_caller_that_does_not_read_holds_up_nobody_else(netsched, tmp_path: Path, monkeypatch) -> None:
+    monkeypatch.setattr("purvelj.serve.GRACE", 0.2)
+    group = json.loads(LINES[6])["group"]
+    group = {**group, "operator": "MANY", "requests": group["requests"] * 32}
+    told: list[str] = []
+    with Desk(netsched, journal=tmp_path / "night") as desk, listen_at_path(str(tmp_path / "socket")) as listener:
+        desk.replay([*LINES[:5], LINES[5].replace("1000", "1000000")])
+        desk.submit(group)
+        server = Server(desk, listener, told.append)
+        running = threading.Thread(target=server.run)
+        running.start()
+        with Caller(tmp_path / "socket") as deaf, Caller(tmp_path / "socket") as other:
+            deaf.send(*['{"do":"show","group_number":1}'] * 500)
+            until(lambda: (tmp_path / "night.replies.jsonl").stat().st_size > 60_000)
+            assert json.loads(other.ask('{"do":"balances"}')[0])["ok"] == "balances"
+            server.stop()
+            running.join(20)
+            assert not running.is_alive() and other.rest() == b""
+        assert len(desk.history.exchanges) < 500
+    assert told == []
+
+
+@pytest.mark.parametrize("words", [("--host", "::1"), ("--port", "1", "--socket", "s"), ("--port", "65536")])
+def test_words_that_do_not_go_together_are_refused(words: tuple[str, ...], capfd) -> None:
+    assert cli.main(["serve", "night", *words]) == 2
+    assert "purvelj" in capfd.readouterr().err
