@@ -96,8 +96,9 @@ def listen_at_port(host: str, port: int) -> Listener:
     try:
         family = socket.getaddrinfo(host, port, type=socket.SOCK_STREAM)[0][0]
         listening = socket.create_server((host, port), family=family)
-    except OSError as fault:
-        raise FileError(f"port {port} of {host}: can't be listened at: {fault.strerror or fault}") from None
+    except (OSError, UnicodeError) as fault:
+        words = getattr(fault, "strerror", None) or fault
+        raise FileError(f"port {port} of {host}: can't be listened at: {words}") from None
     return Listener(listening, f"port {listening.getsockname()[1]} of {host}")
 
 

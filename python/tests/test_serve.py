@@ -5,6 +5,7 @@ from __future__ import annotations
 import json
 import os
 import re
+import resource
 import shlex
 import signal
 import socket
@@ -13,6 +14,7 @@ import subprocess
 import sys
 import threading
 import time
+from contextlib import suppress
 from pathlib import Path
 from typing import Callable
 
@@ -34,7 +36,9 @@ for place, line in enumerate(sys.stdin, start=1):
     if json.loads(line)["do"] == "plan":
         print(json.dumps({**heads, "ok": "taken"}), flush=True)
         pathlib.Path("seeking").touch()
-        while not pathlib.Path("found").exists():
+        for _ in range(3000):
+            if pathlib.Path("found").exists():
+                break
             time.sleep(0.01)
         print(json.dumps({**heads, "no": 38, "refused": "TooManyStarts", "count": 2000000}), flush=True)
     else:
@@ -115,6 +119,12 @@ class Served:
     def written(self, kind: str) -> list[str]:
         """The lines or the replies of its journal."""
         return (self.folder / f"night.{kind}.jsonl").read_text(encoding="utf-8").splitlines()
+
+    def stop(self) -> None:
+        """Sends SIGTERM and waits until its handler has run, after which another one isn't caught."""
+        self.process.terminate()
+        status = Path(f"/proc/{self.process.pid}/status")
+        until(lambda: not int(status.read_text().split("SigCgt:")[1].split()[0], 16) >> (signal.SIGTERM - 1) & 1)
 
     def end(self) -> int:
         self.process.terminate()
@@ -203,9 +213,8 @@ def test_sigterm_has_the_line_replied_to_and_takes_no_more(serve, tmp_path: Path
         planner.send('{"do":"plan"}', '{"do":"night"}')
         until((tmp_path / "seeking").exists)
         other.send('{"do":"night"}')
-        server.process.terminate()
-        with pytest.raises(subprocess.TimeoutExpired):
-            server.process.wait(0.2)
+        server.stop()
+        assert server.process.poll() is None
         (tmp_path / "found").touch()
         assert [json.loads(text)["line"] for text in planner.read(2)] == [1, 1]
         assert (planner.rest(), other.rest()) == (b"", b"")
@@ -222,7 +231,9 @@ def test_a_signal_ends_an_idle_server(serve, number: int, status: int) -> None:
         server.process.send_signal(number)
         assert (caller.rest(), server.process.wait(20)) == (b"", status)
     assert not server.path.exists() and not Path(f"/proc/{program}").exists()
-    assert server.told()[2:] == (["interrupted"] if status else [])
+    said = server.told()
+    assert said[:2] == ["no line of the journal was done, so the desk is a new one", "listening at night.socket"]
+    assert said[2:] == (["interrupted"] if status else [])
 
 
 def test_a_second_signal_ends_it_at_once(serve, tmp_path: Path) -> None:
@@ -230,9 +241,8 @@ def test_a_second_signal_ends_it_at_once(serve, tmp_path: Path) -> None:
     with Caller(server.path) as caller:
         caller.send('{"do":"plan"}')
         until((tmp_path / "seeking").exists)
-        server.process.terminate()
-        with pytest.raises(subprocess.TimeoutExpired):
-            server.process.wait(0.2)
+        server.stop()
+        assert server.process.poll() is None
         server.process.terminate()
         assert server.process.wait(20) == -signal.SIGTERM
     (tmp_path / "found").touch()
@@ -265,7 +275,8 @@ def test_lines_that_cannot_be_passed_on_end_their_connection_alone(serve) -> Non
         for bad in (b'{"do":"\xff"}\n', b" " * (LONGEST + 2)):
             with Caller(server.path) as caller:
                 caller.send(LINES[1])
-                caller.socket.sendall(bad)
+                with suppress(ConnectionError):
+                    caller.socket.sendall(bad)
                 assert json.loads(caller.read(1)[0])["line"] > 1
                 assert caller.rest() == b""
         replies = [json.loads(other.ask(line)[0]) for line in ('{"do":"\0"}', "", " " * LONGEST, '{"do":"\u2028"}')]
@@ -306,12 +317,13 @@ def test_a_program_that_ends_ends_the_server(serve) -> None:
         caller.send(LINES[1])
         assert (caller.rest(), other.rest(), server.process.wait(20)) == (b"", b"", 9)
     assert server.says("was ended by SIGKILL before it replied to all lines") and not server.path.exists()
-    again = serve()
-    told = again.told()
-    if len(server.written("lines")) > 1:
-        assert told[1:3] == ["lines that aren't done, and are to be sent again by whoever sent them:", LINES[1]]
-    os.kill(again.desk_program(), signal.SIGKILL)
-    assert again.process.wait(20) == 9
+
+
+def test_a_program_that_ends_while_nobody_sends_ends_the_server(serve) -> None:
+    server = serve()
+    os.kill(server.desk_program(), signal.SIGKILL)
+    assert server.process.wait(20) == 9
+    assert server.says("was ended by SIGKILL")
 
 
 def test_a_program_that_is_silent_ends_the_server(serve) -> None:
@@ -320,8 +332,12 @@ def test_a_program_that_is_silent_ends_the_server(serve) -> None:
         caller.send(LINES[0])
         assert (caller.rest(), server.process.wait(20)) == (b"", 9)
     assert server.says("didn't answer within 0.2 s")
-    again = serve()
-    assert again.told()[1:3] == ["lines that aren't done, and are to be sent again by whoever sent them:", LINES[0]]
+    assert serve().told() == [
+        "no line of the journal was done, so the desk is a new one",
+        "lines that aren't done, and are to be sent again by whoever sent them:",
+        LINES[0],
+        "listening at night.socket",
+    ]
 
 
 def test_a_second_server_on_the_journal_is_refused(serve, netsched, tmp_path: Path, capfd) -> None:
@@ -336,12 +352,31 @@ def test_a_second_server_on_the_journal_is_refused(serve, netsched, tmp_path: Pa
     assert server.end() == 0 and not server.path.exists()
 
 
-def test_a_port_is_listened_at(serve) -> None:
+def test_a_server_without_a_file_to_spare_goes_on(serve) -> None:
+    server = serve()
+    with Caller(server.path) as first:
+        assert first.ask(LINES[0]) == REPLIES[:1]
+        before = resource.prlimit(server.process.pid, resource.RLIMIT_NOFILE)
+        taken = os.listdir(f"/proc/{server.process.pid}/fd")
+        most = next(number for number in range(len(taken) + 1) if str(number) not in taken)
+        resource.prlimit(server.process.pid, resource.RLIMIT_NOFILE, (most, before[1]))
+        with Caller(server.path) as second:
+            until(lambda: server.says("a connection can't be taken: [Errno 24] Too many open files"))
+            assert first.ask(LINES[1]) == REPLIES[1:2]
+            resource.prlimit(server.process.pid, resource.RLIMIT_NOFILE, before)
+            assert second.ask(LINES[2]) == REPLIES[2:3]
+
+
+def test_a_port_is_listened_at(serve, capfd, tmp_path: Path) -> None:
     server = serve("--port", "0")
     found = re.fullmatch("listening at port ([0-9]+) of 127.0.0.1", server.told()[-1])
     assert found
     with Caller(("127.0.0.1", int(found[1]))) as caller:
         assert caller.ask(LINES[0]) == REPLIES[:1]
+    for host, port in (("127.0.0.1", found[1]), ("a..b", "0")):
+        words = ["--port", port, "--host", host, "--program", "cat"]
+        assert cli.main(["serve", str(tmp_path / f"{host}.night"), *words]) == 3
+        assert f"port {port} of {host}: can't be listened at: " in capfd.readouterr().err
     assert server.end() == 0 and not server.path.exists()
 
 

@@ -84,7 +84,10 @@ def _tell_done(desk: Desk) -> None:
 
     done = desk.history.exchanges
     plans = sum(is_plan(exchange) for exchange in done)
-    _tell(f"lines that were done again: {len(done)}, published plans among them: {plans}")
+    if done:
+        _tell(f"lines that were done again: {len(done)}, published plans among them: {plans}")
+    else:
+        _tell("no line of the journal was done, so the desk is a new one")
     if desk.unanswered:
         _tell("lines that aren't done, and are to be sent again by whoever sent them:")
         for line in desk.unanswered:
