@@ -108,7 +108,7 @@ class Server:
     def __init__(self, desk: Desk, listener: Listener, tell: Callable[[str], None]) -> None:
         self._desk = desk
         self._listener = listener
-        self._tell = tell
+        self.tell = tell
         self._stopping = False
         self._inbox: queue.SimpleQueue[tuple[_Connection, str] | None] = queue.SimpleQueue()
         self._connections: set[_Connection] = set()
@@ -131,6 +131,10 @@ class Server:
         """Ends ``run`` once the line that is being done is replied to. A signal's handler may call it."""
         self._stopping = True
         self._inbox.put(None)
+
+    def hand_in(self, connection: _Connection, line: str) -> None:
+        """Takes a line, which is done when it is its turn; the connection's ``replies`` get the replies to it."""
+        self._inbox.put((connection, line))
 
     def _do_next(self) -> None:
         """Does the line that was handed in first, or sees that the desk's program still runs."""
@@ -155,7 +159,7 @@ class Server:
                 self._begin(taken, f"connection {number}")
             except (OSError, RuntimeError) as fault:
                 if not self._stopping:
-                    self._tell(f"a connection can't be taken: {fault}")
+                    self.tell(f"a connection can't be taken: {fault}")
                     # Without a file or a thread to spare it would fail again at once.
                     time.sleep(WATCH)
 
@@ -166,11 +170,12 @@ class Server:
         try:
             connection.start()
         except RuntimeError:
-            self._forget(connection)
+            self.forget(connection)
             taken.close()
             raise
 
-    def _forget(self, connection: _Connection) -> None:
+    def forget(self, connection: _Connection) -> None:
+        """Leaves a connection that has ended."""
         with self._lock:
             self._connections.discard(connection)
 
@@ -204,13 +209,13 @@ class _Connection(threading.Thread):
         try:
             with self._socket, self._socket.makefile("rb") as source:
                 for line in self._lines(source):
-                    self._server._inbox.put((self, line))
+                    self._server.hand_in(self, line)
                     replies = self.replies.get()
                     if replies is None:
                         break
                     self._write(replies)
         finally:
-            self._server._forget(self)
+            self._server.forget(self)
 
     def end(self, how: int) -> None:
         """Ends it from another thread: no more is read, or neither read nor written."""
@@ -227,7 +232,7 @@ class _Connection(threading.Thread):
             try:
                 line = decoded(piece[:-1], f"{self.name}: a line of {len(piece) - 1} bytes", "surrogatepass")
             except FileError as fault:
-                self._server._tell(f"{fault}: it isn't done, and the connection is closed")
+                self._server.tell(f"{fault}: it isn't done, and the connection is closed")
                 return
             yield line
 
@@ -237,7 +242,7 @@ class _Connection(threading.Thread):
             text = f"a line of more than {LONGEST} bytes isn't done, and the connection is closed"
         else:
             text = f"it ended with {len(piece)} bytes without a newline, which are no line and aren't done"
-        self._server._tell(f"{self.name}: {text}")
+        self._server.tell(f"{self.name}: {text}")
 
     def _write(self, replies: Sequence[str]) -> None:
         """Writes replies. Where whoever sent the line has left, they are in the journal alone."""
