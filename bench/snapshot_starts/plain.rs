@@ -14,7 +14,8 @@ use std::time::Instant;
 const TELESCOPES: u16 = 32;
 const REQUESTS: u16 = 1_024;
 const NIGHTS: u64 = 8;
-const ROUNDS: usize = 5;
+const ROUNDS: u32 = 5;
+const TELESCOPES_AT_A_SITE: u16 = 8;
 const MOST_STARTS: u64 = 1_048_576;
 
 struct Request {
@@ -231,21 +232,23 @@ fn nights() -> Vec<Span> {
         .collect()
 }
 
-fn snapshot() -> Snapshot {
+/// A snapshot with a horizon from this slice on, and so many telescopes at a site.
+fn snapshot(first: u32, at_a_site: u16) -> Snapshot {
     let targets = 0..REQUESTS;
+    let sites = 0..TELESCOPES / at_a_site;
     Snapshot {
         len: 300,
-        first: 0,
+        first,
         slices: 1_440,
         telescopes: (0..TELESCOPES)
-            .map(|site| Telescope {
-                site,
+            .map(|telescope| Telescope {
+                site: telescope / at_a_site,
                 usable: nights(),
             })
             .collect(),
         skies: targets
             .clone()
-            .flat_map(|target| (0..TELESCOPES).map(move |site| sky_at(target, site)))
+            .flat_map(|target| sites.clone().map(move |site| sky_at(target, site)))
             .collect(),
         requests: targets
             .map(|target| Request {
@@ -262,15 +265,23 @@ fn snapshot() -> Snapshot {
     }
 }
 
+/// Lists the starts, and says how long that takes under this name.
+fn time_starts(name: &str, snapshot: &Snapshot) {
+    let start = Instant::now();
+    let starts = snapshot.starts();
+    let time = start.elapsed();
+    let starts = black_box(starts).expect("there are few enough starts");
+    let (request, telescope, slice) = starts.at(starts.count() / 2);
+    println!("listed {} {request} {telescope} {slice}", starts.count());
+    println!("{name} {}", time.as_nanos());
+}
+
 fn main() {
-    let snapshot = black_box(snapshot());
+    let first = black_box(snapshot(0, 1));
     for _ in 0..ROUNDS {
-        let start = Instant::now();
-        let starts = snapshot.starts();
-        let time = start.elapsed();
-        let starts = black_box(starts).expect("there are few enough starts");
-        let (request, telescope, slice) = starts.at(starts.count() / 2);
-        println!("listed {} {request} {telescope} {slice}", starts.count());
-        println!("starts {}", time.as_nanos());
+        time_starts("starts", &first);
+    }
+    for slice in 1..=ROUNDS {
+        time_starts("mends", &black_box(snapshot(slice, TELESCOPES_AT_A_SITE)));
     }
 }

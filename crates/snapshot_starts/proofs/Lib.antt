@@ -9,3 +9,7 @@ pub mod RunParts
 pub mod RunSums
 pub mod FoundPairs
 pub mod FoundRuns
+pub mod Alike
+pub mod Mending
+pub mod Keeping
+pub mod HeldRuns

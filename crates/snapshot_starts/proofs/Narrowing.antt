@@ -18,10 +18,10 @@ use Rattle.snapshot_starts.specs.Pairs.{IsTimely, IsOpen}
 use Rattle.plan_base.proofs.Skies.{seen_by, seen_one}
 use Rattle.snapshot_starts.proofs.Sets.{set_slices, meet_slices, same_slices}
 
-or_false : (b : Bool) → (b || false) ≡ b
+pub or_false : (b : Bool) → (b || false) ≡ b
 or_false b = grind arith
 
-has_one : (w : Span) (k : ℕ) → has (w ∷ []) k ≡ span_has w k
+pub has_one : (w : Span) (k : ℕ) → has (w ∷ []) k ≡ span_has w k
 has_one w k = or_false (span_has w k)
 
 pub timely_set : (s : Parts) (q : RequestPart) (horizon : Span) (within inside meet : List Span) → IsHorizonFor s q.seconds horizon → IsSetOf (has (horizon ∷ [])) within

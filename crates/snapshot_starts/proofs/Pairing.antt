@@ -16,13 +16,13 @@ use Rattle.plan_base.proofs.SpanStarts.{by_spans_from_possible, possible_from_by
 use Rattle.snapshot_starts.specs.Pairs.{CanStart}
 
 -- what is known of request r is what stands in q
-record IsPart (s : Parts) (r : ℕ) (q : RequestPart) : Type 0 where
-  seconds : seconds_of s r ≡ q.seconds
-  windows : windows_of s r ≡ q.windows
-  telescopes : telescopes_of s r ≡ q.telescopes
-  targets : targets_of s r ≡ q.targets
+pub record IsPart (s : Parts) (r : ℕ) (q : RequestPart) : Type 0 where
+  pub seconds : seconds_of s r ≡ q.seconds
+  pub windows : windows_of s r ≡ q.windows
+  pub telescopes : telescopes_of s r ≡ q.telescopes
+  pub targets : targets_of s r ≡ q.targets
 
-is_part : (s : Parts) (r place : ℕ) (q : RequestPart) → IsKnown s r → place ≡ place_of s r → HoldsAt (λ x. x.request ≡ q) (listed s) place → IsPart s r q
+pub is_part : (s : Parts) (r place : ℕ) (q : RequestPart) → IsKnown s r → place ≡ place_of s r → HoldsAt (λ x. x.request ≡ q) (listed s) place → IsPart s r q
 is_part s r place q known at holds =
     let found = known_as s r known in
     let x : Listed = found.0 in

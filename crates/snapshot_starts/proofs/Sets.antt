@@ -32,13 +32,13 @@ pub floor_iff : (m b k : ℕ) → 0 < b → (k < m / b + 1) ↔ (k * b ≤ m)
 floor_iff m b k pos = let both = le-div_iff_mul-le {k = b} {x = k} {y = m} pos in (λ lt. both.0 (omega arith), λ le. let q : k ≤ m / b = both.1 le in omega arith)
 
 -- an element of one of the spans, and one of the list
-any_left : (P : Span → Type 0) (xs : List Span) (x : Span) → Any P xs → Any P (xs ++ x ∷ [])
+pub any_left : {X : Type 0} (P : X → Type 0) (xs : List X) (x : X) → Any P xs → Any P (xs ++ x ∷ [])
 any_left P xs x (k, y, l, e, p) = let c : Contains (xs ++ x ∷ []) y = Contains-append_left xs (x ∷ []) y (k, l, e) in (c.0, y, c.1, c.2, p)
 
-any_last : (P : Span → Type 0) (xs : List Span) (x : Span) → P x → Any P (xs ++ x ∷ [])
+pub any_last : {X : Type 0} (P : X → Type 0) (xs : List X) (x : X) → P x → Any P (xs ++ x ∷ [])
 any_last P xs x p = let c : Contains (xs ++ x ∷ []) x = Contains-push xs x in (c.0, x, c.1, c.2, p)
 
-any_cases : (P : Span → Type 0) (xs : List Span) (x : Span) → Any P (xs ++ x ∷ []) → Any P xs ⊎ P x
+pub any_cases : {X : Type 0} (P : X → Type 0) (xs : List X) (x : X) → Any P (xs ++ x ∷ []) → Any P xs ⊎ P x
 any_cases P xs x (k, y, l, e, p) = elim (Contains-push_cases xs x y (k, l, e)) [
   | inl c ↦ inl (c.0, y, c.1, c.2, p)
   | inr same ↦ inr (subst P (sym same) p)
@@ -51,17 +51,17 @@ pub record AreSlicesOf (len d : ℕ) (spans slices : List Span) : Type 0 where
 pub no_slices_yet : (len d : ℕ) → AreSlicesOf len d [] []
 no_slices_yet len d = record { each = λ k. (λ yes. absurd (false≢true yes), λ has. absurd (omega (arith, has.2))) }
 
-or_true_left : (a b : Bool) → a ≡ true → (a || b) ≡ true
+pub or_true_left : (a b : Bool) → a ≡ true → (a || b) ≡ true
 or_true_left a b h = grind arith
 
-or_true_right : (a b : Bool) → b ≡ true → (a || b) ≡ true
+pub or_true_right : (a b : Bool) → b ≡ true → (a || b) ≡ true
 or_true_right a b h = grind arith
 
-or_true_cases : (a b : Bool) → (a || b) ≡ true → (a ≡ true) ⊎ (b ≡ true)
+pub or_true_cases : (a b : Bool) → (a || b) ≡ true → (a ≡ true) ⊎ (b ≡ true)
 or_true_cases true b h = inl refl
 or_true_cases false b h = inr h
 
-has_push : (slices : List Span) (w : Span) (k : ℕ) → has (slices ++ w ∷ []) k ≡ (has slices k || span_has w k)
+pub has_push : (slices : List Span) (w : Span) (k : ℕ) → has (slices ++ w ∷ []) k ≡ (has slices k || span_has w k)
 has_push slices w k = list_any-append (λ s. span_has s k) slices (w ∷ []) ∙ grind arith
 
 pub more_slices : (len d : ℕ) (spans slices : List Span) (w ws : Span) → AreSlicesOf len d spans slices → AreSlicesIn len d w ws → AreSlicesOf len d (spans ++ w ∷ []) (slices ++ ws ∷ [])
@@ -90,7 +90,7 @@ set_slices P spans set each is = record {
   sorted = is.sorted;
 }
 
-and_true : (a b : Bool) → a ≡ true → b ≡ true → (a && b) ≡ true
+pub and_true : (a b : Bool) → a ≡ true → b ≡ true → (a && b) ≡ true
 and_true a b h g = grind arith
 
 pub meet_slices : (P Q : ℕ → Type 0) (a b meet : List Span) → ((k : ℕ) → IsTrue (has a k) ↔ P k) → ((k : ℕ) → IsTrue (has b k) ↔ Q k) → IsMeet a b meet → AreSlices (λ k. P k × Q k) meet

@@ -3,3 +3,4 @@ pub mod Kept
 pub mod Pairs
 pub mod Slices
 pub mod Found
+pub mod Mending

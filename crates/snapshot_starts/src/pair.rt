@@ -1,9 +1,8 @@
 // Each request with each of its telescopes.
 
 ghost use Rattle.std.specs.Prelude.{◌≡◌, ◌++◌, IfOk, OnOk};
-ghost use Rattle.snapshot_starts.specs.Pairs.{pairs_of, pairs_of_request, ArePairSlices};
+ghost use Rattle.snapshot_starts.specs.Pairs.{pairs_of, pairs_of_request};
 
-use crate::slices::start_slices;
 use interval_set::Spans;
 use plan_base::{RequestNo, RequestPart, Snapshot, TelescopeNo};
 use std::alloc::{AllocError, Global};
@@ -43,23 +42,4 @@ fn push_pairs(pairs: &mut Vec<Pair>, request: &RequestPart) -> Result<(), AllocE
         })?;
     }
     Ok(())
-}
-
-/// The slices at which the pair has a possible start.
-pub(crate) fn slices_of_pair(
-    alloc: Global,
-    snapshot: &Snapshot,
-    pair: Pair,
-) -> Result<PairSlices, AllocError>
-    ensures pair { IfOk result (λ x. x.pair ≡ pair) }
-    ensures slices { IfOk result (ArePairSlices snapshot.now) }
-{
-    let parts = snapshot.parts();
-    let Some(place) = snapshot.place_of(pair.request) else {
-        let slices = Spans::empty(alloc);
-        return Ok(PairSlices { pair, slices });
-    };
-    let request = snapshot.request_at(place);
-    let slices = start_slices(alloc, parts, request, pair.telescope)?;
-    Ok(PairSlices { pair, slices })
 }

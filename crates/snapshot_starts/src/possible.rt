@@ -30,7 +30,12 @@ pub fn is_possible(snapshot: &Snapshot, placement: Placement) -> bool
 }
 
 /// Whether the request may start on the telescope at the slice.
-fn can_start(parts: &Parts, request: &RequestPart, telescope: TelescopeNo, slice: SliceNo) -> bool
+pub(crate) fn can_start(
+    parts: &Parts,
+    request: &RequestPart,
+    telescope: TelescopeNo,
+    slice: SliceNo,
+) -> bool
     requires orderly { IsOrderly parts.now }
     requires seconds { request.now.seconds ≤ most_seconds }
     ensures { IsTrue result ↔ CanStart parts.now request.now telescope slice.0 }

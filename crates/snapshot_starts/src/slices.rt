@@ -71,10 +71,11 @@ fn timely_slices(alloc: Global, parts: &Parts, request: &RequestPart) -> Result<
 }
 
 /// The slices at which an observation begins that lies within the horizon.
-fn horizon_for(parts: &Parts, seconds: u32) -> Span
+pub(crate) fn horizon_for(parts: &Parts, seconds: u32) -> Span
     requires orderly { IsOrderly parts.now }
     requires seconds { seconds ≤ most_seconds }
-    ensures { IsHorizonFor parts.now seconds result }
+    ensures horizon { IsHorizonFor parts.now seconds result }
+    ensures to { result.to.0 ≤ parts.now.first.0 + parts.now.slices + 1 }
 {
     let size = slices_for(u64::from(parts.len), u64::from(seconds));
     let first = u64::from(parts.first.0);

@@ -9,7 +9,7 @@ use std::test::Fail;
 use std::thread::Threads;
 
 /// A run of request 1 on telescope 0.
-fn run(first: u32, count: u32) -> Run {
+pub(super) fn run(first: u32, count: u32) -> Run {
     Run {
         request: RequestNo(1),
         telescope: TelescopeNo(0),
@@ -18,12 +18,12 @@ fn run(first: u32, count: u32) -> Run {
     }
 }
 
-fn telescope_of(usable: &[(u64, u64)]) -> TelescopeWish {
+pub(super) fn telescope_of(usable: &[(u64, u64)]) -> TelescopeWish {
     TelescopeWish { usable }
 }
 
 /// A request of value 1 that doesn't fade.
-fn wish_for<'a>(
+pub(super) fn wish_for<'a>(
     seconds: u32,
     windows: &'a [(u64, u64)],
     telescopes: &'a [TelescopeNo],
@@ -37,7 +37,7 @@ fn wish_for<'a>(
     }
 }
 
-const NIGHT: [(u64, u64); 1] = [(0, 3600)];
+pub(super) const NIGHT: [(u64, u64); 1] = [(0, 3600)];
 
 /// Asserts that a request of two slices in the night has these runs, with twelve slices of 300 seconds.
 fn check_runs<'a, R: Threads + Sync + Abort>(
@@ -61,7 +61,7 @@ fn check_runs<'a, R: Threads + Sync + Abort>(
     Ok(())
 }
 
-const ONE: [TelescopeNo; 1] = [TelescopeNo(0)];
+pub(super) const ONE: [TelescopeNo; 1] = [TelescopeNo(0)];
 
 #[test]
 fn a_closure_cuts_a_run_in_two(rt: HostRuntime) -> Result<(), Fail> {
@@ -74,7 +74,7 @@ fn a_closure_cuts_a_run_in_two(rt: HostRuntime) -> Result<(), Fail> {
     check_runs(&rt, alloc, &reopened, request, &[run(0, 11)])
 }
 
-fn all_telescopes(alloc: Global) -> Result<Vec<TelescopeNo>, AllocError> {
+pub(super) fn all_telescopes(alloc: Global) -> Result<Vec<TelescopeNo>, AllocError> {
     let mut telescopes = Vec::new(alloc);
     for number in 0..32u16 {
         telescopes.push(TelescopeNo(number))?;
@@ -83,7 +83,10 @@ fn all_telescopes(alloc: Global) -> Result<Vec<TelescopeNo>, AllocError> {
 }
 
 /// The full horizon on 32 telescopes, with these requests of one slice each.
-fn full_desk<'a>(telescopes: &'a [TelescopeWish<'a>], wishes: &'a [Wish<'a>]) -> Desk<'a> {
+pub(super) fn full_desk<'a>(
+    telescopes: &'a [TelescopeWish<'a>],
+    wishes: &'a [Wish<'a>],
+) -> Desk<'a> {
     Desk {
         len: 300,
         first: 0,
@@ -94,7 +97,7 @@ fn full_desk<'a>(telescopes: &'a [TelescopeWish<'a>], wishes: &'a [Wish<'a>]) ->
     }
 }
 
-const WHOLE: [(u64, u64); 1] = [(0, 432_000)];
+pub(super) const WHOLE: [(u64, u64); 1] = [(0, 432_000)];
 
 #[test]
 fn too_many_starts_are_counted(rt: HostRuntime) -> Result<(), Fail> {

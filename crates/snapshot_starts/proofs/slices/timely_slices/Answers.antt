@@ -12,4 +12,4 @@ returns c =
     let q = c.args.request.now in
     let inside : AreSlices (λ k. HasAll q.windows (k * s.len) (k * s.len + q.seconds)) c.in_ok-inside.inside =
     subst (λ (windows : List Span). AreSlices (λ k. HasAll windows (k * s.len) (k * s.len + q.seconds)) c.in_ok-inside.inside) c.as_slice-windows.ensures c.in_ok-inside.ensures in
-    IfOk-weaker c.meet.result _ _ (λ meet is. timely_set s q c.horizon_for-horizon.result c.in_ok-within.within c.in_ok-inside.inside meet c.horizon_for-horizon.ensures c.in_ok-within.ensures inside is) c.meet.ensures
+    IfOk-weaker c.meet.result _ _ (λ meet is. timely_set s q c.horizon_for-horizon.result c.in_ok-within.within c.in_ok-inside.inside meet c.horizon_for-horizon.ensures.horizon c.in_ok-within.ensures inside is) c.meet.ensures
