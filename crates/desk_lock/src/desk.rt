@@ -6,6 +6,7 @@ ghost use Rattle.desk_lock.specs.Finishing.{IsStepInRange};
 use crate::finishing::publish_kept;
 use desk_book::{Book, BookStep, PublishStep};
 use plan_base::Solved;
+use snapshot_starts::StartCache;
 use std::alloc::{AllocError, Global};
 use std::marker::{Brand, PhantomData};
 use std::sync::Mutex;
@@ -59,11 +60,12 @@ impl<S: Sending> Held<S> {
         rt: &R,
         alloc: Global,
         caller: u8,
+        cache: &mut StartCache,
     ) -> Result<(), AllocError> {
         if self.book.kept(caller).is_none() {
             return Ok(());
         }
-        publish_kept(rt, alloc, &mut self.book, caller)
+        publish_kept(rt, alloc, &mut self.book, caller, cache)
     }
 
     /// Publishes what was found for what the caller took. Where it was found for another Take, its own is sought anew: no call
@@ -73,11 +75,12 @@ impl<S: Sending> Held<S> {
         rt: &R,
         alloc: Global,
         solved: Solved,
+        cache: &mut StartCache,
     ) -> Result<(), AllocError> {
         let caller = solved.taken().caller;
         match self.book.publish(solved)? {
             PublishStep::Replied(_) | PublishStep::NotTaken => Ok(()),
-            PublishStep::OtherTake => self.publish_kept(rt, alloc, caller),
+            PublishStep::OtherTake => self.publish_kept(rt, alloc, caller, cache),
         }
     }
 }

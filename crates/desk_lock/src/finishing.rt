@@ -7,9 +7,10 @@ ghost use Rattle.desk_lock.specs.Finishing.{EndsLine, EndsScript, EndsAll};
 
 use crate::desk::{Desk, Sending};
 use desk_book::{Book, BookStep};
-use lanes::solve_plan;
+use lanes::solve_plan_with;
 use plan_base::Taken;
 use plan_io::NoGate;
+use snapshot_starts::StartCache;
 use std::alloc::{AllocError, Global};
 use std::thread::Threads;
 
@@ -19,13 +20,14 @@ fn publish<R: Threads + Sync>(
     alloc: Global,
     book: &mut Book,
     taken: Taken,
+    cache: &mut StartCache,
 ) -> Result<(), AllocError>
     requires kept { take_of book.old.takes taken.caller ≡ Some taken }
     requires range { IsInRange taken.settings }
     ensures ok { OnOk result (EndsLine book.old taken.caller book.new) }
     ensures err { OnErr result (book.new ≡ book.old) }
 {
-    let solved = solve_plan(rt, alloc, taken, &NoGate)?;
+    let solved = solve_plan_with(rt, alloc, taken, cache, &NoGate)?;
     let _ = book.publish(solved)?;
     Ok(())
 }
@@ -48,13 +50,14 @@ pub(crate) fn publish_kept<R: Threads + Sync>(
     alloc: Global,
     book: &mut Book,
     caller: u8,
+    cache: &mut StartCache,
 ) -> Result<(), AllocError>
     requires { IsSome (take_of book.old.takes caller) }
     ensures ok { OnOk result (EndsLine book.old caller book.new) }
     ensures err { OnErr result (book.new ≡ book.old) }
 {
     let taken = copy_kept(book, caller)?;
-    publish(rt, alloc, book, taken)
+    publish(rt, alloc, book, taken, cache)
 }
 
 /// Does the next line of a caller, or the rest of it, and says whether one was left.
@@ -63,6 +66,7 @@ fn do_line<R: Threads + Sync>(
     alloc: Global,
     book: &mut Book,
     caller: u8,
+    cache: &mut StartCache,
 ) -> Result<bool, AllocError>
     requires { caller < length book.old.scripts }
     ensures { IfOk result (λ more. MatchBool more (EndsLine book.old caller book.new) (IsOver book.old caller × (book.new ≡ book.old))) }
@@ -73,11 +77,11 @@ fn do_line<R: Threads + Sync>(
     match book.perform(caller)? {
         BookStep::Replied => Ok(true),
         BookStep::Taken(taken) => {
-            publish(rt, alloc, book, taken)?;
+            publish(rt, alloc, book, taken, cache)?;
             Ok(true)
         }
         BookStep::TakeOpen => {
-            publish_kept(rt, alloc, book, caller)?;
+            publish_kept(rt, alloc, book, caller, cache)?;
             Ok(true)
         }
         BookStep::Over => Ok(false),
@@ -90,11 +94,12 @@ fn finish_caller<R: Threads + Sync>(
     alloc: Global,
     book: &mut Book,
     caller: u8,
+    cache: &mut StartCache,
 ) -> Result<(), AllocError>
     requires { caller < length book.old.scripts }
     ensures { OnOk result (EndsScript book.old caller book.new) }
 {
-    while do_line(rt, alloc, book, caller)? {
+    while do_line(rt, alloc, book, caller, cache)? {
         // The call tells what holds of every book, so that no more lines are done than there are.
         let _ = book.callers();
     }
@@ -102,18 +107,24 @@ fn finish_caller<R: Threads + Sync>(
 }
 
 /// Does all lines that are left, the lower callers' first.
-fn finish_all<R: Threads + Sync>(rt: &R, alloc: Global, book: &mut Book) -> Result<(), AllocError>
+fn finish_all<R: Threads + Sync>(
+    rt: &R,
+    alloc: Global,
+    book: &mut Book,
+    cache: &mut StartCache,
+) -> Result<(), AllocError>
     ensures { OnOk result (EndsAll book.old book.new) }
 {
     for caller in 0..book.callers() {
-        finish_caller(rt, alloc, book, caller)?;
+        finish_caller(rt, alloc, book, caller, cache)?;
     }
     // The call tells what holds of every book, so that nobody but its callers has lines.
     let _ = book.callers();
     Ok(())
 }
 
-/// Does the lines that no thread did, the lower callers' first, and gives the book. Fails only for want of memory.
+/// Does the lines that no thread did, the lower callers' first, and gives the book. One cache keeps possible starts from plan to
+/// plan. Fails only for want of memory.
 pub fn finish<S: Sending, R: Threads + Sync>(
     rt: &R,
     alloc: Global,
@@ -123,6 +134,7 @@ pub fn finish<S: Sending, R: Threads + Sync>(
     ensures over { IfOk result (λ book. (caller : ℕ) → IsOver book caller) }
 {
     let mut book = desk.into_book();
-    finish_all(rt, alloc, &mut book)?;
+    let mut cache = StartCache::new();
+    finish_all(rt, alloc, &mut book, &mut cache)?;
     Ok(book)
 }

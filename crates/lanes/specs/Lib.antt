@@ -6,3 +6,4 @@ pub mod Searched
 pub mod InStep
 pub mod Working
 pub mod Solving
+pub mod Caching

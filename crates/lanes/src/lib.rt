@@ -13,5 +13,5 @@ mod worker;
 mod worth;
 
 pub use lane::Lane;
-pub use solve::solve_plan;
+pub use solve::{solve_plan, solve_plan_with};
 pub use steps::RoundAnswer;

@@ -1,6 +1,6 @@
 // The plan of a snapshot, sought by workers over all lanes.
 
-ghost use Rattle.std.specs.Prelude.{◌≡◌, ◌≤◌, ◌<◌, ◌+◌, ℕ, length, slice_index_or, All, IfOk, vec_len};
+ghost use Rattle.std.specs.Prelude.{◌≡◌, ◌≤◌, ◌<◌, ◌+◌, ℕ, length, slice_index_or, All, IfOk, MatchResult, vec_len};
 ghost use Rattle.plan_base.specs.Planned.{IsPlanned};
 ghost use Rattle.plan_base.specs.Solved.{IsOutcome};
 ghost use Rattle.snapshot_starts.specs.Runs.{AreAllStarts};
@@ -8,6 +8,7 @@ ghost use Rattle.interval_solver.specs.Solving.{AreRowsOf};
 ghost use Rattle.board.specs.Steps.{first_view};
 ghost use Rattle.board.specs.Views.{all_seats};
 ghost use Rattle.board.specs.Seats.{view, IsSeatOf};
+ghost use Rattle.lanes.specs.Caching.{IsCachedFor, IsCachedOrNot};
 ghost use Rattle.lanes.specs.Found.{ArePrices};
 ghost use Rattle.lanes.specs.Working.{IsReadyToWork, HasDoneWork};
 ghost use Rattle.lanes.specs.Solving.{IsInRange, IsUnused, IsNew, HasWorked, IsGathering};
@@ -22,14 +23,15 @@ use interval_solver::Rows;
 use plan_base::{Claim, Outcome, Settings, Snapshot, Solved, Taken};
 use plan_io::Gate;
 use repair::greedy;
-use snapshot_starts::{StartFault, Starts, starts};
+use snapshot_starts::{StartCache, StartFault, Starts};
 use std::alloc::{AllocError, Global};
 use std::thread::Threads;
 
 /// The planned claim of what was taken, or how many possible starts it has where they are more than 1,048,576. Bound and
 /// value are the least and the greatest of all rounds of all lanes and the greedy plan, whatever workers there are; with
 /// one worker the first rounds that give them, by lane and then round, give prices and plan. The settings have 1 to 8
-/// lanes, 1 to 256 rounds and 1 to 8 workers. Fails only for want of memory.
+/// lanes, 1 to 256 rounds and 1 to 8 workers. Fails only for want of memory. Whoever plans again and again finds the
+/// starts sooner by [`solve_plan_with`].
 pub fn solve_plan<R: Threads + Sync, G: Gate>(
     rt: &R,
     alloc: Global,
@@ -40,7 +42,26 @@ pub fn solve_plan<R: Threads + Sync, G: Gate>(
     ensures same_taken { IfOk result (λ solved. solved.taken ≡ taken) }
     ensures outcome { IfOk result (λ solved. IsOutcome taken.snapshot taken.settings solved.outcome) }
 {
-    let outcome = outcome_of(rt, alloc, &taken, gate)?;
+    let mut cache = StartCache::new();
+    solve_plan_with(rt, alloc, taken, &mut cache, gate)
+}
+
+/// As [`solve_plan`], with a cache that the caller keeps. Most possible starts are those of the snapshot before, which the
+/// cache has: so the next plan with it finds its starts sooner. The cache changes no claim. It holds the snapshot of a plan
+/// afterwards; where there are too many starts it is as before, and where memory is wanting it is either.
+pub fn solve_plan_with<R: Threads + Sync, G: Gate>(
+    rt: &R,
+    alloc: Global,
+    taken: Taken,
+    cache: &mut StartCache,
+    gate: &G,
+) -> Result<Solved, AllocError>
+    requires { IsInRange taken.settings }
+    ensures same_taken { IfOk result (λ solved. solved.taken ≡ taken) }
+    ensures outcome { IfOk result (λ solved. IsOutcome taken.snapshot taken.settings solved.outcome) }
+    ensures cache { MatchResult result (λ solved. IsCachedFor taken.snapshot solved.outcome cache.old cache.new) (λ _. IsCachedOrNot taken.snapshot cache.old cache.new) }
+{
+    let outcome = outcome_of(rt, alloc, &taken, cache, gate)?;
     Ok(Solved::new(taken, outcome))
 }
 
@@ -49,14 +70,16 @@ fn outcome_of<R: Threads + Sync, G: Gate>(
     rt: &R,
     alloc: Global,
     taken: &Taken,
+    cache: &mut StartCache,
     gate: &G,
 ) -> Result<Outcome, AllocError>
     requires { IsInRange taken.now.settings }
-    ensures { IfOk result (λ outcome. IsOutcome taken.now.snapshot taken.now.settings outcome) }
+    ensures outcome { IfOk result (λ outcome. IsOutcome taken.now.snapshot taken.now.settings outcome) }
+    ensures cache { MatchResult result (λ outcome. IsCachedFor taken.now.snapshot outcome cache.old cache.new) (λ _. IsCachedOrNot taken.now.snapshot cache.old cache.new) }
 {
-    match starts(rt, alloc, &taken.snapshot) {
-        Ok(starts) => {
-            let claim = plan(rt, alloc, taken, &starts, gate)?;
+    match cache.mend(rt, alloc, &taken.snapshot) {
+        Ok(()) => {
+            let claim = plan(rt, alloc, taken, cache.starts(), gate)?;
             Ok(Outcome::Plan(claim))
         }
         Err(StartFault::TooManyStarts { count }) => Ok(Outcome::TooManyStarts(count)),

@@ -13,9 +13,10 @@ ghost use Rattle.session.specs.Line.{IsPlanReply, RepliesAtLast, AddsLine, AddsP
 use desk_book::{apply_read, is_plan, publish_found, read_line, take_for};
 use desk_core::State;
 use desk_events::{Command, CommandFault, EventEntry, Reply, What, write_entry};
-use lanes::solve_plan;
+use lanes::solve_plan_with;
 use plan_base::{Solved, Taken};
 use plan_io::{NoGate, ScriptLine};
+use snapshot_starts::StartCache;
 use std::alloc::{AllocError, Global};
 use std::thread::Threads;
 
@@ -79,14 +80,19 @@ fn publish_solved(state: &mut State, solved: Solved) -> Result<Reply, AllocError
 }
 
 /// Seeks the plan of an opened desk and publishes it, and says what is replied.
-fn seek<R: Threads + Sync>(rt: &R, alloc: Global, state: &mut State) -> Result<Reply, AllocError>
+fn seek<R: Threads + Sync>(
+    rt: &R,
+    alloc: Global,
+    state: &mut State,
+    cache: &mut StartCache,
+) -> Result<Reply, AllocError>
     requires version { state.old.version < most_version }
     requires opened { IsSome state.old.desk }
     ensures reply { IfOk result (IsPlanReply state.old) }
     ensures left { IfOk result (λ reply. state.new ≡ after_publish state.old reply) }
 {
     let taken = take(state)?;
-    let solved = solve_plan(rt, alloc, taken, &NoGate)?;
+    let solved = solve_plan_with(rt, alloc, taken, cache, &NoGate)?;
     publish_solved(state, solved)
 }
 
@@ -95,6 +101,7 @@ fn publish<R: Threads + Sync>(
     rt: &R,
     alloc: Global,
     state: &mut State,
+    cache: &mut StartCache,
     line: u32,
     replies: &mut Vec<u8>,
 ) -> Result<(), AllocError>
@@ -103,7 +110,7 @@ fn publish<R: Threads + Sync>(
     ensures { AddsPublish state.old state.new line replies.old.items replies.new.items result }
 {
     let version = state.version();
-    let reply = seek(rt, alloc, state)?;
+    let reply = seek(rt, alloc, state, cache)?;
     let entry = EventEntry {
         caller: CALLER,
         line,
@@ -119,6 +126,7 @@ fn do_plan<R: Threads + Sync>(
     rt: &R,
     alloc: Global,
     state: &mut State,
+    cache: &mut StartCache,
     line: u32,
     read: &Result<Command, CommandFault>,
     replies: &mut Vec<u8>,
@@ -135,7 +143,7 @@ fn do_plan<R: Threads + Sync>(
         reply: Reply::Taken,
     };
     add_entry(taken, replies)?;
-    publish(rt, alloc, state, line, replies)
+    publish(rt, alloc, state, cache, line, replies)
 }
 
 /// Does a line, and adds the text of its entries to the replies. Where memory is wanting, those that were added stay.
@@ -143,6 +151,7 @@ pub(crate) fn do_line<R: Threads + Sync>(
     rt: &R,
     alloc: Global,
     state: &mut State,
+    cache: &mut StartCache,
     number: u32,
     line: &ScriptLine,
     replies: &mut Vec<u8>,
@@ -152,7 +161,7 @@ pub(crate) fn do_line<R: Threads + Sync>(
 {
     let read = read_line(alloc, line)?;
     if is_plan(&read) && state.is_opened() {
-        return do_plan(rt, alloc, state, number, &read, replies);
+        return do_plan(rt, alloc, state, cache, number, &read, replies);
     }
     do_step(state, number, read, replies)
 }
@@ -162,6 +171,7 @@ pub(crate) fn reply_to<R: Threads + Sync>(
     rt: &R,
     alloc: Global,
     state: &mut State,
+    cache: &mut StartCache,
     line: &ScriptLine,
 ) -> Result<Reply, AllocError>
     requires version { state.old.version < most_version }
@@ -169,7 +179,7 @@ pub(crate) fn reply_to<R: Threads + Sync>(
 {
     let read = read_line(alloc, line)?;
     if is_plan(&read) && state.is_opened() {
-        return seek(rt, alloc, state);
+        return seek(rt, alloc, state, cache);
     }
     apply_read(state, read)
 }

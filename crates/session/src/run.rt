@@ -14,6 +14,7 @@ use crate::tally::tell_workload;
 use crate::words::{Mode, mode_of};
 use desk_core::State;
 use plan_io::{LineAnswer, Lines, PutAnswer, Sink, Source, Status, put};
+use snapshot_starts::StartCache;
 use std::alloc::{AllocError, Global};
 use std::thread::Threads;
 
@@ -43,7 +44,8 @@ fn write_due<K: Sink>(sink: &mut K, reader: &Lines, replies: &mut Vec<u8>) -> Pu
     PutAnswer::Done
 }
 
-/// Does each line of the source on a new desk, and writes the replies before it waits for more lines. Where memory is wanting,
+/// Does each line of the source on a new desk, and writes the replies before it waits for more lines. One cache keeps possible
+/// starts from plan to plan. Where memory is wanting,
 /// replies that are not written yet stay.
 fn answer_lines<R: Threads + Sync, S: Source, K: Sink>(
     rt: &R,
@@ -61,6 +63,7 @@ fn answer_lines<R: Threads + Sync, S: Source, K: Sink>(
     ensures gathered { OnErr result (IsGathered (S.left source.old) (S.left source.new) (K.written sink.old) (K.written sink.new) replies.new.items) }
 {
     let mut reader = Lines::new(alloc, MOST_BYTES, MOST_LINES)?;
+    let mut cache = StartCache::new();
     let mut done: u32 = 0;
     loop {
         match write_due(sink, &reader, replies) {
@@ -70,7 +73,7 @@ fn answer_lines<R: Threads + Sync, S: Source, K: Sink>(
         match reader.next(source)? {
             LineAnswer::Line(line) => {
                 done += 1;
-                do_line(rt, alloc, state, done, &line, replies)?;
+                do_line(rt, alloc, state, &mut cache, done, &line, replies)?;
             }
             LineAnswer::End => return Ok(Status::Done),
             LineAnswer::ReadFault => return Ok(Status::ReadFault),

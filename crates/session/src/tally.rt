@@ -7,6 +7,7 @@ use crate::line::reply_to;
 use crate::summary::{Summary, no_summary, summary_text, with_line};
 use desk_core::State;
 use plan_io::{ByteList, ScriptLine};
+use snapshot_starts::StartCache;
 use std::alloc::{AllocError, Global};
 use std::thread::Threads;
 use workload::Workload;
@@ -14,7 +15,7 @@ use workload::Workload;
 /// How many workers seek the plan of a workload.
 const WORKERS: u32 = 4;
 
-/// Does each line of a workload on a new desk, and sums up what is replied.
+/// Does each line of a workload on a new desk, and sums up what is replied. One cache keeps possible starts from plan to plan.
 fn sum_up<R: Threads + Sync>(
     rt: &R,
     alloc: Global,
@@ -25,10 +26,11 @@ fn sum_up<R: Threads + Sync>(
     ensures { IfOk result (IsSummary number) }
 {
     let mut workload = Workload::new(number, WORKERS);
+    let mut cache = StartCache::new();
     let mut summary = no_summary();
     while let Some(bytes) = workload.next(alloc)? {
         let line = ScriptLine::Bytes(ByteList::from(bytes));
-        let reply = reply_to(rt, alloc, state, &line)?;
+        let reply = reply_to(rt, alloc, state, &mut cache, &line)?;
         summary = with_line(summary, &reply)?;
     }
     Ok(summary)

@@ -11,8 +11,9 @@ use super::same::is_same;
 use super::{CALLERS, MOST_LINES};
 use desk_book::Book;
 use desk_passes::{CallAnswer, Pass, Root, SharedDesk};
-use lanes::solve_plan;
+use lanes::solve_plan_with;
 use plan_io::{ByteList, Gate, Point, ScriptLine};
+use snapshot_starts::StartCache;
 use std::alloc::{AllocError, Global};
 use std::sync::Wait;
 use std::thread::{self, Threads};
@@ -38,6 +39,7 @@ fn call_line<R: Threads + Wait + Sync, G: Gate>(
     pass: &mut Pass,
     line: &ScriptLine,
     number: u32,
+    cache: &mut StartCache,
     gate: &G,
 ) -> Result<(), AllocError>
     requires desk { IsPassOf desk.now pass.old }
@@ -57,14 +59,15 @@ fn call_line<R: Threads + Wait + Sync, G: Gate>(
                 caller,
                 line: number,
             });
-            let solved = solve_plan(rt, alloc, taken, gate)?;
+            let solved = solve_plan_with(rt, alloc, taken, cache, gate)?;
             desk.publish(rt, pass, solved)?;
             Ok(())
         }
     }
 }
 
-/// Calls the lines of a pass's caller, one after another, as far as there is memory.
+/// Calls the lines of a pass's caller, one after another, as far as there is memory. One cache keeps possible starts from plan to
+/// plan of the caller.
 fn call_lines<R: Threads + Wait + Sync, G: Gate>(
     rt: &R,
     alloc: Global,
@@ -81,6 +84,7 @@ fn call_lines<R: Threads + Wait + Sync, G: Gate>(
     if caller >= sent.callers() {
         return;
     }
+    let mut cache = StartCache::new();
     for index in 0..MOST_LINES {
         let Some(line) = sent.line(caller, index) else {
             return;
@@ -90,7 +94,7 @@ fn call_lines<R: Threads + Wait + Sync, G: Gate>(
             caller,
             line: number,
         });
-        if call_line(rt, alloc, desk, pass, line, number, gate).is_err() {
+        if call_line(rt, alloc, desk, pass, line, number, &mut cache, gate).is_err() {
             return;
         }
         gate.pass(Point::AfterLine {

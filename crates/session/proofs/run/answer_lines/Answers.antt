@@ -6,8 +6,8 @@ use Rattle.session.proofs.Going.{going_first, going_due, going_line, later_read,
 use Rattle.session.proofs.Going.{gathered_none, gathered_read, gathered_line, cut_by_due, all_answered, no_line_left, on_err}
 use Rattle.session.proofs.run.answer_lines.Goals as goal
 
-pub loop-reader-init : goal.loop-reader-init
-loop-reader-init g c = record {
+pub loop-cache-init : goal.loop-cache-init
+loop-cache-init g c = record {
   going = going_first (g.S.Source.left c.args.source.now) (g.K.Sink.written c.args.sink.now) c.in_ok-reader.reader c.args.replies.now.items c.args.state.now c.in_ok-reader.ensures c.requires.none c.requires.start;
   steady = ap (λ (r : LinesSeen). r.failed) c.in_ok-reader.ensures;
   reads = omega arith;
@@ -17,35 +17,35 @@ loop-reader-init g c = record {
 pub do_line-requires-clause-version : goal.do_line-requires-clause-version
 do_line-requires-clause-version g c κs sub =
     let a = g.S.Source.left c.args.source.now in
-    let b = g.S.Source.left c.loop-reader.source in
+    let b = g.S.Source.left c.loop-cache.source in
     let w = g.K.Sink.written c.args.sink.now in
-    let x = g.K.Sink.written c.loop-reader.sink in
+    let x = g.K.Sink.written c.loop-cache.sink in
     let y = g.K.Sink.written c.write_due.new.sink in
-    let r = c.loop-reader.reader in
-    let s = c.loop-reader.state in
-    let n = c.loop-reader.done in
-    let old = c.loop-reader.replies.items in
+    let r = c.loop-cache.reader in
+    let s = c.loop-cache.state in
+    let n = c.loop-cache.done in
+    let old = c.loop-cache.replies.items in
     let now = c.write_due.new.replies.items in
-    let was = c.loop-reader.invariant in
+    let was = c.loop-cache.invariant in
     let after = g.S.Source.left c.next.new.source in
     let due = going_due a b w x y r old now n s c.write_due.result c.in-Done.is was.going c.write_due.ensures.bytes in
     let line = c.in-Line.line in
     let next = next_line a b after w y r c.next.new.self now n s line c.in_ok-line.field-0 c.in-Line.is due c.in_ok-line.ensures.next (λ e f. let same = c.in_ok-line.ensures.stays_ended e f in (ap (g.S.Source.left) same.0, same.1.0)) in
     omega (arith, few_done a b after w y r c.next.new.self now n s line next, was.going.version)
 
-pub loop-reader-preserved : goal.loop-reader-preserved
-loop-reader-preserved g c =
+pub loop-cache-preserved : goal.loop-cache-preserved
+loop-cache-preserved g c =
     let a = g.S.Source.left c.args.source.now in
-    let b = g.S.Source.left c.loop-reader.source in
+    let b = g.S.Source.left c.loop-cache.source in
     let w = g.K.Sink.written c.args.sink.now in
-    let x = g.K.Sink.written c.loop-reader.sink in
+    let x = g.K.Sink.written c.loop-cache.sink in
     let y = g.K.Sink.written c.write_due.new.sink in
-    let r = c.loop-reader.reader in
-    let s = c.loop-reader.state in
-    let n = c.loop-reader.done in
-    let old = c.loop-reader.replies.items in
+    let r = c.loop-cache.reader in
+    let s = c.loop-cache.state in
+    let n = c.loop-cache.done in
+    let old = c.loop-cache.replies.items in
     let now = c.write_due.new.replies.items in
-    let was = c.loop-reader.invariant in
+    let was = c.loop-cache.invariant in
     let after = g.S.Source.left c.next.new.source in
     let due = going_due a b w x y r old now n s c.write_due.result c.in-Done.is was.going c.write_due.ensures.bytes in
     let line = c.in-Line.line in
@@ -53,23 +53,23 @@ loop-reader-preserved g c =
     record {
       going = going_line a b after w y r c.next.new.self now c.do_line.new.replies.items n s c.do_line.new.state line c.in_ok-do_line-in-Line.field-0 next c.in_ok-do_line-in-Line.ensures;
       steady = next.steady;
-      reads = omega (arith, was.reads, later_read r (g.S.Source.faults c.loop-reader.source) (g.S.Source.faults c.next.new.source) c.in_ok-line.field-0 line c.in-Line.is c.in_ok-line.ensures.cause);
-      writes = omega (arith, was.writes, later_written (g.K.Sink.faults c.loop-reader.sink) (g.K.Sink.faults c.write_due.new.sink) c.write_due.result c.in-Done.is c.write_due.ensures.cause);
+      reads = omega (arith, was.reads, later_read r (g.S.Source.faults c.loop-cache.source) (g.S.Source.faults c.next.new.source) c.in_ok-line.field-0 line c.in-Line.is c.in_ok-line.ensures.cause);
+      writes = omega (arith, was.writes, later_written (g.K.Sink.faults c.loop-cache.sink) (g.K.Sink.faults c.write_due.new.sink) c.write_due.result c.in-Done.is c.write_due.ensures.cause);
     }
 
-pub loop-reader-preserved-in_ok-do_line-in-Line : goal.loop-reader-preserved-in_ok-do_line-in-Line
-loop-reader-preserved-in_ok-do_line-in-Line g c =
+pub loop-cache-preserved-in_ok-do_line-in-Line : goal.loop-cache-preserved-in_ok-do_line-in-Line
+loop-cache-preserved-in_ok-do_line-in-Line g c =
     let a = g.S.Source.left c.args.source.now in
-    let b = g.S.Source.left c.loop-reader.source in
+    let b = g.S.Source.left c.loop-cache.source in
     let w = g.K.Sink.written c.args.sink.now in
-    let x = g.K.Sink.written c.loop-reader.sink in
+    let x = g.K.Sink.written c.loop-cache.sink in
     let y = g.K.Sink.written c.write_due.new.sink in
-    let r = c.loop-reader.reader in
-    let s = c.loop-reader.state in
-    let n = c.loop-reader.done in
-    let old = c.loop-reader.replies.items in
+    let r = c.loop-cache.reader in
+    let s = c.loop-cache.state in
+    let n = c.loop-cache.done in
+    let old = c.loop-cache.replies.items in
     let now = c.write_due.new.replies.items in
-    let was = c.loop-reader.invariant in
+    let was = c.loop-cache.invariant in
     let after = g.S.Source.left c.next.new.source in
     let due = going_due a b w x y r old now n s c.write_due.result c.in-Done.is was.going c.write_due.ensures.bytes in
     let line = c.in-Line.line in
@@ -77,8 +77,8 @@ loop-reader-preserved-in_ok-do_line-in-Line g c =
     record {
       going = going_line a b after w y r c.next.new.self now c.do_line.new.replies.items n s c.do_line.new.state line c.in_ok-do_line-in-Line.field-0 next c.in_ok-do_line-in-Line.ensures;
       steady = next.steady;
-      reads = omega (arith, was.reads, later_read r (g.S.Source.faults c.loop-reader.source) (g.S.Source.faults c.next.new.source) c.in_ok-line.field-0 line c.in-Line.is c.in_ok-line.ensures.cause);
-      writes = omega (arith, was.writes, later_written (g.K.Sink.faults c.loop-reader.sink) (g.K.Sink.faults c.write_due.new.sink) c.write_due.result c.in-Done.is c.write_due.ensures.cause);
+      reads = omega (arith, was.reads, later_read r (g.S.Source.faults c.loop-cache.source) (g.S.Source.faults c.next.new.source) c.in_ok-line.field-0 line c.in-Line.is c.in_ok-line.ensures.cause);
+      writes = omega (arith, was.writes, later_written (g.K.Sink.faults c.loop-cache.sink) (g.K.Sink.faults c.write_due.new.sink) c.write_due.result c.in-Done.is c.write_due.ensures.cause);
     }
 
 pub returns-in_err-reader-clause-gathered : goal.returns-in_err-reader-clause-gathered
@@ -88,31 +88,31 @@ returns-in_err-reader-clause-gathered g c =
 pub returns-in-WriteFault-clause-session : goal.returns-in-WriteFault-clause-session
 returns-in-WriteFault-clause-session g c =
     let a = g.S.Source.left c.args.source.now in
-    let b = g.S.Source.left c.loop-reader.source in
+    let b = g.S.Source.left c.loop-cache.source in
     let w = g.K.Sink.written c.args.sink.now in
-    let x = g.K.Sink.written c.loop-reader.sink in
+    let x = g.K.Sink.written c.loop-cache.sink in
     let y = g.K.Sink.written c.write_due.new.sink in
-    let r = c.loop-reader.reader in
-    let s = c.loop-reader.state in
-    let n = c.loop-reader.done in
-    let old = c.loop-reader.replies.items in
+    let r = c.loop-cache.reader in
+    let s = c.loop-cache.state in
+    let n = c.loop-cache.done in
+    let old = c.loop-cache.replies.items in
     let now = c.write_due.new.replies.items in
-    let was = c.loop-reader.invariant in
+    let was = c.loop-cache.invariant in
     cut_by_due a b w x y r old now n s c.write_due.result c.in-WriteFault.is was.going c.write_due.ensures.bytes
 
 pub returns-in_err-line-clause-gathered : goal.returns-in_err-line-clause-gathered
 returns-in_err-line-clause-gathered g c =
     let a = g.S.Source.left c.args.source.now in
-    let b = g.S.Source.left c.loop-reader.source in
+    let b = g.S.Source.left c.loop-cache.source in
     let w = g.K.Sink.written c.args.sink.now in
-    let x = g.K.Sink.written c.loop-reader.sink in
+    let x = g.K.Sink.written c.loop-cache.sink in
     let y = g.K.Sink.written c.write_due.new.sink in
-    let r = c.loop-reader.reader in
-    let s = c.loop-reader.state in
-    let n = c.loop-reader.done in
-    let old = c.loop-reader.replies.items in
+    let r = c.loop-cache.reader in
+    let s = c.loop-cache.state in
+    let n = c.loop-cache.done in
+    let old = c.loop-cache.replies.items in
     let now = c.write_due.new.replies.items in
-    let was = c.loop-reader.invariant in
+    let was = c.loop-cache.invariant in
     let due = going_due a b w x y r old now n s c.write_due.result c.in-Done.is was.going c.write_due.ensures.bytes in
     let after = g.S.Source.left c.next.new.source in
     on_err _ c.from_residual-in_err-line.result
@@ -121,16 +121,16 @@ returns-in_err-line-clause-gathered g c =
 pub returns-in_err-do_line-in-Line-clause-gathered : goal.returns-in_err-do_line-in-Line-clause-gathered
 returns-in_err-do_line-in-Line-clause-gathered g c =
     let a = g.S.Source.left c.args.source.now in
-    let b = g.S.Source.left c.loop-reader.source in
+    let b = g.S.Source.left c.loop-cache.source in
     let w = g.K.Sink.written c.args.sink.now in
-    let x = g.K.Sink.written c.loop-reader.sink in
+    let x = g.K.Sink.written c.loop-cache.sink in
     let y = g.K.Sink.written c.write_due.new.sink in
-    let r = c.loop-reader.reader in
-    let s = c.loop-reader.state in
-    let n = c.loop-reader.done in
-    let old = c.loop-reader.replies.items in
+    let r = c.loop-cache.reader in
+    let s = c.loop-cache.state in
+    let n = c.loop-cache.done in
+    let old = c.loop-cache.replies.items in
     let now = c.write_due.new.replies.items in
-    let was = c.loop-reader.invariant in
+    let was = c.loop-cache.invariant in
     let after = g.S.Source.left c.next.new.source in
     let due = going_due a b w x y r old now n s c.write_due.result c.in-Done.is was.going c.write_due.ensures.bytes in
     let line = c.in-Line.line in
@@ -141,16 +141,16 @@ returns-in_err-do_line-in-Line-clause-gathered g c =
 pub returns-in-End-clause-session : goal.returns-in-End-clause-session
 returns-in-End-clause-session g c =
     let a = g.S.Source.left c.args.source.now in
-    let b = g.S.Source.left c.loop-reader.source in
+    let b = g.S.Source.left c.loop-cache.source in
     let w = g.K.Sink.written c.args.sink.now in
-    let x = g.K.Sink.written c.loop-reader.sink in
+    let x = g.K.Sink.written c.loop-cache.sink in
     let y = g.K.Sink.written c.write_due.new.sink in
-    let r = c.loop-reader.reader in
-    let s = c.loop-reader.state in
-    let n = c.loop-reader.done in
-    let old = c.loop-reader.replies.items in
+    let r = c.loop-cache.reader in
+    let s = c.loop-cache.state in
+    let n = c.loop-cache.done in
+    let old = c.loop-cache.replies.items in
     let now = c.write_due.new.replies.items in
-    let was = c.loop-reader.invariant in
+    let was = c.loop-cache.invariant in
     let after = g.S.Source.left c.next.new.source in
     let due = going_due a b w x y r old now n s c.write_due.result c.in-Done.is was.going c.write_due.ensures.bytes in
     let none : now ≡ [] = no_line_left r now c.in_ok-line.field-0 answer.End (λ line e. cc) c.in-End.is c.write_due.ensures.due (λ has. (c.in_ok-line.ensures.at_hand has).1) in
@@ -159,16 +159,16 @@ returns-in-End-clause-session g c =
 pub returns-in-ReadFault-clause-session : goal.returns-in-ReadFault-clause-session
 returns-in-ReadFault-clause-session g c =
     let a = g.S.Source.left c.args.source.now in
-    let b = g.S.Source.left c.loop-reader.source in
+    let b = g.S.Source.left c.loop-cache.source in
     let w = g.K.Sink.written c.args.sink.now in
-    let x = g.K.Sink.written c.loop-reader.sink in
+    let x = g.K.Sink.written c.loop-cache.sink in
     let y = g.K.Sink.written c.write_due.new.sink in
-    let r = c.loop-reader.reader in
-    let s = c.loop-reader.state in
-    let n = c.loop-reader.done in
-    let old = c.loop-reader.replies.items in
+    let r = c.loop-cache.reader in
+    let s = c.loop-cache.state in
+    let n = c.loop-cache.done in
+    let old = c.loop-cache.replies.items in
     let now = c.write_due.new.replies.items in
-    let was = c.loop-reader.invariant in
+    let was = c.loop-cache.invariant in
     let after = g.S.Source.left c.next.new.source in
     let due = going_due a b w x y r old now n s c.write_due.result c.in-Done.is was.going c.write_due.ensures.bytes in
     let none : now ≡ [] = no_line_left r now c.in_ok-line.field-0 answer.ReadFault (λ line e. cc) c.in-ReadFault.is c.write_due.ensures.due (λ has. (c.in_ok-line.ensures.at_hand has).1) in
@@ -177,16 +177,16 @@ returns-in-ReadFault-clause-session g c =
 pub returns-in-InputOver-clause-session : goal.returns-in-InputOver-clause-session
 returns-in-InputOver-clause-session g c =
     let a = g.S.Source.left c.args.source.now in
-    let b = g.S.Source.left c.loop-reader.source in
+    let b = g.S.Source.left c.loop-cache.source in
     let w = g.K.Sink.written c.args.sink.now in
-    let x = g.K.Sink.written c.loop-reader.sink in
+    let x = g.K.Sink.written c.loop-cache.sink in
     let y = g.K.Sink.written c.write_due.new.sink in
-    let r = c.loop-reader.reader in
-    let s = c.loop-reader.state in
-    let n = c.loop-reader.done in
-    let old = c.loop-reader.replies.items in
+    let r = c.loop-cache.reader in
+    let s = c.loop-cache.state in
+    let n = c.loop-cache.done in
+    let old = c.loop-cache.replies.items in
     let now = c.write_due.new.replies.items in
-    let was = c.loop-reader.invariant in
+    let was = c.loop-cache.invariant in
     let after = g.S.Source.left c.next.new.source in
     let due = going_due a b w x y r old now n s c.write_due.result c.in-Done.is was.going c.write_due.ensures.bytes in
     let none : now ≡ [] = no_line_left r now c.in_ok-line.field-0 answer.InputOver (λ line e. cc) c.in-InputOver.is c.write_due.ensures.due (λ has. (c.in_ok-line.ensures.at_hand has).1) in
