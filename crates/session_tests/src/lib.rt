@@ -1,4 +1,5 @@
-// Tests of a whole session, of one with several callers, of a book of two callers, and of a desk that two callers share.
+// Tests of a whole session, of one of a realistic night, of one with several callers, of a book of two callers, and of a desk that
+// two callers share.
 #![tactic(auto)]
 
 #[cfg(test)]
@@ -15,3 +16,5 @@ mod passes_tests;
 mod script;
 #[cfg(test)]
 mod session_tests;
+#[cfg(test)]
+mod workload_tests;

@@ -33,8 +33,8 @@ fn ends_so<R: Threads + Wait + Sync, G: Gate>(
     ending: (Status, &[u8]),
     gate: &G,
 ) -> Result<bool, AllocError> {
-    let mut source = source_of(alloc, lines, fails.0)?;
-    let mut sink = sink_of(alloc, fails.1)?;
+    let mut source = source_of(alloc, lines, 40, fails.0)?;
+    let mut sink = sink_of(alloc, 40, fails.1)?;
     let status = status_of(rt, alloc, &mut source, &mut sink, gate)?;
     Ok(status == ending.0 && sink.bytes() == ending.1)
 }

@@ -1,66 +1,157 @@
-//! Sessions over a source and a sink in memory: faults in mid-stream, and the limit of bytes at its edge. What whole sessions
-//! write stands in the files of cases/session, at the top of the repository.
-use crate::ends::{sink_of, source_of};
-use plan_io::{MemSink, MemSource, Status};
-use session::*;
+//! Sessions over a source and a sink in memory: a fault at each read and at each write, and the limit of bytes at its edge. What
+//! whole sessions write stands in the files of cases/session, at the top of the repository.
+use crate::ends::{sink_of, source_of, status_of};
+use crate::script::{GRANT, INSTRUMENT, NIGHT, OPEN, PLAN, SKY, SUBMIT, TELESCOPE};
+use plan_io::{MemSource, Status};
 use std::alloc::{AllocError, Global};
 use std::test::Fail;
 use std::thread::Threads;
 
-const LINES: &[u8] = b"\
-    {\"do\":\"open\",\"now\":0,\"slice\":300,\"horizon\":12,\"semester\":[0,86400],\"lanes\":1,\"rounds\":1,\"workers\":1}\n\
-    {\"do\":\"plan\"}\n\
-    {\"do\":\"balances\"}\n";
+/// A session has fewer reads than so many, and fewer writes.
+const NO_CALL: u32 = 100;
 
-const REPLIES: &[u8] = b"\
-    {\"caller\":0,\"line\":1,\"ok\":\"opened\",\"version\":0}\n\
-    {\"caller\":0,\"line\":2,\"ok\":\"taken\",\"version\":1}\n\
-    {\"caller\":0,\"claim\":{\"bound\":0,\"placements\":[],\"prices\":[],\"value\":0},\"line\":2,\"ok\":\"published\",\"version\":1}\n\
-    {\"balances\":[],\"caller\":0,\"line\":3,\"ok\":\"balances\",\"version\":2}\n";
+/// The lines of a session, each with its replies.
+const LINES: [(&str, &str); 8] = [
+    (
+        OPEN,
+        "{\"caller\":0,\"line\":1,\"ok\":\"opened\",\"version\":0}\n",
+    ),
+    (
+        INSTRUMENT,
+        "{\"caller\":0,\"line\":2,\"ok\":\"instrument\",\"version\":1}\n",
+    ),
+    (
+        TELESCOPE,
+        "{\"caller\":0,\"line\":3,\"ok\":\"telescope\",\"telescope\":0,\"version\":2}\n",
+    ),
+    (
+        NIGHT,
+        "{\"caller\":0,\"line\":4,\"ok\":\"night\",\"version\":3}\n",
+    ),
+    (
+        SKY,
+        "{\"caller\":0,\"line\":5,\"ok\":\"visibility\",\"version\":4}\n",
+    ),
+    (
+        GRANT,
+        "{\"balance\":1000,\"caller\":0,\"line\":6,\"ok\":\"granted\",\"version\":5}\n",
+    ),
+    (
+        SUBMIT,
+        "{\"caller\":0,\"group\":1,\"ipp_charged\":0,\"line\":7,\"ok\":\"submitted\",\"requests\":[1],\"version\":6}\n",
+    ),
+    (
+        PLAN,
+        "{\"caller\":0,\"line\":8,\"ok\":\"taken\",\"version\":7}\n{\"caller\":0,\"claim\":{\"bound\":50000,\"placements\":[[1,0,0]],\"prices\":[50000],\"value\":50000},\"line\":8,\"ok\":\"published\",\"version\":7}\n",
+    ),
+];
 
-/// The status of a session.
-fn status_of<R: Threads + Sync>(
-    rt: &R,
-    alloc: Global,
-    source: &mut MemSource,
-    sink: &mut MemSink,
-) -> Result<Status, AllocError> {
-    let words = vec![in alloc; String::from_str(alloc, "session")?]?;
-    Ok(run_session(rt, alloc, words.as_slice(), source, sink))
+/// The lines as they are read.
+fn lines(alloc: Global) -> Result<Vec<u8>, AllocError> {
+    let mut text = Vec::new(alloc);
+    for (line, _) in LINES {
+        text.extend_from_slice(line.as_bytes())?;
+        text.push(b'\n')?;
+    }
+    Ok(text)
 }
 
-/// Whether a session of the lines ends so, where this call of the source and this call of the sink fail, and writes the
-/// first bytes of the replies.
-fn ends_so<R: Threads + Sync>(
+/// The replies to the lines that stand whole, with their newline, in so many first bytes.
+fn replies_in(alloc: Global, bytes: usize) -> Result<Vec<u8>, AllocError> {
+    let mut text = Vec::new(alloc);
+    let mut left = bytes;
+    for (line, replies) in LINES {
+        if left <= line.len() {
+            break;
+        }
+        left -= line.len() + 1;
+        text.extend_from_slice(replies.as_bytes())?;
+    }
+    Ok(text)
+}
+
+/// How a session of the lines ended, and what it wrote.
+#[derive(Drop)]
+struct Ending {
+    status: Status,
+    written: Vec<u8>,
+}
+
+/// A session of the lines that moves at most 64 bytes a call, and of which this read and this write fail.
+fn end<R: Threads + Sync>(
     rt: &R,
     alloc: Global,
     fails: (u32, u32),
-    ending: (Status, usize),
-) -> Result<bool, AllocError> {
-    let mut source = source_of(alloc, LINES, fails.0)?;
-    let mut sink = sink_of(alloc, fails.1)?;
-    let status = status_of(rt, alloc, &mut source, &mut sink)?;
-    Ok(status == ending.0 && sink.bytes() == &REPLIES[..ending.1.min(REPLIES.len())])
+) -> Result<Box<Ending>, AllocError> {
+    let lines = lines(alloc)?;
+    let mut source = source_of(alloc, lines.as_slice(), 64, fails.0)?;
+    let mut sink = sink_of(alloc, 64, fails.1)?;
+    let status = status_of(rt, alloc, &mut *source, &mut *sink)?;
+    let written = Vec::from_slice(alloc, sink.bytes())?;
+    Ok(Box::new(alloc, Ending { status, written })?)
+}
+
+/// Whether a session whose read with this number fails wrote the replies to the lines that were read whole before, and ended
+/// at the fault, or at its end where it has no such read.
+fn ends_at_read(alloc: Global, ending: &Ending, call: u32) -> Result<bool, AllocError> {
+    let read = replies_in(alloc, 64 * call as usize)?;
+    let whole = replies_in(alloc, usize::MAX)?;
+    Ok(
+        ending.written == read
+            && match ending.status {
+                Status::Done => call > 0 && read == whole,
+                status => status == Status::ReadFault,
+            },
+    )
 }
 
 #[test]
-fn faults_end_a_session(rt: HostRuntime) -> Result<(), Fail> {
-    // Three reads give the first two lines, the fourth the third line, and the fifth none. The first three replies take six
-    // writes, of 204 bytes in all, and the last one takes two.
-    for (fails, ending) in [
-        ((9, 99), (Status::Done, 1_000)),
-        ((0, 99), (Status::ReadFault, 0)),
-        ((2, 99), (Status::ReadFault, 0)),
-        ((3, 99), (Status::ReadFault, 204)),
-        ((4, 99), (Status::ReadFault, 1_000)),
-        ((9, 0), (Status::WriteFault, 0)),
-        ((9, 3), (Status::WriteFault, 120)),
-        ((9, 7), (Status::WriteFault, 244)),
-    ] {
-        let found = ends_so(&rt, rt.alloc(), fails, ending)?;
-        assert!(rt; found, "calls {} and {}", fails.0, fails.1);
+fn each_read_that_fails_ends_a_session(rt: HostRuntime) -> Result<(), Fail> {
+    for call in 0..NO_CALL {
+        let ending = end(&rt, rt.alloc(), (call, NO_CALL))?;
+        let found = ends_at_read(rt.alloc(), &ending, call)?;
+        assert!(rt; found, "read {call}");
+        if ending.status == Status::Done {
+            return Ok(());
+        }
     }
-    Ok(())
+    Err(Fail::new("a session has too many reads"))
+}
+
+/// Whether a session whose write with this number fails wrote the first bytes of the replies, some more and at most 64 more
+/// than with the write before, and ended at the fault, or at its end where it has no such write.
+fn ends_at_write(
+    alloc: Global,
+    ending: &Ending,
+    call: u32,
+    before: usize,
+) -> Result<bool, AllocError> {
+    let whole = replies_in(alloc, usize::MAX)?;
+    let written = ending.written.as_slice();
+    if !whole.as_slice().starts_with(written) {
+        return Ok(false);
+    }
+    let more = written.len().saturating_sub(before);
+    Ok(match ending.status {
+        Status::Done => call > 0 && written.len() == whole.len(),
+        Status::WriteFault if call == 0 => written.is_empty(),
+        status => status == Status::WriteFault && 0 < more && more <= 64,
+    })
+}
+
+#[test]
+fn each_write_that_fails_ends_a_session(rt: HostRuntime) -> Result<(), Fail> {
+    let mut before = 0;
+    for call in 0..NO_CALL {
+        let ending = end(&rt, rt.alloc(), (NO_CALL, call))?;
+        let found = ends_at_write(rt.alloc(), &ending, call, before)?;
+        assert!(rt; found, "write {call}");
+        if ending.status == Status::Done {
+            return Ok(());
+        }
+        before = ending.written.len();
+    }
+    Err(Fail::new("a session has too many writes"))
 }
 
 /// So many spaces.
@@ -83,8 +174,8 @@ fn spaces_end_so<R: Threads + Sync>(
 ) -> Result<bool, AllocError> {
     let source = MemSource::new(spaces(alloc, count)?, 65_536, Vec::new(alloc));
     let mut source = Box::new(alloc, source)?;
-    let mut sink = sink_of(alloc, 99)?;
-    let status = status_of(rt, alloc, &mut source, &mut sink)?;
+    let mut sink = sink_of(alloc, 64, NO_CALL)?;
+    let status = status_of(rt, alloc, &mut *source, &mut *sink)?;
     Ok(status == ending.0 && sink.bytes().len() == ending.1)
 }
 
