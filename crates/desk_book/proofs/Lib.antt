@@ -1,4 +1,3 @@
-pub mod Equality
 pub mod Histories
 pub mod Stepping
 pub mod GoesOn

@@ -6,6 +6,7 @@ pub mod ComputedRebates
 pub mod ComputedStarts
 pub mod Duality
 pub mod Empty
+pub mod Equality
 pub mod FaultLemmas
 pub mod Faultless
 pub mod Filled
@@ -25,6 +26,8 @@ pub mod OneVerdict
 pub mod Orderly
 pub mod Orders
 pub mod Pairs
+pub mod Permuted
+pub mod PlannedPlans
 pub mod RangeLemmas
 pub mod Rebates
 pub mod Removing

@@ -1,24 +1,22 @@
 -- The placements of a plan, listed by telescope, then slice.
 use Rattle.std.proofs.Common.{◌≡◌, ◌≢◌, ℕ, ◌+◌, ◌<◌, ◌≤◌, ◌⊎◌, inl, inr, Bool, true, false, cond, List, [], ◌∷◌, slice_index_or, All, AllPairs, Contains, IsPermutation, sum_by, Ordering, Less, Equal, refl, sym, ◌∙◌, subst, arith}
-use Rattle.std.specs.Prelude.{filter}
 use Rattle.std.specs.Cmp.{nat_cmp_is}
 use Rattle.std.specs.Ordering.{is_lt, nat_cmp, ordering_then}
 use Rattle.std.specs.List.Sorted.{IsSortedBy}
 use Rattle.std.proofs.lemmas.Bool.{cases_eq, cases_lt}
 use Rattle.std.proofs.lemmas.Map.Keys.{ge_from_not_lt}
-use Rattle.std.proofs.lemmas.List.Elements.{All-contains, All-contains_itself}
-use Rattle.std.proofs.lemmas.List.Sorted.{All-permutation, IsPermutation-map, IsPermutation-sym, sum_by-IsPermutation}
-use Rattle.std.proofs.lemmas.List.Sums.{sum_by-cons}
+use Rattle.std.proofs.lemmas.List.Sorted.{All-permutation, Contains-permutation, IsPermutation-sym, sum_by-IsPermutation}
 use Rattle.plan_base.specs.declared.parts.Parts.{Parts}
 use Rattle.plan_base.specs.declared.number.TelescopeNo.{TelescopeNo}
 use Rattle.plan_base.specs.declared.claim.Placement.{Placement}
-use Rattle.plan_base.specs.Requests.{seconds_of, quota_of, AllOrNone}
+use Rattle.plan_base.specs.Requests.{AllOrNone}
 use Rattle.plan_base.specs.Starts.{IsPossibleStart, ShareSlice, size_of, worth_at, value_of_plan}
-use Rattle.plan_base.specs.Feasible.{requests_of, is_quota, quota_seconds, AreOfOneOneOf, IsFeasible}
+use Rattle.plan_base.specs.Feasible.{requests_of, AreOfOneOneOf, IsFeasible}
 use Rattle.plan_base.specs.Repaired.{IsListing, is_listed_before}
 use Rattle.plan_base.specs.Snapshot.{IsOrderly}
 use Rattle.plan_base.proofs.Sizes.{start_size_above}
 use Rattle.plan_base.proofs.Pairs.{all_pairs_permutation, all_pairs_from_neighbours}
+use Rattle.plan_base.proofs.Permuted.{requests_permuted, quota_seconds_permuted}
 
 -- a comes before b by telescope, then slice, or at the same slice
 abbrev IsNotAfter : Placement → Placement → Type 0
@@ -50,21 +48,9 @@ same_telescope a b e i = record { 0 = e i }
 share_turned : (s : Parts) (a b : Placement) → ¬ (ShareSlice s a b) → ¬ (ShareSlice s b a)
 share_turned s a b none share = none (sym share.0, share.1, share.3, share.2)
 
--- what f gives of those that pass
-chosen : {X : Type 0} (p : X → Bool) (f : X → ℕ) (xs : List X) → sum_by f (filter p xs) ≡ sum_by (λ x. cond (p x) (f x) 0) xs
-chosen p f [] = refl
-chosen p f (x ∷ xs) =
-    let rest : sum_by f (filter p xs) ≡ sum_by (λ y. cond (p y) (f y) 0) xs = chosen p f xs in
-    let more : sum_by f (x ∷ filter p xs) ≡ f x + sum_by f (filter p xs) = sum_by-cons f x (filter p xs) in
-    let here : sum_by (λ y. cond (p y) (f y) 0) (x ∷ xs) ≡ cond (p x) (f x) 0 + sum_by (λ y. cond (p y) (f y) 0) xs = sum_by-cons (λ y. cond (p y) (f y) 0) x xs in
-    (elim (p x) as (λ b. sum_by f (cond b (x ∷ filter p xs) (filter p xs)) ≡ cond b (f x) 0 + sum_by (λ y. cond (p y) (f y) 0) xs) [ true ↦ omega arith | false ↦ omega arith ]) ∙ sym here
-
 module _ (s : Parts) (plan listing : List Placement) (orderly : IsOrderly s) (same : IsPermutation plan listing) (feasible : IsFeasible s plan) where
   requests : IsPermutation (requests_of plan) (requests_of listing)
-  requests = IsPermutation-map (λ p. p.request.0) plan listing same
-
-  contained : {X : Type 0} (xs ys : List X) (z : X) → IsPermutation xs ys → Contains ys z → Contains xs z
-  contained xs ys z permuted c = All-contains (Contains xs) ys z (All-permutation (Contains xs) xs ys permuted (All-contains_itself xs)) c
+  requests = requests_permuted plan listing same
 
   apart : AllPairs (λ a b. ¬ (ShareSlice s a b)) listing
   apart = all_pairs_permutation (λ a b. ¬ (ShareSlice s a b)) (share_turned s) plan listing same feasible.disjoint
@@ -73,13 +59,8 @@ module _ (s : Parts) (plan listing : List Placement) (orderly : IsOrderly s) (sa
   possible = All-permutation (IsPossibleStart s) plan listing same feasible.possible
 
   whole : (g : ℕ) → AllOrNone s g (requests_of plan) → AllOrNone s g (requests_of listing)
-  whole g (inl all) = inl (λ r of. contained (requests_of listing) (requests_of plan) r (IsPermutation-sym (requests_of plan) (requests_of listing) requests) (all r of))
-  whole g (inr none) = inr (λ r of c. none r of (contained (requests_of plan) (requests_of listing) r requests c))
-
-  seconds : (q : ℕ) → quota_seconds s q (requests_of listing) ≡ quota_seconds s q (requests_of plan)
-  seconds q =
-      let p : ℕ → Bool = λ r. is_quota q (quota_of s r) in
-      chosen p (seconds_of s) (requests_of listing) ∙ sum_by-IsPermutation (λ r. cond (p r) (seconds_of s r) 0) (requests_of plan) (requests_of listing) requests ∙ sym (chosen p (seconds_of s) (requests_of plan))
+  whole g (inl all) = inl (λ r of. Contains-permutation (requests_of plan) (requests_of listing) r requests (all r of))
+  whole g (inr none) = inr (λ r of c. none r of (Contains-permutation (requests_of listing) (requests_of plan) r (IsPermutation-sym (requests_of plan) (requests_of listing) requests) c))
 
   -- it is feasible too
   pub listing_feasible : IsFeasible s listing
@@ -89,7 +70,7 @@ module _ (s : Parts) (plan listing : List Placement) (orderly : IsOrderly s) (sa
     disjoint = apart;
     oneof_once = all_pairs_permutation (λ a b. ¬ (AreOfOneOneOf s a b)) (λ a b none both. none (both.0, both.1, both.3, both.2)) (requests_of plan) (requests_of listing) requests feasible.oneof_once;
     and_whole = λ g kind. whole g (feasible.and_whole g kind);
-    within_quotas = λ q lt. (let w = feasible.within_quotas q lt in let e = seconds q in omega arith);
+    within_quotas = λ q lt. (let w = feasible.within_quotas q lt in let e = quota_seconds_permuted s q plan listing same in omega arith);
   }
 
   -- and worth as much

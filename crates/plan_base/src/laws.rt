@@ -5,13 +5,16 @@ ghost use Rattle.plan_base.specs.Starts.{IsPossibleStart, worth_at, value_of_pla
 ghost use Rattle.plan_base.specs.Requests.{request_value};
 ghost use Rattle.plan_base.specs.Feasible.{IsFeasible};
 ghost use Rattle.plan_base.specs.Saturated.{IsSaturated};
-ghost use Rattle.plan_base.specs.Fill.{IsFilled};
+ghost use Rattle.plan_base.specs.Fill.{IsFilled, IsGreedy};
+ghost use Rattle.plan_base.specs.Planned.{IsPlanned};
 ghost use Rattle.plan_base.specs.Sums.{AreParts, sum_of};
 ghost use Rattle.plan_base.specs.Limits.{most_price, most_quota_price, bound_limit};
 ghost use Rattle.plan_base.specs.Bound.{IsBest, net_price, IsRebate, IsQuotaPart, IsBound};
 ghost use Rattle.plan_base.specs.Tables.{horizon_end, IsTable};
 ghost use Rattle.plan_base.specs.Verdict.{IsPriceInRange};
+ghost use Rattle.plan_base.specs.declared.claim.Claim.{Claim};
 ghost use Rattle.plan_base.specs.declared.claim.Placement.{Placement};
+ghost use Rattle.plan_base.specs.declared.claim.Settings.{Settings};
 
 use crate::claim::{Placement, Prices, QuotaPrices};
 use crate::snapshot::Snapshot;
@@ -77,6 +80,16 @@ pub fn table_has_bests(snapshot: &Snapshot, prices: &Prices)
 pub fn filled_is_saturated(snapshot: &Snapshot)
     ensures feasible { (plan after : List Placement) → IsFeasible snapshot.now plan → IsFilled snapshot.now plan after → IsFeasible snapshot.now after }
     ensures saturated { (plan after : List Placement) → IsFilled snapshot.now plan after → IsSaturated snapshot.now after }
+{
+    snapshot.recall_valid();
+}
+
+/// The placements of a planned claim are feasible and saturated, and worth at least the greedy plan.
+pub fn planned_is_saturated(snapshot: &Snapshot)
+    ensures feasible { (settings : Settings) (claim : Claim) → IsPlanned snapshot.now settings claim → IsFeasible snapshot.now claim.placements }
+    ensures saturated { (settings : Settings) (claim : Claim) → IsPlanned snapshot.now settings claim → IsSaturated snapshot.now claim.placements }
+    ensures greedy { (settings : Settings) (claim : Claim) (plan : List Placement) → IsPlanned snapshot.now settings claim → IsGreedy snapshot.now plan
+        → value_of_plan snapshot.now plan ≤ value_of_plan snapshot.now claim.placements }
 {
     snapshot.recall_valid();
 }

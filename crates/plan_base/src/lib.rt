@@ -33,8 +33,8 @@ pub use greatest::{
     MOST_REQUESTS, MOST_SECONDS, MOST_SLICES, MOST_STARTS, MOST_VALUE, MOST_VERSION,
 };
 pub use laws::{
-    bound_limit, bound_of_parts, empty_is_feasible, filled_is_saturated, table_has_bests,
-    value_limit, weak_duality, worth_between,
+    bound_limit, bound_of_parts, empty_is_feasible, filled_is_saturated, planned_is_saturated,
+    table_has_bests, value_limit, weak_duality, worth_between,
 };
 pub use list::{ListOf, repeated};
 pub use listing::listing_of;

@@ -1,8 +1,7 @@
 -- When a telescope of a snapshot is open for a request.
-use Rattle.std.proofs.Common.{◌≡◌, ℕ, ◌+◌, ◌*◌, ◌<◌, ◌≤◌, List, [], length, map, All, Contains, sym, ◌∙◌, ap, subst, arith, Decides}
-use Rattle.std.specs.Prelude.{◌↔◌, ◌==◌, HoldsAt}
+use Rattle.std.proofs.Common.{◌≡◌, ℕ, ◌+◌, ◌*◌, ◌<◌, ◌≤◌, List, [], length, map, All, Contains, sym, ◌∙◌, ap, subst, arith}
+use Rattle.std.specs.Prelude.{◌↔◌, HoldsAt}
 use Rattle.std.proofs.lemmas.List.{length-map, get_or-map, get_or_past}
-use Rattle.std.proofs.lemmas.Bool.Decides.{Decides-eqb}
 use Rattle.plan_base.specs.declared.parts.Parts.{Parts}
 use Rattle.plan_base.specs.declared.parts.RequestPart.{RequestPart}
 use Rattle.plan_base.specs.declared.parts.TelescopePart.{TelescopePart}
@@ -12,10 +11,6 @@ use Rattle.plan_base.specs.Snapshot.{IsSortedApart, IsOrderly}
 use Rattle.plan_base.specs.Starts.{site_of}
 use Rattle.plan_base.specs.BySpans.{HasAll, usable_of, IsVisibleThrough}
 use Rattle.snapshot_starts.specs.Pairs.{IsTimely, IsOpen, CanStart}
-
--- equal numbers are the same telescope
-pub telescopes_decide : (a b : TelescopeNo) → Decides (a.0 == b.0) (a ≡ b)
-telescopes_decide a b = let each = Decides-eqb a.0 b.0 in (λ yes. ap (λ (n : ℕ). let x : TelescopeNo = record { 0 = n } in x) (each.0 yes), λ same. each.1 (ap (λ (x : TelescopeNo). x.0) same))
 
 pub usable_is : (s : Parts) (t : ℕ) (part : TelescopePart) → t < length s.telescopes → HoldsAt (λ x. x ≡ part) s.telescopes t → usable_of s t ≡ part.usable
 usable_is s t part l at = get_or-map (λ y. y.usable) s.telescopes t part [] l ∙ ap (λ (y : TelescopePart). y.usable) (at part)

@@ -1,8 +1,7 @@
 use Rattle.std.proofs.Common.{sym, ◌∙◌, arith}
 use Rattle.std.proofs.lemmas.Bool.{false≢true}
 use Rattle.std.proofs.lemmas.Slice.Eq.{slice_eq-Decides}
-use Rattle.snapshot_starts.proofs.Alike.{spans_decide, targets_decide}
-use Rattle.snapshot_starts.proofs.Open.{telescopes_decide}
+use Rattle.plan_base.proofs.Equality.{spans_decide, targets_decide, telescopes_decide}
 use Rattle.snapshot_starts.proofs.Mending.{asked_alike}
 use Rattle.snapshot_starts.proofs.steady.is_asked_alike.Goals as goal
 use Rattle.snapshot_starts.proofs.steady.is_asked_alike.Goals.{then-eq, else-eq}

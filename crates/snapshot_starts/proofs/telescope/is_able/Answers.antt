@@ -2,7 +2,7 @@ use Rattle.std.proofs.Common.{subst, sym, List}
 use Rattle.std.specs.Prelude.{◌==◌, Contains}
 use Rattle.std.proofs.lemmas.List.Elements.{contains_decides, Decides-contains}
 use Rattle.plan_base.specs.declared.number.TelescopeNo.{TelescopeNo}
-use Rattle.snapshot_starts.proofs.Open.{telescopes_decide}
+use Rattle.plan_base.proofs.Equality.{telescopes_decide}
 use Rattle.snapshot_starts.proofs.telescope.is_able.Goals as goal
 
 pub returns : goal.returns
