@@ -1,44 +1,24 @@
 -- Spans that have the same seconds within some times, and parts of snapshots that are alike.
 use Rattle.std.proofs.Common.{◌≡◌, ℕ, ◌+◌, ◌<◌, ◌≤◌, inl, inr, min, max, true, nat_eq, List, [], ◌∷◌, ◌++◌, length, slice_index_or, take, sym, ◌∙◌, ap, subst, arith}
 use Rattle.std.specs.Prelude.{◌&&◌, ◌↔◌}
-use Rattle.std.specs.Bool.{Decides}
 use Rattle.std.proofs.lemmas.Bool.{and_parts}
-use Rattle.std.proofs.lemmas.Bool.Decides.{Decides-eqb}
 use Rattle.std.proofs.lemmas.List.{take_more}
 use Rattle.plan_base.specs.declared.span.Span.{Span}
-use Rattle.plan_base.specs.declared.number.TargetNo.{TargetNo}
 use Rattle.plan_base.specs.declared.number.RequestNo.{RequestNo}
 use Rattle.plan_base.specs.declared.number.TelescopeNo.{TelescopeNo}
 use Rattle.snapshot_starts.specs.declared.pair.Pair.{Pair}
 use Rattle.snapshot_starts.specs.Pairs.{pair_of}
-use Rattle.snapshot_starts.proofs.Open.{telescopes_decide}
+use Rattle.plan_base.proofs.Equality.{requests_decide, telescopes_decide}
 use Rattle.plan_base.specs.BySpans.{HasAll}
 use Rattle.snapshot_starts.specs.Mending.{IsSameWithin}
-use Rattle.snapshot_starts.proofs.Sets.{any_left, any_last, any_cases, and_true}
+use Rattle.snapshot_starts.proofs.Sets.{any_left, any_last, any_cases}
 
 -- ---- equal values
-
-abbrev span_of : ℕ → ℕ → Span
-span_of a b = record { from = record { 0 = a }; to = record { 0 = b } }
-
-pub spans_decide : (v w : Span) → Decides (nat_eq v.from.0 w.from.0 && nat_eq v.to.0 w.to.0) (v ≡ w)
-spans_decide v w =
-    let from = Decides-eqb v.from.0 w.from.0 in
-    let to = Decides-eqb v.to.0 w.to.0 in (
-      λ yes. let both = and_parts (nat_eq v.from.0 w.from.0) (nat_eq v.to.0 w.to.0) yes in ap (λ (a : ℕ). span_of a v.to.0) (from.0 both.0) ∙ ap (λ (b : ℕ). span_of w.from.0 b) (to.0 both.1),
-      λ same. and_true (nat_eq v.from.0 w.from.0) (nat_eq v.to.0 w.to.0) (from.1 (ap (λ (x : Span). x.from.0) same)) (to.1 (ap (λ (x : Span). x.to.0) same)),
-    )
-
-pub requests_decide : (a b : RequestNo) → Decides (nat_eq a.0 b.0) (a ≡ b)
-requests_decide a b = let each = Decides-eqb a.0 b.0 in (λ yes. ap (λ (n : ℕ). let x : RequestNo = record { 0 = n } in x) (each.0 yes), λ same. each.1 (ap (λ (x : RequestNo). x.0) same))
 
 pub pairs_same : (a b : Pair) → (nat_eq a.request.0 b.request.0 && nat_eq a.telescope.0 b.telescope.0) ≡ true → a ≡ b
 pairs_same a b told =
     let both = and_parts (nat_eq a.request.0 b.request.0) (nat_eq a.telescope.0 b.telescope.0) told in
     ap (λ (r : RequestNo). pair_of r a.telescope) ((requests_decide a.request b.request).0 both.0) ∙ ap (λ (t : TelescopeNo). pair_of b.request t) ((telescopes_decide a.telescope b.telescope).0 both.1)
-
-pub targets_decide : (a b : TargetNo) → Decides (nat_eq a.0 b.0) (a ≡ b)
-targets_decide a b = let each = Decides-eqb a.0 b.0 in (λ yes. ap (λ (n : ℕ). let x : TargetNo = record { 0 = n } in x) (each.0 yes), λ same. each.1 (ap (λ (x : TargetNo). x.0) same))
 
 -- ---- the same within some times
 

@@ -1,10 +1,11 @@
 -- The slices of a pair, by the runs of its request.
-use Rattle.std.proofs.Common.{◌≡◌, ℕ, ◌+◌, ◌<◌, ◌≤◌, inl, inr, min, max, true, List, [], ◌∷◌, ◌++◌, length, slice_index_or, take, Contains, sym, ◌∙◌, ap, subst, arith}
-use Rattle.std.specs.Prelude.{◌↔◌, ◌==◌, IsTrue, Any}
+use Rattle.std.proofs.Common.{◌≡◌, ℕ, ◌+◌, ◌<◌, ◌≤◌, ◌⊎◌, inl, inr, min, max, true, List, [], ◌∷◌, ◌++◌, length, slice_index_or, take, Contains, sym, ◌∙◌, ap, subst, arith}
+use Rattle.std.specs.Prelude.{◌↔◌, ◌==◌, filter, IsTrue, Any}
+use Rattle.std.specs.List.Sorted.{IsNonDecreasingBy}
 use Rattle.std.proofs.lemmas.Bool.{eqb-true, false≢true}
 use Rattle.std.proofs.lemmas.Bool.Decides.{nat_tests}
 use Rattle.std.proofs.lemmas.List.{take_more}
-use Rattle.std.proofs.lemmas.List.Elements.{All-contains, All-filter, All-contains_itself, filter_passes}
+use Rattle.std.proofs.lemmas.List.Elements.{All-contains, All-filter, All-contains_itself, Contains-get_or, filter_passes}
 use Rattle.plan_base.specs.declared.parts.Parts.{Parts}
 use Rattle.plan_base.specs.declared.span.Span.{Span}
 use Rattle.plan_base.specs.declared.claim.Placement.{Placement}
@@ -16,7 +17,7 @@ use Rattle.snapshot_starts.specs.declared.pair.Pair.{Pair}
 use Rattle.snapshot_starts.specs.declared.run.Run.{Run}
 use Rattle.snapshot_starts.specs.Slices.{AreSlices}
 use Rattle.snapshot_starts.specs.Pairs.{pair_start}
-use Rattle.snapshot_starts.specs.Runs.{start_at, IsGreatestRow, AreRuns, AreAllStarts, starts_with}
+use Rattle.snapshot_starts.specs.Runs.{start_at, IsGreatestRow, IsRunBefore, AreRuns, AreAllStarts, starts_with}
 use Rattle.snapshot_starts.proofs.InRuns.{IsIn, from_starts}
 use Rattle.snapshot_starts.proofs.Alike.{IsPartOf}
 use Rattle.snapshot_starts.proofs.Sets.{any_left, any_last, any_cases, or_true_left, or_true_right, or_true_cases, has_push, set_slices}
@@ -87,18 +88,22 @@ more_told t slices run_slices part runs i run within l at same from to is so_far
           );
     })
 
-pub other_told : (t : ℕ) (slices : Span) (runs : List Run) (i : ℕ) (run : Run) (within : List Span) → i < length runs → run ≡ slice_index_or runs i run → ¬ (run.telescope.0 ≡ t)
-    → AreToldBy t slices (take i runs) within → AreToldBy t slices (take (i + 1) runs) within
-other_told t slices runs i run within l at other so_far =
-    subst (λ (xs : List Run). AreToldBy t slices xs within) (sym (taken_more runs i run l at)) (record {
-      each = λ k. (
-        λ found. any_left (Tells t slices k) (take i runs) run ((so_far.each k).0 found),
-        λ told. elim (any_cases (Tells t slices k) (take i runs) run told) [
-          | inl earlier ↦ (so_far.each k).1 earlier
-          | inr last ↦ absurd (other last.telescope)
-        ],
-      );
-    })
+-- runs on other telescopes tell nothing
+pub all_told : (t : ℕ) (slices : Span) (runs : List Run) (within : List Span) → AreToldBy t slices (filter (λ run. run.telescope.0 == t) runs) within → AreToldBy t slices runs within
+all_told t slices runs within told = record {
+  each = λ k. (
+    λ found.
+        let (place, run, l, at, tells) = (told.each k).0 found in
+        let there : Contains runs run = All-contains (Contains runs) (filter (λ x. x.telescope.0 == t) runs) run (All-filter (λ x. x.telescope.0 == t) (Contains runs) runs (All-contains_itself runs)) (place, l, at) in
+        (there.0, run, there.1, there.2, tells),
+    λ (place, run, l, at, tells).
+        let there : Contains (filter (λ x. x.telescope.0 == t) runs) run = contains_filter (λ x. x.telescope.0 == t) runs run (place, l, at) (same_number run.telescope.0 t tells.telescope) in
+        (told.each k).1 (there.0, run, there.1, there.2, tells),
+  );
+}
+  where
+    same_number : (m n : ℕ) → m ≡ n → (m == n) ≡ true
+    same_number m n e = grind (arith, nat_tests)
 
 -- ---- all runs of a request tell its starts
 
@@ -107,6 +112,29 @@ of_request starts r p there = (
   All-contains (Contains starts) (starts_with starts r) p (All-filter (λ x. x.request.0 == r) (Contains starts) starts (All-contains_itself starts)) there,
   eqb-true p.request.0 r (All-contains (λ x. (x.request.0 == r) ≡ true) (starts_with starts r) p (filter_passes (λ x. x.request.0 == r) starts) there),
 )
+
+-- the runs of a request are in the order of telescopes
+pub telescopes_rise : (starts : List Placement) (r : ℕ) (runs : List Run) → AreRuns (starts_with starts r) runs → IsNonDecreasingBy (λ run. run.telescope.0) runs
+telescopes_rise starts r runs are i j d le l = by (below_or_same i j le)
+  where
+    below_or_same : (a b : ℕ) → a ≤ b → (a < b) ⊎ (a ≡ b)
+    below_or_same a b h = grind arith
+
+    one_request : (k : ℕ) → k < length runs → (slice_index_or runs k d).request.0 ≡ r
+    one_request k within =
+        let run : Run = slice_index_or runs k d in
+        let row = All-contains (IsGreatestRow (starts_with starts r)) runs run are.greatest (Contains-get_or runs k d within) in
+        let some : 0 < run.count = row.some in
+        (of_request starts r (start_at run run.first.0) (row.row run.first.0 (omega arith) (omega arith))).1
+
+    before : (a b : Run) → a.request.0 ≡ r → b.request.0 ≡ r → IsRunBefore a b → a.telescope.0 ≤ b.telescope.0
+    before a b at bt (inl less) = absurd (omega arith)
+    before a b at bt (inr (same, inl less)) = omega arith
+    before a b at bt (inr (same, inr (also, gap))) = let e : a.telescope.0 ≡ b.telescope.0 = ap (λ x. x.0) also in omega arith
+
+    by : (i < j) ⊎ (i ≡ j) → (slice_index_or runs i d).telescope.0 ≤ (slice_index_or runs j d).telescope.0
+    by (inl below) = before (slice_index_or runs i d) (slice_index_or runs j d) (one_request i (omega arith)) (one_request j l) (are.order i j d below l)
+    by (inr same) = let e : (slice_index_or runs i d).telescope.0 ≡ (slice_index_or runs j d).telescope.0 = ap (λ (k : ℕ). (slice_index_or runs k d).telescope.0) same in omega arith
 
 same_start : (run : Run) (pair : Pair) (k : ℕ) → run.request.0 ≡ pair.request.0 → run.telescope.0 ≡ pair.telescope.0 → start_at run k ≡ pair_start pair k
 same_start run pair k r t =

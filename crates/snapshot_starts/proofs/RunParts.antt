@@ -1,7 +1,7 @@
 -- The runs of one request are a part of all runs, and those of its starts.
 use Rattle.std.proofs.Common.{◌≡◌, ℕ, zero, suc, ◌+◌, ◌^◌, ◌<◌, ◌≤◌, ◌⊎◌, inl, inr, Bool, true, false, cond, not, ◌&&◌, ◌==◌, nat_lt, nat_le, List, [], ◌∷◌, ◌++◌, length, map, take, drop, slice_index_or, filter, AllPairs, refl, sym, ◌∙◌, ap, subst, arith}
 use Rattle.std.specs.List.{range_with_len}
-use Rattle.std.specs.List.Sorted.{IsPartitionedBy}
+use Rattle.std.specs.List.Sorted.{IsNonDecreasingBy}
 use Rattle.std.proofs.lemmas.Bool.Decides.{nat_tests}
 use Rattle.std.proofs.lemmas.List.Elements.{All-filter, filter-append}
 use Rattle.std.proofs.lemmas.List.Kept.{AllPairs-filter}
@@ -77,10 +77,12 @@ same_test a r = grind (arith, nat_tests)
 abbrev pub runs_with : List Run → ℕ → List Run
 runs_with runs r = filter (λ run. run.request.0 == r) runs
 
-pub runs_between : (runs : List Run) (r a n : ℕ) → HoldsBelow (λ run. nat_lt run.request.0 r) runs a → HoldsBelow (λ run. nat_le run.request.0 r) runs (n + a) → take n (drop a runs) ≡ runs_with runs r
-runs_between runs r a n low high =
-    part_of (λ run. nat_lt run.request.0 r) (λ run. nat_le run.request.0 r) runs a n low high
-    ∙ ap (λ (test : Run → Bool). filter test runs) (λ i run. same_test run.request.0 r i)
+-- from the first place on of which a number isn't below n, up to the first of which it is above, stand those whose number is n
+pub part_with : {X : Type 0} (number : X → ℕ) (xs : List X) (n a count : ℕ) → HoldsBelow (λ x. nat_lt (number x) n) xs a → HoldsBelow (λ x. nat_le (number x) n) xs (count + a)
+    → take count (drop a xs) ≡ filter (λ x. number x == n) xs
+part_with {X} number xs n a count low high =
+    part_of (λ x. nat_lt (number x) n) (λ x. nat_le (number x) n) xs a count low high
+    ∙ ap (λ (test : X → Bool). filter test xs) (λ i x. same_test (number x) n i)
 
 all_pass : (test : Placement → Bool) (f : ℕ → Placement) (ks : List ℕ) → ((k : ℕ) → test (f k) ≡ true) → filter test (map f ks) ≡ map f ks
 all_pass test f [] e = refl
@@ -134,8 +136,8 @@ are_runs_of_part runs r can =
     }))
 
 -- runs in order are in order of their requests
-request_order : (runs : List Run) (i j : ℕ) (d : Run) → AllPairs IsRunBefore runs → i ≤ j → j < length runs → (slice_index_or runs i d).request.0 ≤ (slice_index_or runs j d).request.0
-request_order runs i j d order le l = by (below_or_same i j le)
+pub requests_rise : (runs : List Run) → AllPairs IsRunBefore runs → IsNonDecreasingBy (λ run. run.request.0) runs
+requests_rise runs order i j d le l = by (below_or_same i j le)
   where
     below_or_same : (a b : ℕ) → a ≤ b → (a < b) ⊎ (a ≡ b)
     below_or_same a b h = grind arith
@@ -148,23 +150,11 @@ request_order runs i j d order le l = by (below_or_same i j le)
     by (inl below) = before (slice_index_or runs i d) (slice_index_or runs j d) (order i j d below l)
     by (inr same) = let e : (slice_index_or runs i d).request.0 ≡ (slice_index_or runs j d).request.0 = ap (λ (k : ℕ). (slice_index_or runs k d).request.0) same in omega arith
 
-less_before : (a b r : ℕ) → a ≤ b → nat_lt b r ≡ true → nat_lt a r ≡ true
-less_before a b r l h = grind (arith, nat_tests)
-
-most_before : (a b r : ℕ) → a ≤ b → nat_le b r ≡ true → nat_le a r ≡ true
-most_before a b r l h = grind (arith, nat_tests)
-
-pub parted_before : (runs : List Run) (r : ℕ) → AllPairs IsRunBefore runs → IsPartitionedBy (λ run. nat_lt run.request.0 r) runs
-parted_before runs r order i j d le l h = less_before _ _ r (request_order runs i j d order le l) h
-
-pub parted_through : (runs : List Run) (r : ℕ) → AllPairs IsRunBefore runs → IsPartitionedBy (λ run. nat_le run.request.0 r) runs
-parted_through runs r order i j d le l h = most_before _ _ r (request_order runs i j d order le l) h
-
--- no fewer runs are of requests up to one than of those below it
-pub no_fewer : (runs : List Run) (r a b : ℕ) (d : Run) → a ≤ length runs → HoldsBelow (λ run. nat_lt run.request.0 r) runs a → HoldsBelow (λ run. nat_le run.request.0 r) runs b → a ≤ b
-no_fewer runs r a b d within low high = elim (at_most_or_above a b) [
+-- no fewer have a number up to n than one below it
+pub no_fewer : {X : Type 0} (number : X → ℕ) (xs : List X) (n a b : ℕ) (d : X) → a ≤ length xs → HoldsBelow (λ x. nat_lt (number x) n) xs a → HoldsBelow (λ x. nat_le (number x) n) xs b → a ≤ b
+no_fewer number xs n a b d within low high = elim (at_most_or_above a b) [
   | inl le ↦ le
-  | inr above ↦ absurd (not_both (slice_index_or runs b d).request.0 r (low.below b d above (omega arith)) (high.others b d (omega arith) (omega arith)))
+  | inr above ↦ absurd (not_both (number (slice_index_or xs b d)) n (low.below b d above (omega arith)) (high.others b d (omega arith) (omega arith)))
 ]
   where
     at_most_or_above : (m n : ℕ) → (m ≤ n) ⊎ (n < m)

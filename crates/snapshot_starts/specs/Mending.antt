@@ -35,7 +35,7 @@ pub record IsInHorizon (s : Parts) (a b : ℕ) : Type 0 where
 abbrev pub AgreeIn : Parts → Parts → (ℕ → ℕ → Type 0) → (ℕ → ℕ → Type 0) → Type 0
 AgreeIn was s P Q = (a b : ℕ) → IsInHorizon was a b → IsInHorizon s a b → P a b ↔ Q a b
 
--- these times are all that lie in both horizons
+-- whatever lies in both horizons lies within these times
 abbrev pub AreShared : Parts → Parts → Span → Type 0
 AreShared was s times = (a b : ℕ) → IsInHorizon was a b → IsInHorizon s a b → (times.from.0 ≤ a) × (b ≤ times.to.0)
 

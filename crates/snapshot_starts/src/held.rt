@@ -1,6 +1,7 @@
 // A snapshot with its possible starts, kept for the snapshots after it.
 
-ghost use Rattle.std.specs.Prelude.{◌≡◌, ◌+◌, ◌≤◌, length, IsTrue, IfOk, IfErr};
+ghost use Rattle.std.specs.Prelude.{◌≡◌, ◌+◌, ◌≤◌, ◌==◌, length, filter, IsTrue, IfOk, IfErr};
+ghost use Rattle.std.specs.List.Sorted.{IsNonDecreasingBy};
 ghost use Rattle.interval_set.specs.Spans.{span_has};
 ghost use Rattle.plan_base.specs.Limits.{most_starts};
 ghost use Rattle.plan_base.specs.Starts.{IsPossibleStart};
@@ -10,13 +11,13 @@ ghost use Rattle.snapshot_starts.specs.Runs.{AreAllStarts, IsCauseOf};
 
 use crate::fault::StartFault;
 use crate::find::{find_all, list_starts};
-use crate::list::Starts;
+use crate::list::{Starts, part_of};
 use crate::pair::Pair;
 use crate::run::Run;
 use crate::search::Search;
 use crate::shared::common;
 use interval_set::Spans;
-use plan_base::{Sec, Snapshot, Span};
+use plan_base::{Sec, Snapshot, Span, TelescopeNo};
 use std::alloc::{AllocError, Global};
 use std::marker::Model;
 use std::thread::Threads;
@@ -87,14 +88,23 @@ impl Held {
     ) -> Result<Spans, AllocError>
         ensures { IfOk result (AreSlices (λ k. IsPossibleStart self.now (pair_start pair k) × IsTrue (span_has slices k))) }
     {
-        let mut within = Vec::new(alloc);
-        for run in self.starts.runs_of(pair.request) {
-            if run.telescope.0 == pair.telescope.0 {
-                within.push(common(slices_of_run(run), slices))?;
-            }
+        let runs = runs_on(self.starts.runs_of(pair.request), pair.telescope);
+        let mut within = Vec::with_capacity(alloc, runs.len())?;
+        for run in runs {
+            within.push(common(slices_of_run(run), slices))?;
         }
         Spans::from_list(alloc, within.as_slice())
     }
+}
+
+/// The runs on one telescope, of runs in the order of telescopes. It looks by halves for the first and the last.
+fn runs_on(runs: &[Run], telescope: TelescopeNo) -> &[Run]
+    requires { IsNonDecreasingBy (λ run. run.telescope.0) runs.now }
+    ensures { result.now ≡ filter (λ run. run.telescope.0 == telescope.0) runs.now }
+{
+    let from = runs.partition_point(|run| run.telescope.0 < telescope.0);
+    let to = runs.partition_point(|run| run.telescope.0 <= telescope.0);
+    part_of(runs, from, to)
 }
 
 /// The slices of a run.

@@ -1,9 +1,9 @@
 // Possible starts as a list that is kept as runs.
 
-ghost use Rattle.std.specs.Prelude.{◌≡◌, ◌≤◌, ◌<◌, ◌∷◌, nat_lt, nat_le, length, slice_index_or, slice_range, AllPairs, HoldsAt, IfOk};
+ghost use Rattle.std.specs.Prelude.{◌≡◌, ◌≤◌, ◌<◌, ◌∷◌, nat_lt, nat_le, length, slice_index_or, slice_range, HoldsAt, IfOk};
 ghost use Rattle.std.specs.List.Sorted.{IsNonDecreasingBy};
 ghost use Rattle.plan_base.specs.Limits.{most_starts};
-ghost use Rattle.snapshot_starts.specs.Runs.{AreRuns, IsRunBefore, starts_of, starts_with};
+ghost use Rattle.snapshot_starts.specs.Runs.{AreRuns, starts_of, starts_with};
 ghost use Rattle.snapshot_starts.specs.Kept.{CanKeep, AreSums, IsCountUpTo, HoldsBelow, count_of};
 
 use crate::run::Run;
@@ -91,7 +91,7 @@ impl Starts {
 }
 
 /// The runs from one place up to the one before another.
-fn part_of(runs: &[Run], from: usize, to: usize) -> &[Run]
+pub(crate) fn part_of(runs: &[Run], from: usize, to: usize) -> &[Run]
     requires order { from ≤ to }
     requires within { to ≤ length runs.now }
     ensures { result.now ≡ slice_range runs.now from to }
@@ -101,7 +101,7 @@ fn part_of(runs: &[Run], from: usize, to: usize) -> &[Run]
 
 /// How many runs are of requests below one.
 fn count_before(runs: &[Run], request: RequestNo) -> usize
-    requires { AllPairs IsRunBefore runs.now }
+    requires { IsNonDecreasingBy (λ run. run.request.0) runs.now }
     ensures within { result ≤ length runs.now }
     ensures counted { HoldsBelow (λ run. nat_lt run.request.0 request.0) runs.now result }
 {
@@ -110,7 +110,7 @@ fn count_before(runs: &[Run], request: RequestNo) -> usize
 
 /// How many runs are of requests up to one.
 fn count_through(runs: &[Run], request: RequestNo) -> usize
-    requires { AllPairs IsRunBefore runs.now }
+    requires { IsNonDecreasingBy (λ run. run.request.0) runs.now }
     ensures within { result ≤ length runs.now }
     ensures counted { HoldsBelow (λ run. nat_le run.request.0 request.0) runs.now result }
 {

@@ -15,7 +15,7 @@ use interval_set::Spans;
 use plan_base::{Parts, RequestPart, Sec, SliceNo, Span, TelescopeNo};
 use std::alloc::{AllocError, Global};
 
-/// The most slices outside of the earlier horizon that are tried one by one, which is quicker than finding all anew.
+/// The most slices outside of the earlier horizon that are tried one by one. Where more are gained, all are found anew.
 const MOST_TRIED: u64 = 16;
 
 /// The slices at which the request may start on the telescope, where all that its starts depend on is as it was: those
