@@ -1,12 +1,13 @@
 // What no clause says: that there is memory for each call, and that a run ends as it should. What is found of whole
 // documents stands in the files of cases/explain, at the top of the repository.
 
-use crate::ends::{is_ending, sink_of, source_of};
+use crate::ends::is_ending;
 use explain::{ExplainAnswer, Forced, explain, run_explain};
 use plan_base::{RequestNo, SliceNo, TelescopeNo};
 use plan_doc::{DocFault, Publication, read_publication};
 use plan_io::Status;
 use plan_json::parse_object;
+use samples::{sink_of, source_of};
 use std::alloc::{AllocError, Global};
 use std::test::Fail;
 

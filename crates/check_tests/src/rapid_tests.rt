@@ -1,9 +1,10 @@
 // What no clause says: that there is memory for a run, and how one ends where a read or a write fails. What comes of whole
 // documents stands in the files of cases/rapid, at the top of the repository.
 
-use crate::ends::{is_ending, sink_of, source_of};
+use crate::ends::is_ending;
 use plan_io::Status;
 use rapid::run_rapid;
+use samples::{sink_of, source_of};
 use std::alloc::{AllocError, Global};
 use std::test::Fail;
 

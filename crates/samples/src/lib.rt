@@ -1,8 +1,9 @@
 // Small snapshots, which the tests of several crates are played on, and what those compare with: what may start where by
-// each second, and the greatest sum of all lists of starts. Random numbers, and the range of prices.
+// each second, and the greatest sum of all lists of starts. Sources and sinks that fail, random numbers, and the range of prices.
 #![tactic(auto)]
 
 mod desk;
+mod ends;
 mod fault;
 mod lists;
 mod make;
@@ -12,6 +13,7 @@ mod sample;
 mod seconds;
 
 pub use desk::{Desk, GroupWish, Groups, TelescopeWish, Wish};
+pub use ends::{sink_of, source_of};
 pub use fault::SampleFault;
 pub use lists::{Found, best_of_all, find_starts};
 pub use random::Random;

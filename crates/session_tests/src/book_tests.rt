@@ -1,6 +1,6 @@
 //! Two callers of one book: what is answered while a Take is open, once a change came between it and its Publish, to what was
 //! found for another Take, and where none is open.
-use crate::script::{GRANT, INSTRUMENT, NIGHT, OPEN, PLAN, SKY, SUBMIT, TELESCOPE};
+use crate::script::{OPENING, PLAN, SUBMIT};
 use desk_book::{Book, BookStep, PublishStep};
 use desk_events::entry_text;
 use lanes::solve_plan;
@@ -119,40 +119,28 @@ fn act_on<R: Threads + Sync>(
     }
 }
 
+/// Whether caller 0 has no line at first, and the lines of the opening are replied to as they should be.
+fn opens<R: Threads + Sync>(
+    rt: &R,
+    alloc: Global,
+    book: &mut Book,
+    takes: &mut Vec<Taken>,
+) -> Result<bool, AllocError> {
+    let mut so = perform(alloc, book, takes, 0)?.as_slice() == "over".as_bytes();
+    for (line, wanted) in OPENING {
+        let found = act_on(rt, alloc, book, takes, Act::Send(0, line))?;
+        so = so && found.as_slice() == wanted.as_bytes();
+    }
+    Ok(so)
+}
+
 #[test]
 fn a_take_is_published_once(rt: HostRuntime) -> Result<(), Fail> {
     let mut book = Box::new(rt.alloc(), Book::new(rt.alloc(), 2)?)?;
     let mut takes = Vec::new(rt.alloc());
+    let opened = opens(&rt, rt.alloc(), &mut book, &mut takes)?;
+    assert!(rt; opened);
     for (act, wanted) in [
-        (Act::Perform(0), "over"),
-        (
-            Act::Send(0, OPEN),
-            "{\"caller\":0,\"line\":1,\"ok\":\"opened\",\"version\":0}\n",
-        ),
-        (
-            Act::Send(0, INSTRUMENT),
-            "{\"caller\":0,\"line\":2,\"ok\":\"instrument\",\"version\":1}\n",
-        ),
-        (
-            Act::Send(0, TELESCOPE),
-            "{\"caller\":0,\"line\":3,\"ok\":\"telescope\",\"telescope\":0,\"version\":2}\n",
-        ),
-        (
-            Act::Send(0, NIGHT),
-            "{\"caller\":0,\"line\":4,\"ok\":\"night\",\"version\":3}\n",
-        ),
-        (
-            Act::Send(0, SKY),
-            "{\"caller\":0,\"line\":5,\"ok\":\"visibility\",\"version\":4}\n",
-        ),
-        (
-            Act::Send(0, GRANT),
-            "{\"balance\":1000,\"caller\":0,\"line\":6,\"ok\":\"granted\",\"version\":5}\n",
-        ),
-        (
-            Act::Send(0, SUBMIT),
-            "{\"caller\":0,\"group\":1,\"ipp_charged\":0,\"line\":7,\"ok\":\"submitted\",\"requests\":[1],\"version\":6}\n",
-        ),
         (
             Act::Send(0, PLAN),
             "{\"caller\":0,\"line\":8,\"ok\":\"taken\",\"version\":7}\n",

@@ -17,4 +17,6 @@ mod script;
 #[cfg(test)]
 mod session_tests;
 #[cfg(test)]
+mod two_passes;
+#[cfg(test)]
 mod workload_tests;

@@ -1,9 +1,9 @@
 //! Sessions of several callers over a source and a sink in memory: the order of two callers' lines, which a gate holds, and faults in
 //! mid-stream. What other sessions write stands in the files of cases/live, at the top of the repository.
 use crate::between::Between;
-use crate::ends::{sink_of, source_of};
-use crate::script::{GRANT, INSTRUMENT, NIGHT, OPEN, PLAN, SKY, SUBMIT, TELESCOPE};
+use crate::script::{OPENING, PLAN, SUBMIT, replies_of_opening_then};
 use plan_io::{Gate, MemSink, MemSource, NoGate, Point, Status};
+use samples::{sink_of, source_of};
 use session::*;
 use std::alloc::{AllocError, Global};
 use std::sync::Wait;
@@ -39,40 +39,32 @@ fn ends_so<R: Threads + Wait + Sync, G: Gate>(
     Ok(status == ending.0 && sink.bytes() == ending.1)
 }
 
-/// What caller 0 sends, and then caller 1.
-const LINES: [(&str, &str); 10] = [
-    ("{\"caller\":0,", OPEN),
-    ("{\"caller\":0,", INSTRUMENT),
-    ("{\"caller\":0,", TELESCOPE),
-    ("{\"caller\":0,", NIGHT),
-    ("{\"caller\":0,", SKY),
-    ("{\"caller\":0,", GRANT),
-    ("{\"caller\":0,", SUBMIT),
-    ("{\"caller\":0,", PLAN),
-    ("{\"caller\":0,", PLAN),
-    ("{\"caller\":1,", SUBMIT),
-];
+/// Adds a line, with its caller in front of its other members.
+fn push_line(text: &mut Vec<u8>, caller: &str, line: &str) -> Result<(), AllocError> {
+    text.extend_from_slice(caller.as_bytes())?;
+    text.extend_from_slice(line.as_bytes().get(1..).unwrap_or(&[]))?;
+    text.push(b'\n')?;
+    Ok(())
+}
 
-/// The lines, each with its caller in front of its other members.
-fn lines_of(alloc: Global, lines: &[(&str, &str)]) -> Result<Vec<u8>, AllocError> {
+/// What caller 0 sends, which is the opening and two plans, and then caller 1.
+fn lines(alloc: Global) -> Result<Vec<u8>, AllocError> {
     let mut text = Vec::new(alloc);
-    for (caller, line) in lines {
-        text.extend_from_slice(caller.as_bytes())?;
-        text.extend_from_slice(line.as_bytes().get(1..).unwrap_or(&[]))?;
-        text.push(b'\n')?;
+    for (line, _) in OPENING {
+        push_line(&mut text, ZERO, line)?;
     }
+    push_line(&mut text, ZERO, PLAN)?;
+    push_line(&mut text, ZERO, PLAN)?;
+    push_line(&mut text, ONE, SUBMIT)?;
     Ok(text)
 }
 
-/// The group of caller 1 comes between the first plan's Take and its Publish.
-const REPLIES: &[u8] = b"\
-    {\"caller\":0,\"line\":1,\"ok\":\"opened\",\"version\":0}\n\
-    {\"caller\":0,\"line\":2,\"ok\":\"instrument\",\"version\":1}\n\
-    {\"caller\":0,\"line\":3,\"ok\":\"telescope\",\"telescope\":0,\"version\":2}\n\
-    {\"caller\":0,\"line\":4,\"ok\":\"night\",\"version\":3}\n\
-    {\"caller\":0,\"line\":5,\"ok\":\"visibility\",\"version\":4}\n\
-    {\"balance\":1000,\"caller\":0,\"line\":6,\"ok\":\"granted\",\"version\":5}\n\
-    {\"caller\":0,\"group\":1,\"ipp_charged\":0,\"line\":7,\"ok\":\"submitted\",\"requests\":[1],\"version\":6}\n\
+const ZERO: &str = "{\"caller\":0,";
+
+const ONE: &str = "{\"caller\":1,";
+
+/// The replies after the opening's: the group of caller 1 comes between the first plan's Take and its Publish.
+const REPLIES: &str = "\
     {\"caller\":0,\"line\":8,\"ok\":\"taken\",\"version\":7}\n\
     {\"caller\":1,\"group\":2,\"ipp_charged\":0,\"line\":1,\"ok\":\"submitted\",\"requests\":[2],\"version\":7}\n\
     {\"asked\":7,\"caller\":0,\"line\":8,\"newer\":8,\"no\":31,\"refused\":\"Stale\",\"version\":8}\n\
@@ -98,8 +90,9 @@ impl Gate for Between {
 #[test]
 fn a_line_comes_between_a_take_and_its_publish(rt: HostRuntime) -> Result<(), Fail> {
     let gate = Between::new();
-    let lines = lines_of(rt.alloc(), &LINES)?;
-    let ending = (Status::Done, REPLIES);
+    let lines = lines(rt.alloc())?;
+    let replies = replies_of_opening_then(rt.alloc(), REPLIES)?;
+    let ending = (Status::Done, replies.as_slice());
     let found = ends_so(&rt, rt.alloc(), lines.as_slice(), (99, 99), ending, &gate)?;
     assert_eq!(rt; gate.late.load(Ordering::SeqCst), 0);
     assert!(rt; found);

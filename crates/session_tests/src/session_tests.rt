@@ -1,8 +1,9 @@
 //! Sessions over a source and a sink in memory: a fault at each read and at each write, and the limit of bytes at its edge. What
 //! whole sessions write stands in the files of cases/session, at the top of the repository.
-use crate::ends::{sink_of, source_of, status_of};
-use crate::script::{GRANT, INSTRUMENT, NIGHT, OPEN, PLAN, SKY, SUBMIT, TELESCOPE};
+use crate::ends::status_of;
+use crate::script::{OPENING, PLAN, replies_of_opening_then};
 use plan_io::{MemSource, Status};
+use samples::{sink_of, source_of};
 use std::alloc::{AllocError, Global};
 use std::test::Fail;
 use std::thread::Threads;
@@ -10,62 +11,41 @@ use std::thread::Threads;
 /// A session has fewer reads than so many, and fewer writes.
 const NO_CALL: u32 = 100;
 
-/// The lines of a session, each with its replies.
-const LINES: [(&str, &str); 8] = [
-    (
-        OPEN,
-        "{\"caller\":0,\"line\":1,\"ok\":\"opened\",\"version\":0}\n",
-    ),
-    (
-        INSTRUMENT,
-        "{\"caller\":0,\"line\":2,\"ok\":\"instrument\",\"version\":1}\n",
-    ),
-    (
-        TELESCOPE,
-        "{\"caller\":0,\"line\":3,\"ok\":\"telescope\",\"telescope\":0,\"version\":2}\n",
-    ),
-    (
-        NIGHT,
-        "{\"caller\":0,\"line\":4,\"ok\":\"night\",\"version\":3}\n",
-    ),
-    (
-        SKY,
-        "{\"caller\":0,\"line\":5,\"ok\":\"visibility\",\"version\":4}\n",
-    ),
-    (
-        GRANT,
-        "{\"balance\":1000,\"caller\":0,\"line\":6,\"ok\":\"granted\",\"version\":5}\n",
-    ),
-    (
-        SUBMIT,
-        "{\"caller\":0,\"group\":1,\"ipp_charged\":0,\"line\":7,\"ok\":\"submitted\",\"requests\":[1],\"version\":6}\n",
-    ),
-    (
-        PLAN,
-        "{\"caller\":0,\"line\":8,\"ok\":\"taken\",\"version\":7}\n{\"caller\":0,\"claim\":{\"bound\":50000,\"placements\":[[1,0,0]],\"prices\":[50000],\"value\":50000},\"line\":8,\"ok\":\"published\",\"version\":7}\n",
-    ),
-];
+/// The Take and the Publish of the plan that the lines end with.
+const PLANNED: &str = "\
+    {\"caller\":0,\"line\":8,\"ok\":\"taken\",\"version\":7}\n\
+    {\"caller\":0,\"claim\":{\"bound\":50000,\"placements\":[[1,0,0]],\"prices\":[50000],\"value\":50000},\"line\":8,\"ok\":\"published\",\"version\":7}\n";
 
-/// The lines as they are read.
+/// The lines of a session: the opening, and a plan.
 fn lines(alloc: Global) -> Result<Vec<u8>, AllocError> {
     let mut text = Vec::new(alloc);
-    for (line, _) in LINES {
+    for (line, _) in OPENING {
         text.extend_from_slice(line.as_bytes())?;
         text.push(b'\n')?;
     }
+    text.extend_from_slice(PLAN.as_bytes())?;
+    text.push(b'\n')?;
     Ok(text)
+}
+
+/// The replies to all lines.
+fn replies(alloc: Global) -> Result<Vec<u8>, AllocError> {
+    replies_of_opening_then(alloc, PLANNED)
 }
 
 /// The replies to the lines that stand whole, with their newline, in so many first bytes.
 fn replies_in(alloc: Global, bytes: usize) -> Result<Vec<u8>, AllocError> {
     let mut text = Vec::new(alloc);
     let mut left = bytes;
-    for (line, replies) in LINES {
+    for (line, reply) in OPENING {
         if left <= line.len() {
-            break;
+            return Ok(text);
         }
         left -= line.len() + 1;
-        text.extend_from_slice(replies.as_bytes())?;
+        text.extend_from_slice(reply.as_bytes())?;
+    }
+    if left > PLAN.len() {
+        text.extend_from_slice(PLANNED.as_bytes())?;
     }
     Ok(text)
 }
@@ -95,7 +75,7 @@ fn end<R: Threads + Sync>(
 /// at the fault, or at its end where it has no such read.
 fn ends_at_read(alloc: Global, ending: &Ending, call: u32) -> Result<bool, AllocError> {
     let read = replies_in(alloc, 64 * call as usize)?;
-    let whole = replies_in(alloc, usize::MAX)?;
+    let whole = replies(alloc)?;
     Ok(
         ending.written == read
             && match ending.status {
@@ -126,7 +106,7 @@ fn ends_at_write(
     call: u32,
     before: usize,
 ) -> Result<bool, AllocError> {
-    let whole = replies_in(alloc, usize::MAX)?;
+    let whole = replies(alloc)?;
     let written = ending.written.as_slice();
     if !whole.as_slice().starts_with(written) {
         return Ok(false);

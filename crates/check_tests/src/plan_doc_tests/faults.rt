@@ -1,8 +1,9 @@
 // Checks over a source and a sink in memory that fail in mid-stream.
 
-use crate::ends::{is_ending, sink_of, source_of};
+use crate::ends::is_ending;
 use plan_doc::run_check;
 use plan_io::Status;
+use samples::{sink_of, source_of};
 use std::alloc::{AllocError, Global};
 use std::test::Fail;
 
