@@ -57,7 +57,7 @@ last_by : (x : EventEntry) (xs : List EventEntry) (t : EventEntry) → last_or (
 last_by x [] t h = let same : x ≡ t = cc in ([], ap (λ (e : EventEntry). e ∷ []) same)
 last_by x (y ∷ xs) t h = let rest = last_by y xs t h in (x ∷ rest.0, ap (λ (es : List EventEntry). x ∷ es) rest.1)
 
-ends_with : (xs : List EventEntry) (t : EventEntry) → last_or None xs ≡ Some t → (front : List EventEntry) × (xs ≡ front ++ t ∷ [])
+pub ends_with : (xs : List EventEntry) (t : EventEntry) → last_or None xs ≡ Some t → (front : List EventEntry) × (xs ≡ front ++ t ∷ [])
 ends_with [] t h = cc
 ends_with (x ∷ xs) t h = last_by x xs t h
 

@@ -1,6 +1,7 @@
 pub mod Solved
 pub mod Written
 pub mod Lanes
+pub mod OnePlanned
 pub mod Parts
 pub mod Among
 pub mod Closed

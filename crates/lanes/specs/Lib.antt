@@ -4,6 +4,7 @@ pub mod Ready
 pub mod Found
 pub mod Searched
 pub mod InStep
+pub mod Laws
 pub mod Working
 pub mod Solving
 pub mod Caching

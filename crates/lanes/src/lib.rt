@@ -5,6 +5,7 @@ mod bound_parts;
 mod found;
 mod lane;
 mod lane_prices;
+mod laws;
 mod solve;
 mod solving;
 mod steps;
@@ -13,5 +14,6 @@ mod worker;
 mod worth;
 
 pub use lane::Lane;
+pub use laws::workers_agree;
 pub use solve::{solve_plan, solve_plan_with};
 pub use steps::RoundAnswer;

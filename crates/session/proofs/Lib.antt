@@ -6,10 +6,10 @@ pub mod LineTexts
 pub mod Naming
 pub mod Numbers
 pub mod OneHistory
-pub mod OnePlanned
 pub mod OneSummary
 pub mod Passes
 pub mod Plans
+pub mod PlansPublished
 pub mod Reading
 pub mod Scripts
 pub mod Shows

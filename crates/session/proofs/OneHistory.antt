@@ -30,67 +30,12 @@ use Rattle.desk_book.specs.Claims.{IsPlannedOver}
 use Rattle.desk_book.proofs.Histories.{replay_more}
 use Rattle.desk_book.proofs.OneReply.{one_reply}
 use Rattle.desk_book.proofs.Turns.{last_more}
-use Rattle.session.specs.Laws.{PlansLast}
+use Rattle.session.specs.Laws.{TellsManyStarts, PublishesClaim, PlansLast}
 use Rattle.session.specs.Session.{IsSound}
 use Rattle.session.proofs.Alike.{AreAlike, AllAlike}
-use Rattle.session.proofs.OnePlanned.{one_bound, one_value}
-use Rattle.session.proofs.Turns.{AreMine, mine_more, entries_mine, turns, turns_mine}
-
--- ---- all entries are those of the one caller
-
-answers_rise : (n m : ℕ) (ts : List (ℕ × What)) → AreTurnsOf n ts m → n ≤ m
-answers_rise n m [] h = omega (arith, h)
-answers_rise n m ((k, Line) ∷ ts) h = omega (arith, answers_rise (n + 1) m ts h.1)
-answers_rise n m ((k, Take) ∷ []) h = absurd h
-answers_rise n m ((k, Take) ∷ (l, Publish) ∷ ts) h = omega (arith, answers_rise (n + 1) m ts h.2)
-answers_rise n m ((k, Take) ∷ (l, Line) ∷ ts) h = absurd h
-answers_rise n m ((k, Take) ∷ (l, Take) ∷ ts) h = absurd h
-answers_rise n m ((k, Publish) ∷ ts) h = absurd h
-
-none_at : (n : ℕ) (ts : List (ℕ × What)) → AreTurnsOf n ts n → ts ≡ []
-none_at n [] h = refl
-none_at n ((k, Line) ∷ ts) h = let rise : n + 1 ≤ n = answers_rise (n + 1) n ts h.1 in absurd (omega (arith, rise))
-none_at n ((k, Take) ∷ []) h = absurd h
-none_at n ((k, Take) ∷ (l, Publish) ∷ ts) h = let rise : n + 1 ≤ n = answers_rise (n + 1) n ts h.2 in absurd (omega (arith, rise))
-none_at n ((k, Take) ∷ (l, Line) ∷ ts) h = absurd h
-none_at n ((k, Take) ∷ (l, Take) ∷ ts) h = absurd h
-none_at n ((k, Publish) ∷ ts) h = absurd h
-
-no_turns : (es : List EventEntry) → turns es ≡ [] → es ≡ []
-no_turns [] h = refl
-no_turns (e ∷ es) h = cc
-
--- no entry is another caller's
-abbrev NoOthers : List EventEntry → Type 0
-NoOthers es = (c : ℕ) → entries_of (suc c) es ≡ []
-
-kept_first : (b : Bool) (e : EventEntry) (es : List EventEntry) → b ≡ true → cond b (e ∷ es) es ≡ e ∷ es
-kept_first true e es h = refl
-kept_first false e es h = cc
-
-passed_first : (b : Bool) (e : EventEntry) (es : List EventEntry) → b ≡ false → cond b (e ∷ es) es ≡ es
-passed_first true e es h = cc
-passed_first false e es h = refl
-
-caller_none : (n : ℕ) (e : EventEntry) (es : List EventEntry) → e.caller ≡ n → NoOthers (e ∷ es) → e.caller ≡ 0
-caller_none zero e es is none = is
-caller_none (suc c) e es is none =
-    let there : e ∷ entries_of (suc c) es ≡ [] = sym (kept_first (e.caller == suc c) e (entries_of (suc c) es) (eq-eqb e.caller (suc c) is)) ∙ none c in
-    absurd (cc)
-
-mine_of : (es : List EventEntry) → NoOthers es → AreMine es
-mine_of [] none = tt
-mine_of (e ∷ es) none =
-    let first : e.caller ≡ 0 = caller_none e.caller e es refl none in (
-      first,
-      mine_of es (λ c. sym (passed_first (e.caller == suc c) e (entries_of (suc c) es) (ne_eqb e.caller (suc c) (λ same. absurd (omega (arith, first, same))))) ∙ none c),
-    )
-
-whole_mine : (lines : List ScriptLine) (es : List EventEntry) → IsWhole (lines ∷ []) es → AreMine es
-whole_mine lines es whole = mine_of es (λ c. no_turns (entries_of (suc c) es) (none_at 1 (turns_of (suc c) es) (whole (suc c))))
-
-whole_answers : (lines : List ScriptLine) (es : List EventEntry) → IsWhole (lines ∷ []) es → AreMine es → AreTurnsOf 1 (turns es) (length lines + 1)
-whole_answers lines es whole mine = subst (λ (ts : List (ℕ × What)). AreTurnsOf 1 ts (length lines + 1)) (turns_mine es mine) (whole 0)
+use Rattle.lanes.proofs.OnePlanned.{one_bound, one_value}
+use Rattle.session.proofs.PlansPublished.{told_or_published}
+use Rattle.session.proofs.Turns.{AreMine, mine_more, entries_mine, turns, answers_rise, none_at, no_turns, whole_mine, whole_answers}
 
 -- ---- one state has one snapshot and one plan, but for ties
 
@@ -111,19 +56,7 @@ record PlanSaid (s : StateSeen) (r : Reply) : Type 0 where
   said : IsPublication s s.version r
   planned : (claim : Claim) → r ≡ Published claim → (parts : Parts) × IsSnapshotOf s parts × IsPlannedOver s parts claim
 
-abbrev ManyStarts : StateSeen → Reply → Type 0
-ManyStarts s r = (count : ℕ) × (r ≡ Refused (TooManyStarts count)) × ((parts : Parts) × IsSnapshotOf s parts × IsStartCount parts count × (most_starts < count))
-
-abbrev HasClaim : StateSeen → Reply → Type 0
-HasClaim s r = (claim : Claim) × (r ≡ Published claim) × ((parts : Parts) × IsSnapshotOf s parts × HasFewStarts parts)
-
-either : (s : StateSeen) (r : Reply) → IsPublication s s.version r → ManyStarts s r ⊎ HasClaim s r
-either s (Refused (Stale asked newer)) h = let later : s.version < s.version = h.0 in absurd (omega (arith, later))
-either s (Refused (TooManyStarts count)) h = inl (count, refl, h.1)
-either s (Published claim) h = inr (claim, refl, (h.1.0, h.1.1, h.1.2))
-either s r h = absurd h
-
-both_alike : (s : StateSeen) (r q : Reply) → PlanSaid s r → PlanSaid s q → ManyStarts s r ⊎ HasClaim s r → ManyStarts s q ⊎ HasClaim s q → AreAlike r q
+both_alike : (s : StateSeen) (r q : Reply) → PlanSaid s r → PlanSaid s q → TellsManyStarts s r ⊎ PublishesClaim s r → TellsManyStarts s q ⊎ PublishesClaim s q → AreAlike r q
 both_alike s r q p t (inl h) (inl g) =
     let same : h.0 ≡ g.0 = one_start_count h.2.0 h.0 g.0 h.2.2 (subst (λ (parts : Parts). IsStartCount parts g.0) (one_snapshot s g.2.0 h.2.0 g.2.1 h.2.1) g.2.2) in
     inl (h.1 ∙ ap (λ (count : ℕ). Refused (TooManyStarts count)) same ∙ sym g.1)
@@ -142,10 +75,10 @@ both_alike s r q p t (inr h) (inr g) =
     let first : IsPlanned a.0 d.opening.settings h.0 = a.2.2 in
     let second : IsPlanned a.0 d.opening.settings g.0 =
     subst (λ (parts : Parts). IsPlanned parts d.opening.settings g.0) (one_snapshot s b.0 a.0 b.1 a.1) (planned_at s b.0 g.0 d a.2.1 b.2) in
-    inr (h.0, g.0, h.1, g.1, one_bound a.0 d.opening.settings h.0 g.0 first second, one_value a.0 d.opening.settings h.0 g.0 first second)
+    inr (h.0, g.0, h.1, g.1, one_bound a.0 d.opening.settings d.opening.settings h.0 g.0 (record { lanes = refl; rounds = refl }) first second, one_value a.0 d.opening.settings d.opening.settings h.0 g.0 (record { lanes = refl; rounds = refl }) first second)
 
 one_plan : (s : StateSeen) (r q : Reply) → PlanSaid s r → PlanSaid s q → AreAlike r q
-one_plan s r q p t = both_alike s r q p t (either s r p.said) (either s q t.said)
+one_plan s r q p t = both_alike s r q p t (told_or_published s r p.said) (told_or_published s q t.said)
 
 -- ---- entry by entry
 

@@ -1,12 +1,23 @@
--- What holds of the texts of sessions, and of the summaries of sessions and workloads.
-use Rattle.std.specs.Prelude.{◌≡◌, ℕ, ◌+◌, ◌<◌, List, [], ◌∷◌, ◌++◌, length, slice_index_or, Some, Ok}
+-- What holds of the texts of sessions, of their plans, and of the summaries of sessions and workloads.
+use Rattle.std.specs.Prelude.{◌≡◌, ℕ, ◌+◌, ◌<◌, ◌⊎◌, List, [], ◌∷◌, ◌++◌, length, slice_index_or, Some, Ok}
+use Rattle.plan_base.specs.declared.claim.Claim.{Claim}
+use Rattle.plan_base.specs.declared.parts.Parts.{Parts}
+use Rattle.plan_base.specs.Limits.{most_starts}
+use Rattle.plan_base.specs.Solved.{HasFewStarts}
+use Rattle.plan_base.specs.Starts.{IsStartCount}
 use Rattle.plan_io.specs.declared.lines.ScriptLine.{ScriptLine}
 use Rattle.plan_io.specs.declared.lines.ScriptLine.TheVariants.{TooLong}
 use Rattle.plan_io.specs.declared.status.Status.TheVariants.{Done}
 use Rattle.desk_events.specs.declared.command.Command.TheVariants.{Plan}
 use Rattle.desk_events.specs.declared.entry.EventEntry.{EventEntry}
+use Rattle.desk_events.specs.declared.entry.What.TheVariants.{Publish}
+use Rattle.desk_events.specs.declared.refusal.Refusal.TheVariants.{TooManyStarts}
+use Rattle.desk_events.specs.declared.reply.Reply.{Reply}
+use Rattle.desk_events.specs.declared.reply.Reply.TheVariants.{Published, Refused}
 use Rattle.desk_events.specs.Line.{command_of_line}
-use Rattle.desk_core.specs.History.{IsWhole}
+use Rattle.desk_core.specs.Desk.{StateSeen}
+use Rattle.desk_core.specs.Step.{IsSnapshotOf}
+use Rattle.desk_core.specs.History.{IsLegal, IsWhole, replay}
 use Rattle.session.specs.declared.summary.Summary.{Summary}
 use Rattle.session.specs.Session.{IsSound, IsAnswered}
 use Rattle.session.specs.Summary.{summary_of, IsSummary, IsWorkloadRun}
@@ -15,6 +26,27 @@ use Rattle.session.specs.Summary.{summary_of, IsSummary, IsWorkloadRun}
 abbrev pub TextHasOneHistory : Type 0
 TextHasOneHistory =
     (scripts : List (List ScriptLine)) (held now : List ℕ) (a b : IsAnswered scripts (Some held) (Some now)) → a.history ≡ b.history
+
+-- ---- plans
+
+-- there are too many possible starts, and the reply has their exact count
+abbrev pub TellsManyStarts : StateSeen → Reply → Type 0
+TellsManyStarts s reply =
+    (count : ℕ) × (reply ≡ Refused (TooManyStarts count)) × ((parts : Parts) × IsSnapshotOf s parts × IsStartCount parts count × (most_starts < count))
+
+-- there are few enough, and the reply has a claim that is published
+abbrev pub PublishesClaim : StateSeen → Reply → Type 0
+PublishesClaim s reply = (claim : Claim) × (reply ≡ Published claim) × ((parts : Parts) × IsSnapshotOf s parts × HasFewStarts parts)
+
+-- What the Publish of a plan comes to in a legal history of one script: a claim, or the count of too many starts. It's never stale,
+-- as nothing stands between it and its Take, and never rejected.
+abbrev pub PlansArePublished : Type 0
+PlansArePublished =
+    (lines : List ScriptLine) (history before after : List EventEntry) (e : EventEntry)
+    → IsLegal (lines ∷ []) history → history ≡ before ++ e ∷ after → e.what ≡ Publish
+    → TellsManyStarts (replay (lines ∷ []) before) e.reply ⊎ PublishesClaim (replay (lines ∷ []) before) e.reply
+
+-- ---- summaries
 
 -- no line before the last asks for a plan
 abbrev pub PlansLast : List ScriptLine → Type 0

@@ -1,9 +1,15 @@
 //! Laws of sessions, each the contract of a function that does nothing.
-ghost use Rattle.session.specs.Laws.{TextHasOneHistory, LinesHaveOneSummary, NumberHasOneSummary, RunsWriteOneLine};
+ghost use Rattle.session.specs.Laws.{TextHasOneHistory, PlansArePublished, LinesHaveOneSummary, NumberHasOneSummary, RunsWriteOneLine};
 
 /// A law: what a session writes of its callers' lines tells the history that it is the text of.
 pub fn one_history()
     ensures { TextHasOneHistory }
+{}
+
+/// A law: of one caller's lines each plan is published, or there are too many possible starts, whose exact count is told. None is
+/// stale, and none rejected.
+pub fn plans_are_published()
+    ensures { PlansArePublished }
 {}
 
 /// A law: what is written of a workload is a function of its number, though its workers may find different plans.
