@@ -25,7 +25,7 @@ def parse(text: str, source: str) -> Any:
     ``source`` names the text in the ``FileError`` that is raised where it is no JSON.
     """
     try:
-        return json.loads(text, parse_float=Decimal, parse_constant=_refuse_constant)
+        return json.loads(text, parse_float=_decimal, parse_constant=_refuse_constant)
     except RecursionError:
         raise FileError(f"{source}: not JSON that can be read: it is nested too deeply") from None
     except ValueError as fault:
@@ -232,6 +232,13 @@ def kind_of(value: object) -> str:
         dict: "an object",
     }
     return kinds.get(type(value), f"a {type(value).__name__}")
+
+
+def _decimal(word: str) -> Decimal:
+    try:
+        return Decimal(word)
+    except ArithmeticError:
+        raise ValueError(f"{word} has an exponent that can't be read") from None
 
 
 def _refuse_constant(word: str) -> Any:

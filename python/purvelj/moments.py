@@ -41,7 +41,10 @@ def in_utc(text: str, path: str = "moment") -> datetime:
         raise DocumentError(path, f"{text!r} is no date and time") from None
     if moment.tzinfo is None:
         moment = moment.replace(tzinfo=timezone.utc)
-    return moment.astimezone(timezone.utc)
+    try:
+        return moment.astimezone(timezone.utc)
+    except OverflowError:
+        raise DocumentError(path, f"{text!r} is out of the years 1 to 9999 in UTC") from None
 
 
 def text_of(seconds: int) -> str:

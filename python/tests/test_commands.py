@@ -230,6 +230,9 @@ FILES = {
     "cutoutput.jsonl": "\n".join(REPLIES)[:-30],
     "group.json": DOCUMENT.replace('"name": "M 51 in r",', ""),
     "cutgroup.json": DOCUMENT[:200],
+    "types.json": DOCUMENT.replace('"1M0-SCICAM-SINISTRO"', '["1M0-SCICAM-SINISTRO"]'),
+    "long.json": DOCUMENT.replace('"ipp_value": 1.05', '"ipp_value": 1e9999999'),
+    "endless.json": DOCUMENT.replace('"ipp_value": 1.05', '"ipp_value": 1e9999999999999999999'),
     "script.jsonl": "\n".join(LINES),
 }
 BAD = [
@@ -255,6 +258,16 @@ BAD = [
         "--from: -315619200 is out of the seconds",
     ),
     (
+        ("nights", "sites.json", "--from", "9999-12-31T23:00:00-05:00", "--days", "1"),
+        4,
+        "--from: '9999-12-31T23:00:00-05:00' is out of the years 1 to 9999 in UTC",
+    ),
+    (
+        ("nights", "sites.json", "--from", "0001-01-01T00:00:00+05:00", "--days", "1"),
+        4,
+        "--from: '0001-01-01T00:00:00+05:00' is out of the years 1 to 9999 in UTC",
+    ),
+    (
         ("nights", "sites.json", "--from", "2120-01-01", "--days", "1"),
         6,
         "from 2120-01-01T00:00:00Z to 2120-01-02",
@@ -270,6 +283,21 @@ BAD = [
         ("portal", "cutgroup.json", "--priority", "1"),
         3,
         "cutgroup.json: not JSON: it ends in the middle, after 200",
+    ),
+    (
+        ("portal", "types.json", "--priority", "1"),
+        5,
+        "fault: document: types.json: requests[0].configurations[0].instrument_type: a list stands where a text",
+    ),
+    (
+        ("portal", "long.json", "--priority", "1"),
+        5,
+        "fault: ipp: long.json: ipp_value: 1E+9999999 is out of 500 to 2000 thousandths",
+    ),
+    (
+        ("portal", "endless.json", "--priority", "1"),
+        3,
+        "endless.json: not JSON: 1e9999999999999999999 has an exponent that can't be read",
     ),
     (("portal", "list.json", "--priority", "1"), 4, "list.json: there is no request group in it"),
     (("check", "cut.json"), 3, "cut.json: not JSON: it ends in the middle, after 300 characters"),

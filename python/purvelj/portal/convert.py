@@ -156,9 +156,11 @@ class _Converter:
     def _configurations(self, document: Document) -> list[Members | None]:
         path = document.path_of("configurations")
         configurations = document.objects("configurations", 1, MOST_CONFIGURATIONS)
-        types = {each.raw_or("instrument_type", None) for each in configurations}
+        # What is no text is a fault of its configuration.
+        named = (each.raw_or("instrument_type", None) for each in configurations)
+        types = {name for name in named if isinstance(name, str)}
         if len(types) > 1:
-            text = f"the instrument types {', '.join(sorted(map(str, types)))} are mixed in one request"
+            text = f"the instrument types {', '.join(sorted(types))} are mixed in one request"
             self._notes.fault("mixed-instruments", path, text)
         order = [each.raw_or("priority", 0) for each in configurations]
         if order != sorted(order, key=lambda each: each if isinstance(each, (int, float)) else 0):

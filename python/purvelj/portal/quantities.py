@@ -61,15 +61,20 @@ def _whole(
     rounding: str,
     notes: Notes,
 ) -> int:
-    path = document.path_of(name)
-    exact = decimal(document.raw(name), path) * factor
+    path, value = document.path_of(name), document.raw(name)
+    out_of_span = DocumentError(path, f"{value} is out of {span[0]} to {span[1]} {unit}")
+    try:
+        exact = decimal(value, path) * factor
+    except ArithmeticError:
+        # Its exponent is about the greatest that a Decimal may have.
+        raise out_of_span from None
     if not span[0] - 1 <= exact <= span[1] + 1:
-        raise DocumentError(path, f"{document.raw(name)} is out of {span[0]} to {span[1]} {unit}")
+        raise out_of_span
     number = int(exact.to_integral_value(rounding))
     if not span[0] <= number <= span[1]:
-        raise DocumentError(path, f"{document.raw(name)} is out of {span[0]} to {span[1]} {unit}")
+        raise out_of_span
     if number != exact:
-        notes.warn("rounded", path, f"{document.raw(name)} is sent as {number} {unit}")
+        notes.warn("rounded", path, f"{value} is sent as {number} {unit}")
     return number
 
 
