@@ -15,6 +15,7 @@ from purvelj import lines
 from purvelj.chart import draw_plan, draw_shares, plan_view, save, shares, story_of
 from purvelj.cli.ending import ended
 from purvelj.desk import Desk
+from purvelj.documents import write_text
 from purvelj.lines import Line
 from purvelj.model import Claim
 from purvelj.moments import seconds_of
@@ -64,7 +65,7 @@ def run(options: argparse.Namespace) -> int:
             picture(desk, options.out, "later")
         finally:
             desk.save(options.out / "script.jsonl")
-            (options.out / "output.jsonl").write_text(desk.history.output(), encoding="utf-8")
+            write_text(options.out / "output.jsonl", desk.history.output())
     print(f"script, output and pictures are in {os.path.relpath(options.out)}")
     return 0
 

@@ -73,7 +73,8 @@ def write_text(path: str | Path, text: str) -> None:
         write_output(text)
         return
     try:
-        Path(path).write_text(text, encoding="utf-8")
+        # A line that was sent may hold a surrogate alone, which is written as the desk was sent it.
+        Path(path).write_bytes(text.encode("utf-8", "surrogatepass"))
     except OSError as fault:
         raise FileError(f"{path}: can't be written: {fault.strerror or fault}") from None
 

@@ -159,6 +159,14 @@ def test_a_saved_script_is_replayed_to_the_same_output(ready: Desk, netsched: li
     assert [len(each) for each in replies] == [1, 1, 1, 1, 1, 1, 1, 2, 1, 1]
 
 
+def test_a_surrogate_alone_is_saved_as_it_was_sent(tmp_path: Path) -> None:
+    reply = '{"caller":0,"line":1,"no":1,"refused":"NotJson","version":0}'
+    with Desk(program(f"import sys; sys.stdin.buffer.readline(); print({reply!r})"), timeout=20) as desk:
+        desk.send('"\ud800"')
+        desk.save(tmp_path / "script.jsonl")
+    assert (tmp_path / "script.jsonl").read_bytes() == b'"\xed\xa0\x80"\n'
+
+
 def test_a_history_is_read_from_output_and_script(ready: Desk) -> None:
     ready.plan()
     history = ready.history
