@@ -20,9 +20,10 @@ class Journal:
     can't be opened, read or written.
     """
 
-    def __init__(self, name: str | Path, mode: str) -> None:
-        """Opens the files in the mode ``xb`` or ``r+b``."""
-        self._lines, self._replies = (_File(path, mode) for path in Journal.paths(name))
+    def __init__(self, lines: _File, replies: _File) -> None:
+        self._lines, self._replies = lines, replies
+        # Else a crash of the machine could take away a file that was just made.
+        _sync_folder_of(lines.path)
 
     @staticmethod
     def paths(name: str | Path) -> tuple[str, str]:
@@ -35,12 +36,20 @@ class Journal:
         for path in Journal.paths(name):
             if os.path.lexists(path):
                 raise FileError(f"{path}: it is there already; a desk goes on with it by Desk.resume")
-        return Journal(name, "xb")
+        lines, replies = (_File(path, "x+b") for path in Journal.paths(name))
+        return Journal(lines, replies)
 
     @staticmethod
     def go_on(name: str | Path) -> Journal:
-        """A journal that is there."""
-        return Journal(name, "r+b")
+        """A journal that is there.
+
+        Who began it may have been stopped before the file of the replies was made: that is made now. No line was written
+        by then, so where there is one the file of the replies was lost, and ``FileError`` is raised.
+        """
+        lines_path, replies_path = Journal.paths(name)
+        lines = _File(lines_path, "r+b")
+        is_begun = os.path.lexists(replies_path) or lines.pieces() != ([], b"")
+        return Journal(lines, _File(replies_path, "r+b" if is_begun else "x+b"))
 
     def stopped(self) -> Stopped:
         """Where the session stopped whose journal this is."""
@@ -115,3 +124,16 @@ class _File:
 
     def close(self) -> None:
         self._file.close()
+
+
+def _sync_folder_of(path: str) -> None:
+    """Sees that the files that stand in a file's folder are on the disk by name."""
+    name = os.path.dirname(path) or "."
+    try:
+        folder = os.open(name, os.O_RDONLY | os.O_DIRECTORY)
+        try:
+            os.fsync(folder)
+        finally:
+            os.close(folder)
+    except OSError as fault:
+        raise FileError(f"{name}: can't be written: {fault.strerror or fault}") from None

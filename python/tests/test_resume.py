@@ -237,6 +237,23 @@ def test_a_journal_is_of_one_desk(netsched, tmp_path: Path) -> None:
         Desk(netsched, journal=tmp_path / "nowhere" / "dawn")
 
 
+def test_a_journal_that_was_begun_in_part_goes_on(tmp_path: Path) -> None:
+    silent = program("import sys; sys.stdin.read()")
+    (tmp_path / "night.lines.jsonl").touch()
+    with Desk.resume(tmp_path / "night", silent) as desk:
+        assert (desk.unanswered, desk.history.exchanges) == ((), ())
+    assert (tmp_path / "night.replies.jsonl").read_bytes() == b""
+
+
+def test_a_journal_that_lost_its_replies_stays_as_it_is(tmp_path: Path) -> None:
+    silent = program("import sys; sys.stdin.read()")
+    (tmp_path / "night.lines.jsonl").write_text(joined(LINES))
+    with pytest.raises(FileError, match="night.replies.jsonl: can't be opened: No such file"):
+        Desk.resume(tmp_path / "night", silent)
+    assert [path.name for path in tmp_path.iterdir()] == ["night.lines.jsonl"]
+    assert (tmp_path / "night.lines.jsonl").read_text() == joined(LINES)
+
+
 def test_a_journal_can_be_resumed_by_hand(resume, netsched, tmp_path: Path) -> None:
     with Desk(netsched, journal=tmp_path / "night") as desk:
         desk.replay(LINES)
