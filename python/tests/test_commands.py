@@ -93,8 +93,9 @@ def test_portal(run) -> None:
     assert ran.err.count("\n") == 1 and ran.err.startswith("purvelj: warning: constraints: m51.json: requests[0]")
     target = {"name": "M51", "ra": 202.4696, "dec": 47.1952, "airmass": 1.6, "moon": 30.0}
     assert json.loads(Path("t.json").read_text()) == [target]
-    strict = run("portal", "m51.json", "--priority", "12", "--strict")
+    strict = run("portal", "m51.json", "--priority", "12", "--strict", "--targets", "strict.json")
     assert (strict.status, strict.out) == (5, "")
+    assert not Path("strict.json").exists()
 
 
 @pytest.mark.parametrize(

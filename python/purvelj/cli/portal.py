@@ -11,6 +11,8 @@ from purvelj.errors import DocumentError
 from purvelj.portal.convert import convert
 from purvelj.portal.notes import Note, Notes, PortalError, summary
 
+Row = dict[str, object]
+
 
 def add_commands(commands: Commands) -> None:
     """Adds the command to a parser."""
@@ -45,12 +47,16 @@ def run_portal(options: argparse.Namespace) -> int:
     conversions = [convert(value, options.priority, options.fade, path) for path, value in values]
     notes = [note for conversion in conversions for note in conversion.notes]
     faults = any(conversion.group is None for conversion in conversions)
+    targets: list[Row] = []
     if options.targets and not faults:
-        notes += _write_targets(options.targets, values)
+        targets, more = _targets(values)
+        notes += more
     for line in summary(tuple(notes)):
         tell(line)
     if faults or (options.strict and notes):
         return int(PortalError.status)
+    if options.targets:
+        write_text(options.targets, "[" + ",\n ".join(map(compact, targets)) + "]\n")
     for conversion in conversions:
         put(compact(conversion.line()))
     return 0
@@ -68,19 +74,18 @@ def _groups(path: str) -> Iterator[tuple[str, object]]:
         yield f"{source_of(path)}: [{place}]", each
 
 
-def _write_targets(path: str, values: list[tuple[str, object]]) -> tuple[Note, ...]:
+def _targets(values: list[tuple[str, object]]) -> tuple[list[Row], tuple[Note, ...]]:
+    """The targets of the groups as ``visibility`` reads them, and what is to be told of them."""
     from purvelj.portal.targets import targets_of
     from purvelj.places import Limits
 
     notes = Notes()
-    targets = targets_of(values, Limits(altitude=0.0), notes)
     rows = []
-    for target, limits in targets.items():
+    for target, limits in targets_of(values, Limits(altitude=0.0), notes).items():
         row = target.document()
         if limits.airmass is not None:
             row["airmass"] = limits.airmass
         if limits.moon:
             row["moon"] = limits.moon
         rows.append(row)
-    write_text(path, "[" + ",\n ".join(compact(row) for row in rows) + "]\n")
-    return notes.all()
+    return rows, notes.all()
