@@ -17,7 +17,7 @@ class Status(IntEnum):
     DOCUMENT = 4
     #: A portal's request group can't be turned into a line.
     PORTAL = 5
-    #: A site has no night, or a target is never visible.
+    #: No site has a night, a target is never visible from any site, or a line would have too many spans.
     SKY = 6
     #: The checker says No to a claim.
     NO = 7

@@ -27,7 +27,8 @@ MOST_QUOTA_PRICE = 200_000
 
 
 class Operator(str, Enum):
-    """Which sets of a group's requests may be placed: any, at most one, or all and none."""
+    """Which sets of a group's requests may be placed: any (``SINGLE``, ``MANY``), at most one (``ONEOF``), or all or
+    none (``AND``)."""
 
     SINGLE = "SINGLE"
     MANY = "MANY"
