@@ -16,7 +16,7 @@ use std::thread::Threads;
 const MOST_LINES: u32 = 65_536;
 
 /// Seeks the plan of what was taken, with the lock free, and publishes it.
-fn publish<S: Sending, R: Threads + Wait + Sync, G: Gate>(
+fn seek_and_publish<S: Sending, R: Threads + Wait + Sync, G: Gate>(
     rt: &R,
     alloc: Global,
     desk: &Desk<S>,
@@ -45,7 +45,7 @@ fn do_line<S: Sending, R: Threads + Wait + Sync, G: Gate>(
         BookStep::Replied | BookStep::Over => Ok(()),
         BookStep::Taken(taken) => {
             gate.pass(Point::AfterTake { caller, line });
-            publish(rt, alloc, desk, taken, cache, gate)
+            seek_and_publish(rt, alloc, desk, taken, cache, gate)
         }
         BookStep::TakeOpen => desk.held().lock(rt).publish_kept(rt, alloc, caller, cache),
     }

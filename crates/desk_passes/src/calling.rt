@@ -154,7 +154,7 @@ impl SharedDesk {
         let caller = pass.caller;
         let mut book = self.take_book(rt, &mut pass.inner);
         let called = book.call(caller, line);
-        // The call tells what holds of every book.
+        // The call tells what holds of every book, and so of the one that is given back.
         let _ = book.callers();
         match called {
             Ok(answer) => {
@@ -187,7 +187,7 @@ impl SharedDesk {
         let caller = pass.caller;
         let mut book = self.take_book(rt, &mut pass.inner);
         let published = publish_open(&mut book, solved);
-        // The call tells what holds of every book.
+        // The call tells what holds of every book, and so of the one that is given back.
         let _ = book.callers();
         match published {
             Ok(()) => {

@@ -73,6 +73,7 @@ fn read_key(alloc: Global, doc: &Doc) -> Result<Key, JsonFault>
     })
 }
 
+/// A `grant` line.
 pub(crate) fn read_grant(alloc: Global, doc: &Doc) -> Result<Command, JsonFault>
     ensures value { IfOk result (λ command. grant_of (members_of doc.now) ≡ Ok command) }
     ensures fault { IfErr result (λ e. e ≢ NoMemory → grant_of (members_of doc.now) ≡ Err e) }

@@ -26,6 +26,7 @@ fn read_group_number(doc: &Doc) -> Result<GroupNo, JsonFault>
     Ok(GroupNo(number))
 }
 
+/// A `submit` line.
 pub(crate) fn read_submit(alloc: Global, doc: &Doc) -> Result<Command, GroupFault>
     ensures value { IfOk result (λ command. submit_of (members_of doc.now) ≡ Ok command) }
     ensures fault { IfErr result (λ e. e ≢ NoMemory → submit_of (members_of doc.now) ≡ Err e) }
@@ -34,6 +35,7 @@ pub(crate) fn read_submit(alloc: Global, doc: &Doc) -> Result<Command, GroupFaul
     Ok(Command::Submit { group })
 }
 
+/// An `amend` line.
 pub(crate) fn read_amend(alloc: Global, doc: &Doc) -> Result<Command, GroupFault>
     ensures value { IfOk result (λ command. amend_of (members_of doc.now) ≡ Ok command) }
     ensures fault { IfErr result (λ e. e ≢ NoMemory → amend_of (members_of doc.now) ≡ Err e) }
@@ -46,6 +48,7 @@ pub(crate) fn read_amend(alloc: Global, doc: &Doc) -> Result<Command, GroupFault
     })
 }
 
+/// A `withdraw` line.
 pub(crate) fn read_withdraw(doc: &Doc) -> Result<Command, JsonFault>
     ensures { result ≡ withdraw_of (members_of doc.now) }
 {
@@ -53,6 +56,7 @@ pub(crate) fn read_withdraw(doc: &Doc) -> Result<Command, JsonFault>
     Ok(Command::Withdraw { group_number })
 }
 
+/// A `show` line.
 pub(crate) fn read_show(doc: &Doc) -> Result<Command, JsonFault>
     ensures { result ≡ show_of (members_of doc.now) }
 {

@@ -19,6 +19,7 @@ const MOST_MS: u32 = 86_400_000;
 /// The most instrument types of a telescope.
 const MOST_INSTRUMENTS: u32 = 16;
 
+/// An `instrument` line.
 pub(crate) fn read_instrument(alloc: Global, doc: &Doc) -> Result<Command, JsonFault>
     ensures value { IfOk result (λ command. instrument_of (members_of doc.now) ≡ Ok command) }
     ensures fault { IfErr result (λ e. e ≢ NoMemory → instrument_of (members_of doc.now) ≡ Err e) }
@@ -52,6 +53,7 @@ fn read_names(alloc: Global, list: &DocList) -> Result<ListOf<Name>, JsonFault>
     Ok(names)
 }
 
+/// A `telescope` line.
 pub(crate) fn read_telescope(alloc: Global, doc: &Doc) -> Result<Command, JsonFault>
     ensures value { IfOk result (λ command. telescope_of (members_of doc.now) ≡ Ok command) }
     ensures fault { IfErr result (λ e. e ≢ NoMemory → telescope_of (members_of doc.now) ≡ Err e) }
@@ -71,6 +73,7 @@ pub(crate) fn read_telescope(alloc: Global, doc: &Doc) -> Result<Command, JsonFa
     })
 }
 
+/// A `night` line.
 pub(crate) fn read_night(alloc: Global, doc: &Doc) -> Result<Command, JsonFault>
     ensures value { IfOk result (λ command. night_of (members_of doc.now) ≡ Ok command) }
     ensures fault { IfErr result (λ e. e ≢ NoMemory → night_of (members_of doc.now) ≡ Err e) }
@@ -80,6 +83,7 @@ pub(crate) fn read_night(alloc: Global, doc: &Doc) -> Result<Command, JsonFault>
     Ok(Command::Night { site, spans })
 }
 
+/// A `visibility` line.
 pub(crate) fn read_visibility(alloc: Global, doc: &Doc) -> Result<Command, JsonFault>
     ensures value { IfOk result (λ command. visibility_of (members_of doc.now) ≡ Ok command) }
     ensures fault { IfErr result (λ e. e ≢ NoMemory → visibility_of (members_of doc.now) ≡ Err e) }

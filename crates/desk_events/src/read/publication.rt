@@ -11,6 +11,7 @@ use plan_doc::read_claim;
 use plan_json::{Doc, JsonFault, Member};
 use std::alloc::Global;
 
+/// A `publish` line.
 pub(crate) fn read_publish(alloc: Global, doc: &Doc) -> Result<Command, JsonFault>
     ensures value { IfOk result (λ command. publish_of (members_of doc.now) ≡ Ok command) }
     ensures fault { IfErr result (λ e. e ≢ NoMemory → publish_of (members_of doc.now) ≡ Err e) }

@@ -45,6 +45,7 @@ fn read_scope(alloc: Global, doc: &Doc) -> Result<Scope, JsonFault>
     }
 }
 
+/// A `close` line.
 pub(crate) fn read_close(alloc: Global, doc: &Doc) -> Result<Command, JsonFault>
     ensures value { IfOk result (λ command. close_of (members_of doc.now) ≡ Ok command) }
     ensures fault { IfErr result (λ e. e ≢ NoMemory → close_of (members_of doc.now) ≡ Err e) }
@@ -54,6 +55,7 @@ pub(crate) fn read_close(alloc: Global, doc: &Doc) -> Result<Command, JsonFault>
     Ok(Command::Close { scope, spans })
 }
 
+/// A `reopen` line.
 pub(crate) fn read_reopen(alloc: Global, doc: &Doc) -> Result<Command, JsonFault>
     ensures value { IfOk result (λ command. reopen_of (members_of doc.now) ≡ Ok command) }
     ensures fault { IfErr result (λ e. e ≢ NoMemory → reopen_of (members_of doc.now) ≡ Err e) }

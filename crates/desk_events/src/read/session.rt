@@ -23,6 +23,7 @@ fn read_quota(doc: &Doc) -> Result<Option<u64>, JsonFault>
     }
 }
 
+/// An `open` line.
 pub(crate) fn read_open(doc: &Doc) -> Result<Command, JsonFault>
     ensures { result ≡ open_of (members_of doc.now) }
 {
@@ -46,6 +47,7 @@ pub(crate) fn read_open(doc: &Doc) -> Result<Command, JsonFault>
     })
 }
 
+/// A `clock` line.
 pub(crate) fn read_clock(doc: &Doc) -> Result<Command, JsonFault>
     ensures { result ≡ clock_of (members_of doc.now) }
 {
@@ -53,6 +55,7 @@ pub(crate) fn read_clock(doc: &Doc) -> Result<Command, JsonFault>
     Ok(Command::Clock { at })
 }
 
+/// A `report` line.
 pub(crate) fn read_report(doc: &Doc) -> Result<Command, JsonFault>
     ensures { result ≡ report_of (members_of doc.now) }
 {

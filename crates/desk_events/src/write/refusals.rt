@@ -85,6 +85,7 @@ pub(crate) fn at_index(
     write_json(&object, out)
 }
 
+/// The refusal of a group with so many requests that its operator doesn't take.
 pub(crate) fn bad_shape(
     entry: &EventEntry,
     count: u64,
@@ -106,6 +107,7 @@ pub(crate) fn bad_shape(
     write_json(&object, out)
 }
 
+/// The refusal of a window of the request at a place.
 pub(crate) fn bad_window(
     entry: &EventEntry,
     index: u32,
@@ -127,6 +129,7 @@ pub(crate) fn bad_window(
     write_json(&object, out)
 }
 
+/// The refusal of the cadence of the request at a place, which would have so many windows.
 pub(crate) fn too_many_windows(
     entry: &EventEntry,
     count: u64,
@@ -148,6 +151,7 @@ pub(crate) fn too_many_windows(
     write_json(&object, out)
 }
 
+/// The refusal of the request at a place, which would take so many seconds.
 pub(crate) fn too_long(
     entry: &EventEntry,
     index: u32,
@@ -169,6 +173,7 @@ pub(crate) fn too_long(
     write_json(&object, out)
 }
 
+/// The refusal for a limit, and what there would be too many of.
 pub(crate) fn full(
     entry: &EventEntry,
     limit: u64,
@@ -190,6 +195,7 @@ pub(crate) fn full(
     write_json(&object, out)
 }
 
+/// The refusal for an account that has no grant.
 pub(crate) fn no_such_allocation(
     entry: &EventEntry,
     account: Account,
@@ -209,6 +215,7 @@ pub(crate) fn no_such_allocation(
     write_json(&object, out)
 }
 
+/// The refusal for seconds that are needed and not available.
 pub(crate) fn not_enough_time(
     entry: &EventEntry,
     available: u64,
@@ -230,6 +237,7 @@ pub(crate) fn not_enough_time(
     write_json(&object, out)
 }
 
+/// The refusal for a group that has ended in a state.
 pub(crate) fn group_closed(
     entry: &EventEntry,
     state: RequestState,
@@ -249,6 +257,7 @@ pub(crate) fn group_closed(
     write_json(&object, out)
 }
 
+/// The refusal for a group of which a request runs or is completed.
 pub(crate) fn group_started(
     entry: &EventEntry,
     request: RequestNo,
@@ -268,6 +277,7 @@ pub(crate) fn group_started(
     write_json(&object, out)
 }
 
+/// The refusal of a report with more seconds than the request may take.
 pub(crate) fn used_too_long(
     entry: &EventEntry,
     most: u64,
@@ -289,6 +299,7 @@ pub(crate) fn used_too_long(
     write_json(&object, out)
 }
 
+/// The refusal of a moment before that of the desk.
 pub(crate) fn clock_back(
     entry: &EventEntry,
     asked: Sec,
@@ -310,6 +321,7 @@ pub(crate) fn clock_back(
     write_json(&object, out)
 }
 
+/// The refusal of a claim for another version than the desk's.
 pub(crate) fn stale(
     entry: &EventEntry,
     asked: u64,
@@ -331,6 +343,7 @@ pub(crate) fn stale(
     write_json(&object, out)
 }
 
+/// The refusal of a plan with so many possible starts.
 pub(crate) fn too_many_starts(
     entry: &EventEntry,
     count: u64,

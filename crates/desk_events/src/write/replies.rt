@@ -32,6 +32,7 @@ pub(crate) fn plain(entry: &EventEntry, name: &str, out: &mut Vec<u8>) -> Result
     write_json(&object, out)
 }
 
+/// A telescope was registered and has this number.
 pub(crate) fn telescope(
     entry: &EventEntry,
     telescope: TelescopeNo,
@@ -50,6 +51,7 @@ pub(crate) fn telescope(
     write_json(&object, out)
 }
 
+/// An account was granted time and has so many seconds now.
 pub(crate) fn granted(entry: &EventEntry, balance: u64, out: &mut Vec<u8>) -> Result<(), AllocError>
     ensures { AddsEntry result out.old.items out.new.items entry.now
         (members_of_reply (reply.Granted balance)) }
@@ -64,6 +66,7 @@ pub(crate) fn granted(entry: &EventEntry, balance: u64, out: &mut Vec<u8>) -> Re
     write_json(&object, out)
 }
 
+/// A group was submitted: its number, what it was charged, and the numbers of its requests.
 pub(crate) fn submitted(
     entry: &EventEntry,
     group: GroupNo,
@@ -86,6 +89,7 @@ pub(crate) fn submitted(
     write_json(&object, out)
 }
 
+/// A group was amended: its new number and its old one, what it was charged and refunded, and the numbers of its requests.
 pub(crate) fn amended(
     entry: &EventEntry,
     groups: (GroupNo, GroupNo),
@@ -112,6 +116,7 @@ pub(crate) fn amended(
     write_json(&object, out)
 }
 
+/// A group was withdrawn, with what was refunded.
 pub(crate) fn withdrawn(
     entry: &EventEntry,
     refunded: &ListOf<GroupRefund>,
@@ -130,6 +135,7 @@ pub(crate) fn withdrawn(
     write_json(&object, out)
 }
 
+/// The clock went on, with the requests that ended or began and what was refunded.
 pub(crate) fn clocked(
     entry: &EventEntry,
     expired: &ListOf<RequestNo>,
@@ -154,6 +160,7 @@ pub(crate) fn clocked(
     write_json(&object, out)
 }
 
+/// A request was completed, with the requests that are no longer wanted and the seconds that were charged.
 pub(crate) fn completed(
     entry: &EventEntry,
     canceled: &ListOf<RequestNo>,
@@ -174,6 +181,7 @@ pub(crate) fn completed(
     write_json(&object, out)
 }
 
+/// A request failed, with the requests that ended by that and what was refunded.
 pub(crate) fn failed(
     entry: &EventEntry,
     expired: &ListOf<RequestNo>,
@@ -194,6 +202,7 @@ pub(crate) fn failed(
     write_json(&object, out)
 }
 
+/// A claim was published.
 pub(crate) fn published(
     entry: &EventEntry,
     claim: &Claim,
@@ -212,6 +221,7 @@ pub(crate) fn published(
     write_json(&object, out)
 }
 
+/// The last claim that was published, with its snapshot.
 pub(crate) fn exported(
     entry: &EventEntry,
     claim: &Claim,
@@ -232,6 +242,7 @@ pub(crate) fn exported(
     write_json(&object, out)
 }
 
+/// All accounts with what they have.
 pub(crate) fn balances(
     entry: &EventEntry,
     balances: &ListOf<AccountBalance>,
@@ -250,6 +261,7 @@ pub(crate) fn balances(
     write_json(&object, out)
 }
 
+/// A group as it was submitted, with the states of its requests and its own.
 pub(crate) fn shown(
     entry: &EventEntry,
     document: &GroupDoc,
