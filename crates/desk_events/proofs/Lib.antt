@@ -4,3 +4,5 @@ pub mod RefusalsBack
 pub mod EntriesBack
 pub mod OneText
 pub mod InRange
+pub mod Newline
+pub mod LinesBack

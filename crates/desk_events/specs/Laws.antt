@@ -1,15 +1,22 @@
--- What a text fixes of its entries. Each entry that is written is exact.
-use Rattle.std.specs.Prelude.{◌≡◌, ℕ, List, map, ⊤}
+-- What a text fixes of its entries.
+use Rattle.std.specs.Prelude.{◌≡◌, ℕ, List, map, ⊤, Ok}
 use Rattle.std.specs.List.{AllByRecursion}
-use Rattle.plan_json.specs.Exact.{IsExact}
+use Rattle.serde_json.specs.Read.{max_depth}
+use Rattle.plan_json.specs.Exact.{IsWritten}
+use Rattle.plan_json.specs.Object.{data_of}
 use Rattle.request_model.specs.Ranges.{IsGroup}
 use Rattle.desk_events.specs.declared.entry.EventEntry.{EventEntry}
 use Rattle.desk_events.specs.declared.reply.Reply.{Reply}
 use Rattle.desk_events.specs.declared.reply.Reply.TheVariants as reply
 use Rattle.desk_events.specs.Entry.{data_of_entry, text_of_entry, text_of_history}
 
-abbrev pub IsExactEntry : EventEntry → Type 0
-IsExactEntry e = IsExact (data_of_entry e)
+-- the object of the entry can be written
+abbrev pub IsWritableEntry : EventEntry → Type 0
+IsWritableEntry e = IsWritten max_depth (data_of_entry e)
+
+-- the text of an entry is read as its object, with the newline at its end
+abbrev pub EntriesAreReadBack : Type 0
+EntriesAreReadBack = (e : EventEntry) → IsWritableEntry e → data_of (text_of_entry e) ≡ Ok (data_of_entry e)
 
 -- the document that a reply shows is that of a group that can be read
 abbrev pub ShowsGroup : Reply → Type 0
@@ -36,7 +43,7 @@ ShowsGroup (reply.Refused refusal) = ⊤
 
 -- the entry can be written, and what it shows can be read
 pub record IsTelling (e : EventEntry) : Type 0 where
-  pub exact : IsExactEntry e
+  pub writable : IsWritableEntry e
   pub group : ShowsGroup e.reply
 
 -- All that the text of an entry tells: its caller, line, version and reply. It doesn't tell which part of its line the entry is:

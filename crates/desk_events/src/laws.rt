@@ -1,6 +1,11 @@
 // Laws of texts, each the contract of a function that does nothing.
 
-ghost use Rattle.desk_events.specs.Laws.{OneEntry, OneHistory};
+ghost use Rattle.desk_events.specs.Laws.{EntriesAreReadBack, OneEntry, OneHistory};
+
+/// A law: the text of an entry is read as its object, with the newline at its end.
+pub fn entries_are_read_back()
+    ensures { EntriesAreReadBack }
+{}
 
 /// A law: entries of one text have the same caller, line, version and reply.
 pub fn one_entry()

@@ -9,7 +9,7 @@ use Rattle.plan_io.specs.declared.sink.PutAnswer.TheVariants as put
 use Rattle.plan_io.specs.Sink.{Adds, Puts}
 use Rattle.desk_events.specs.declared.entry.EventEntry.{EventEntry}
 use Rattle.desk_events.specs.Entry.{text_of_history}
-use Rattle.desk_events.specs.Laws.{IsExactEntry}
+use Rattle.desk_events.specs.Laws.{IsWritableEntry}
 use Rattle.desk_core.specs.Kept.{IsState}
 use Rattle.desk_book.specs.Kept.{IsBook}
 use Rattle.desk_book.specs.Seen.{BookSeen, IsOver}
@@ -22,13 +22,13 @@ use Rattle.session.proofs.Soundness.{book_sound, prefix_sound, none_sound}
 use Rattle.session.proofs.Shows.{book_tells, prefix_tells}
 use Rattle.session.proofs.Written.{adds_none, adds_twice, prefix_all, prefix_after, prefix_put}
 
--- of so many entries, which are exact, a prefix of the text was written and the rest is gathered
+-- of so many entries, which can be written, a prefix of the text was written and the rest is gathered
 pub record Gathered (w w' : Option (List ℕ)) (history : List EventEntry) (count : ℕ) (replies : List ℕ) : Type 0 where
-  pub exact : AllByRecursion IsExactEntry (take count history)
+  pub writable : AllByRecursion IsWritableEntry (take count history)
   pub gathers : Gathers w w' replies (text_of_history (take count history))
 
 pub gathered_none : (w : Option (List ℕ)) (history : List EventEntry) (replies : List ℕ) → replies ≡ [] → Gathered w w history 0 replies
-gathered_none w history replies none = record { exact = tt; gathers = ([], adds_none w, sym none) }
+gathered_none w history replies none = record { writable = tt; gathers = ([], adds_none w, sym none) }
 
 -- ---- an entry more
 
@@ -37,16 +37,16 @@ take_next [] n x h = cc
 take_next (y ∷ xs) zero x h = let same : y ≡ x = cc in ap (λ (z : EventEntry). z ∷ []) same
 take_next (y ∷ xs) (suc n) x h = ap (λ (zs : List EventEntry). y ∷ zs) (take_next xs n x h)
 
-exact_more : (xs : List EventEntry) (x : EventEntry) → AllByRecursion IsExactEntry xs → IsExactEntry x → AllByRecursion IsExactEntry (xs ++ x ∷ [])
-exact_more [] x h g = (g, tt)
-exact_more (y ∷ xs) x h g = (h.0, exact_more xs x h.1 g)
+writable_more : (xs : List EventEntry) (x : EventEntry) → AllByRecursion IsWritableEntry xs → IsWritableEntry x → AllByRecursion IsWritableEntry (xs ++ x ∷ [])
+writable_more [] x h g = (g, tt)
+writable_more (y ∷ xs) x h g = (h.0, writable_more xs x h.1 g)
 
 pub gathered_entry : (w w' : Option (List ℕ)) (history : List EventEntry) (n : ℕ) (old new : List ℕ) → Gathered w w' history n old → AddsEntryAt history n old new
     → Gathered w w' history (n + 1) new
 gathered_entry w w' history n old new g a =
     let longer : take n history ++ a.0 ∷ [] ≡ take (n + 1) history = sym (take_next history n a.0 a.1) ∙ ap (λ (k : ℕ). take k history) (sym (add-one n)) in
     record {
-      exact = subst (λ (es : List EventEntry). AllByRecursion IsExactEntry es) longer (exact_more (take n history) a.0 g.exact a.2);
+      writable = subst (λ (es : List EventEntry). AllByRecursion IsWritableEntry es) longer (writable_more (take n history) a.0 g.writable a.2);
       gathers = subst (λ (es : List EventEntry). Gathers w w' new (text_of_history es)) longer
           (gathers_more w w' old new (take n history) (a.0 ∷ []) g.gathers (adds_one old new a.0 a.3));
     }
@@ -59,7 +59,7 @@ gathered_written w x y history n old new found is g h =
     let told = g.gathers.0 in
     let written : IsWrittenOn x y put.Done old new = subst (λ (f : PutAnswer). IsWrittenOn x y f old new) is h in
     record {
-      exact = g.exact;
+      writable = g.writable;
       gathers = (
         told ++ written.0,
         adds_twice w x y told written.0 g.gathers.1 written.1,
@@ -73,7 +73,7 @@ pub told_fault : (w x y : Option (List ℕ)) (history : List EventEntry) (n : �
 told_fault w x y history n old new found is g h =
     let failed : Puts x y put.WriteFault old = subst (λ (f : PutAnswer). IsWrittenOn x y f old new) is h in (
       n,
-      g.exact,
+      g.writable,
       subst (λ (text : List ℕ). WritesPrefix w y text) (sym g.gathers.2) (prefix_after w x y g.gathers.0 old g.gathers.1 (prefix_put x y old failed)),
     )
 
@@ -82,7 +82,7 @@ pub told_last : (w x y : Option (List ℕ)) (history : List EventEntry) (n : ℕ
     → Puts x y found replies → TellsHistory w y history found
 told_last w x y history n replies put.Done all g h =
     let whole : take n history ≡ history = ap (λ (k : ℕ). take k history) all ∙ take-length history in (
-      subst (λ (es : List EventEntry). AllByRecursion IsExactEntry es) whole g.exact,
+      subst (λ (es : List EventEntry). AllByRecursion IsWritableEntry es) whole g.writable,
       subst (λ (es : List EventEntry). Adds w y (text_of_history es)) whole
           (subst (λ (text : List ℕ). Adds w y text) (sym g.gathers.2) (adds_twice w x y g.gathers.0 replies g.gathers.1 h)),
     )
@@ -92,7 +92,7 @@ told_last w x y history n replies put.WriteFault all g h = told_fault w x y hist
 pub has_gathered : (w x : Option (List ℕ)) (history : List EventEntry) (n : ℕ) (old new : List ℕ) → Gathered w x history n old → new ≡ old → HasGathered w x history new
 has_gathered w x history n old new g same = record {
   count = n;
-  exact = g.exact;
+  writable = g.writable;
   gathers = subst (λ (replies : List ℕ). Gathers w x replies (text_of_history (take n history))) (sym same) g.gathers;
 }
 
@@ -120,7 +120,7 @@ pub partly_gathered : (b : BookSeen) (w x y : Option (List ℕ)) (replies : List
 partly_gathered b w x y replies found k state over g h = record {
   history = take g.count b.history;
   sound = prefix_sound b g.count k over;
-  telling = prefix_tells b g.count k state g.exact;
+  telling = prefix_tells b g.count k state g.writable;
   prefix = subst (λ (text : List ℕ). WritesPrefix w y text) (sym g.gathers.2) (prefix_after w x y g.gathers.0 replies g.gathers.1 (prefix_most x y replies found h));
 }
 

@@ -1,5 +1,6 @@
 pub mod Alike
 pub mod Done
+pub mod Exports
 pub mod Gathering
 pub mod Going
 pub mod LineTexts

@@ -9,7 +9,7 @@ use Rattle.desk_events.specs.declared.reply.Reply.{Reply}
 use Rattle.desk_events.specs.declared.reply.Reply.TheVariants.{Taken}
 use Rattle.desk_events.specs.declared.entry.What.TheVariants.{Line, Take, Publish}
 use Rattle.desk_events.specs.Entry.{text_of_entry, text_of_history}
-use Rattle.desk_events.specs.Laws.{IsExactEntry, IsTelling}
+use Rattle.desk_events.specs.Laws.{IsWritableEntry, IsTelling}
 use Rattle.desk_core.specs.Desk.{StateSeen}
 use Rattle.desk_core.specs.History.{IsPlanning, after_publish}
 use Rattle.desk_core.specs.Kept.{IsState}
@@ -39,12 +39,12 @@ entry_with n v r = record { caller = 0; line = n; what = Line; version = v; repl
 
 -- the entry of a step is added
 pub step_added : (s t : StateSeen) (n v : ℕ) (r : Reply) (read : Result Command CommandFault) (old new : List ℕ) (result : Result (Unit {0}) AllocError)
-    → v ≡ s.version → IsState s → IsStepDone s read r t → OnOk result (new ≡ old ++ text_of_entry (entry_with n v r)) → OnErr result (new ≡ old) → OnOk result (IsExactEntry (entry_with n v r))
+    → v ≡ s.version → IsState s → IsStepDone s read r t → OnOk result (new ≡ old ++ text_of_entry (entry_with n v r)) → OnErr result (new ≡ old) → OnOk result (IsWritableEntry (entry_with n v r))
     → AddsLine s t n read old new result
-step_added s t n v r read old new (Ok done) version state d h g exact =
-    let telling : IsTelling (step_entry s n r) = record { exact = subst (λ (w : ℕ). IsExactEntry (entry_with n w r)) version exact; group = line_shows s read r state d.replied } in
+step_added s t n v r read old new (Ok done) version state d h g writable =
+    let telling : IsTelling (step_entry s n r) = record { writable = subst (λ (w : ℕ). IsWritableEntry (entry_with n w r)) version writable; group = line_shows s read r state d.replied } in
     (step_entry s n r ∷ [], inl (r, d, refl), adds_one old new (step_entry s n r) (h ∙ ap (λ (w : ℕ). old ++ text_of_entry (entry_with n w r)) version), (telling, tt))
-step_added s t n v r read old new (Err error) version state d h g exact = ([], inl refl, adds_none old new g, tt)
+step_added s t n v r read old new (Err error) version state d h g writable = ([], inl refl, adds_none old new g, tt)
 
 -- nothing of the line is added, where memory is wanting
 pub nothing_added : (s t : StateSeen) (n : ℕ) (read : Result Command CommandFault) (old new : List ℕ) (error : AllocError) (result : Result (Unit {0}) AllocError)
@@ -60,14 +60,14 @@ taken_with n v = record { caller = 0; line = n; what = Take; version = v; reply 
 
 -- the Take is added, and then the Publish
 pub plan_added : (s t : StateSeen) (n v : ℕ) (read : Result Command CommandFault) (old between new : List ℕ) (result : Result (Unit {0}) AllocError)
-    → v ≡ s.version → IsPlanning s read → between ≡ old ++ text_of_entry (taken_with n v) → IsExactEntry (taken_with n v) → AddsPublish s t n between new result
+    → v ≡ s.version → IsPlanning s read → between ≡ old ++ text_of_entry (taken_with n v) → IsWritableEntry (taken_with n v) → AddsPublish s t n between new result
     → AddsLine s t n read old new result
-plan_added s t n v read old between new (Ok done) version asks h exact g =
-    let telling : IsTelling (take_entry s n) = record { exact = subst (λ (w : ℕ). IsExactEntry (taken_with n w)) version exact; group = tt } in
+plan_added s t n v read old between new (Ok done) version asks h writable g =
+    let telling : IsTelling (take_entry s n) = record { writable = subst (λ (w : ℕ). IsWritableEntry (taken_with n w)) version writable; group = tt } in
     let first : between ≡ old ++ text_of_entry (take_entry s n) = h ∙ ap (λ (w : ℕ). old ++ text_of_entry (taken_with n w)) version in
     (take_entry s n ∷ publish_entry s n g.0 ∷ [], inr (asks, (g.0, g.1, refl, g.2)), adds_two old between new (take_entry s n) (publish_entry s n g.0) first g.3, (telling, (g.4, tt)))
-plan_added s t n v read old between new (Err error) version asks h exact g =
-    let telling : IsTelling (take_entry s n) = record { exact = subst (λ (w : ℕ). IsExactEntry (taken_with n w)) version exact; group = tt } in
+plan_added s t n v read old between new (Err error) version asks h writable g =
+    let telling : IsTelling (take_entry s n) = record { writable = subst (λ (w : ℕ). IsWritableEntry (taken_with n w)) version writable; group = tt } in
     let first : between ≡ old ++ text_of_entry (take_entry s n) = h ∙ ap (λ (w : ℕ). old ++ text_of_entry (taken_with n w)) version in
     (take_entry s n ∷ [], inr (inl (asks, refl)), adds_one old new (take_entry s n) (g ∙ first), (telling, tt))
 
@@ -77,9 +77,9 @@ published_with n v r = record { caller = 0; line = n; what = Publish; version = 
 -- the Publish is added
 pub publish_added : (s t : StateSeen) (n v : ℕ) (r : Reply) (old new : List ℕ) (result : Result (Unit {0}) AllocError)
     → v ≡ s.version → IsPlanReply s r → t ≡ after_publish s r → OnOk result (new ≡ old ++ text_of_entry (published_with n v r)) → OnErr result (new ≡ old)
-    → OnOk result (IsExactEntry (published_with n v r)) → AddsPublish s t n old new result
-publish_added s t n v r old new (Ok done) version d left h g exact =
+    → OnOk result (IsWritableEntry (published_with n v r)) → AddsPublish s t n old new result
+publish_added s t n v r old new (Ok done) version d left h g writable =
     let telling : IsTelling (publish_entry s n r) =
-    record { exact = subst (λ (w : ℕ). IsExactEntry (published_with n w r)) version exact; group = publication_shows s s.version r d.publication } in
+    record { writable = subst (λ (w : ℕ). IsWritableEntry (published_with n w r)) version writable; group = publication_shows s s.version r d.publication } in
     (r, d, left, h ∙ ap (λ (w : ℕ). old ++ text_of_entry (published_with n w r)) version, telling)
-publish_added s t n v r old new (Err error) version d left h g exact = g
+publish_added s t n v r old new (Err error) version d left h g writable = g

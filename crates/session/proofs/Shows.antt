@@ -5,7 +5,7 @@ use Rattle.plan_io.specs.declared.lines.ScriptLine.{ScriptLine}
 use Rattle.desk_events.specs.declared.entry.EventEntry.{EventEntry}
 use Rattle.desk_events.specs.declared.entry.What.{What}
 use Rattle.desk_events.specs.declared.entry.What.TheVariants.{Line, Take, Publish}
-use Rattle.desk_events.specs.Laws.{ShowsGroup, IsExactEntry, IsTelling}
+use Rattle.desk_events.specs.Laws.{ShowsGroup, IsWritableEntry, IsTelling}
 use Rattle.desk_core.specs.Desk.{StateSeen}
 use Rattle.desk_core.specs.History.{read_at, after_entry, replay, IsReply, IsEntry, EachAfter}
 use Rattle.desk_core.specs.Kept.{IsState}
@@ -54,12 +54,12 @@ shown_first zero es h = tt
 shown_first (suc n) [] h = tt
 shown_first (suc n) (e ∷ es) h = (h.0, shown_first n es h.1)
 
-telling_both : (es : List EventEntry) → AllByRecursion ShowsAGroup es → AllByRecursion IsExactEntry es → AllByRecursion IsTelling es
+telling_both : (es : List EventEntry) → AllByRecursion ShowsAGroup es → AllByRecursion IsWritableEntry es → AllByRecursion IsTelling es
 telling_both [] h g = tt
-telling_both (e ∷ es) h g = (record { exact = g.0; group = h.0 }, telling_both es h.1 g.1)
+telling_both (e ∷ es) h g = (record { writable = g.0; group = h.0 }, telling_both es h.1 g.1)
 
-pub book_tells : (b : BookSeen) → IsBook b → IsState b.state → AllByRecursion IsExactEntry b.history → AllByRecursion IsTelling b.history
-book_tells b k state exact = telling_both b.history (book_shows b k state) exact
+pub book_tells : (b : BookSeen) → IsBook b → IsState b.state → AllByRecursion IsWritableEntry b.history → AllByRecursion IsTelling b.history
+book_tells b k state writable = telling_both b.history (book_shows b k state) writable
 
-pub prefix_tells : (b : BookSeen) (n : ℕ) → IsBook b → IsState b.state → AllByRecursion IsExactEntry (take n b.history) → AllByRecursion IsTelling (take n b.history)
-prefix_tells b n k state exact = telling_both (take n b.history) (shown_first n b.history (book_shows b k state)) exact
+pub prefix_tells : (b : BookSeen) (n : ℕ) → IsBook b → IsState b.state → AllByRecursion IsWritableEntry (take n b.history) → AllByRecursion IsTelling (take n b.history)
+prefix_tells b n k state writable = telling_both (take n b.history) (shown_first n b.history (book_shows b k state)) writable

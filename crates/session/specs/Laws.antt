@@ -1,6 +1,8 @@
--- What holds of the texts of sessions, of their plans, and of the summaries of sessions and workloads.
+-- What holds of the texts of sessions, of their plans and exports, and of the summaries of sessions and workloads.
 use Rattle.std.specs.Prelude.{◌≡◌, ℕ, ◌+◌, ◌<◌, ◌⊎◌, List, [], ◌∷◌, ◌++◌, length, slice_index_or, Some, Ok}
+use Rattle.std.specs.List.{AllByRecursion}
 use Rattle.plan_base.specs.declared.claim.Claim.{Claim}
+use Rattle.plan_base.specs.declared.verdict.Verdict.TheVariants.{Yes}
 use Rattle.plan_base.specs.declared.parts.Parts.{Parts}
 use Rattle.plan_base.specs.Limits.{most_starts}
 use Rattle.plan_base.specs.Solved.{HasFewStarts}
@@ -8,12 +10,15 @@ use Rattle.plan_base.specs.Starts.{IsStartCount}
 use Rattle.plan_io.specs.declared.lines.ScriptLine.{ScriptLine}
 use Rattle.plan_io.specs.declared.lines.ScriptLine.TheVariants.{TooLong}
 use Rattle.plan_io.specs.declared.status.Status.TheVariants.{Done}
+use Rattle.plan_doc.specs.Check.{IsJudged}
 use Rattle.desk_events.specs.declared.command.Command.TheVariants.{Plan}
 use Rattle.desk_events.specs.declared.entry.EventEntry.{EventEntry}
 use Rattle.desk_events.specs.declared.entry.What.TheVariants.{Publish}
 use Rattle.desk_events.specs.declared.refusal.Refusal.TheVariants.{TooManyStarts}
 use Rattle.desk_events.specs.declared.reply.Reply.{Reply}
-use Rattle.desk_events.specs.declared.reply.Reply.TheVariants.{Published, Refused}
+use Rattle.desk_events.specs.declared.reply.Reply.TheVariants.{Published, Exported, Refused}
+use Rattle.desk_events.specs.Entry.{text_of_entry}
+use Rattle.desk_events.specs.Laws.{IsTelling}
 use Rattle.desk_events.specs.Line.{command_of_line}
 use Rattle.desk_core.specs.Desk.{StateSeen}
 use Rattle.desk_core.specs.Step.{IsSnapshotOf}
@@ -45,6 +50,16 @@ PlansArePublished =
     (lines : List ScriptLine) (history before after : List EventEntry) (e : EventEntry)
     → IsLegal (lines ∷ []) history → history ≡ before ++ e ∷ after → e.what ≡ Publish
     → TellsManyStarts (replay (lines ∷ []) before) e.reply ⊎ PublishesClaim (replay (lines ∷ []) before) e.reply
+
+-- ---- exports
+
+-- The text of an entry that exports a claim, with its newline, is a document of the claim and of its snapshot, and the verdict on
+-- it is Yes, with the claim's value and its bound, which no feasible plan is worth more than.
+abbrev pub ExportsAreChecked : Type 0
+ExportsAreChecked =
+    (scripts : List (List ScriptLine)) (history before after : List EventEntry) (e : EventEntry) (claim : Claim) (parts : Parts)
+    → IsSound scripts history → AllByRecursion IsTelling history → history ≡ before ++ e ∷ after → e.reply ≡ Exported claim parts
+    → IsJudged (text_of_entry e) (Yes claim.value claim.bound)
 
 -- ---- summaries
 

@@ -12,7 +12,7 @@ use Rattle.plan_io.specs.Sink.{Adds}
 use Rattle.plan_io.specs.Source.{Rose}
 use Rattle.desk_events.specs.declared.entry.EventEntry.{EventEntry}
 use Rattle.desk_events.specs.Entry.{text_of_entry, text_of_history}
-use Rattle.desk_events.specs.Laws.{IsExactEntry}
+use Rattle.desk_events.specs.Laws.{IsWritableEntry}
 use Rattle.desk_book.specs.Seen.{BookSeen, with_line}
 use Rattle.session.specs.declared.live.reading.Input.{Input}
 use Rattle.session.specs.declared.live.reading.Input.TheVariants as input
@@ -44,22 +44,22 @@ IsInputCause before now _ = Unit {0}
 
 -- ---- writing
 
--- the text of the entry at this place of a history was added, and is exact
+-- the text of the entry at this place of a history was added, and it can be written
 abbrev pub AddsEntryAt : List EventEntry → ℕ → List ℕ → List ℕ → Type 0
 AddsEntryAt history index old new =
-    (entry : EventEntry) × (slice_get history index ≡ Some entry) × IsExactEntry entry × (new ≡ old ++ text_of_entry entry)
+    (entry : EventEntry) × (slice_get history index ≡ Some entry) × IsWritableEntry entry × (new ≡ old ++ text_of_entry entry)
 
--- of the text of the first entries, which are exact, a prefix was written and the rest is gathered
+-- of the text of the first entries, which can be written, a prefix was written and the rest is gathered
 pub record HasGathered (held held' : Option (List ℕ)) (history : List EventEntry) (replies : List ℕ) : Type 0 where
   pub count : ℕ
-  pub exact : AllByRecursion IsExactEntry (take count history)
+  pub writable : AllByRecursion IsWritableEntry (take count history)
   pub gathers : Gathers held held' replies (text_of_history (take count history))
 
--- the text of all entries was written, or a prefix of that of the first; the entries are exact
+-- the text of all entries was written, or a prefix of that of the first; the entries can be written
 abbrev pub TellsHistory : Option (List ℕ) → Option (List ℕ) → List EventEntry → PutAnswer → Type 0
-TellsHistory held held' history put.Done = AllByRecursion IsExactEntry history × Adds held held' (text_of_history history)
+TellsHistory held held' history put.Done = AllByRecursion IsWritableEntry history × Adds held held' (text_of_history history)
 TellsHistory held held' history put.WriteFault =
-    (count : ℕ) × AllByRecursion IsExactEntry (take count history) × WritesPrefix held held' (text_of_history (take count history))
+    (count : ℕ) × AllByRecursion IsWritableEntry (take count history) × WritesPrefix held held' (text_of_history (take count history))
 
 -- what was written of a history of these scripts at each status; the others don't come
 abbrev pub IsTold : List (List ScriptLine) → Option (List ℕ) → Option (List ℕ) → Status → Type 0

@@ -1,5 +1,5 @@
 //! Laws of sessions, each the contract of a function that does nothing.
-ghost use Rattle.session.specs.Laws.{TextHasOneHistory, PlansArePublished, LinesHaveOneSummary, NumberHasOneSummary, RunsWriteOneLine};
+ghost use Rattle.session.specs.Laws.{TextHasOneHistory, PlansArePublished, ExportsAreChecked, LinesHaveOneSummary, NumberHasOneSummary, RunsWriteOneLine};
 
 /// A law: what a session writes of its callers' lines tells the history that it is the text of.
 pub fn one_history()
@@ -10,6 +10,11 @@ pub fn one_history()
 /// stale, and none rejected.
 pub fn plans_are_published()
     ensures { PlansArePublished }
+{}
+
+/// A law: what a session writes for an `export` line is a document on which the verdict is Yes, with the claim's value and bound.
+pub fn exports_are_checked()
+    ensures { ExportsAreChecked }
 {}
 
 /// A law: what is written of a workload is a function of its number, though its workers may find different plans.

@@ -11,6 +11,6 @@ mod summary;
 mod tally;
 mod words;
 
-pub use laws::{one_history, one_summary, plans_are_published};
+pub use laws::{exports_are_checked, one_history, one_summary, plans_are_published};
 pub use live::run_live;
 pub use run::run_session;

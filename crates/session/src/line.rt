@@ -2,7 +2,7 @@
 ghost use Rattle.std.specs.Prelude.{◌≡◌, ◌<◌, ◌++◌, IfOk, OnOk, OnErr, IsSome};
 ghost use Rattle.plan_base.specs.Limits.{most_version};
 ghost use Rattle.desk_events.specs.Entry.{text_of_entry};
-ghost use Rattle.desk_events.specs.Laws.{IsExactEntry};
+ghost use Rattle.desk_events.specs.Laws.{IsWritableEntry};
 ghost use Rattle.desk_events.specs.Line.{command_of_line};
 ghost use Rattle.desk_events.specs.Ranges.{IsCommand};
 ghost use Rattle.desk_core.specs.History.{IsPlanning, after_publish};
@@ -26,7 +26,7 @@ const CALLER: u8 = 0;
 /// Adds the text of an entry, or nothing where memory is wanting.
 fn add_entry(entry: EventEntry, replies: &mut Vec<u8>) -> Result<(), AllocError>
     ensures ok { OnOk result (replies.new.items ≡ replies.old.items ++ text_of_entry entry) }
-    ensures exact { OnOk result (IsExactEntry entry) }
+    ensures writable { OnOk result (IsWritableEntry entry) }
     ensures err { OnErr result (replies.new.items ≡ replies.old.items) }
 {
     write_entry(&entry, replies)

@@ -2,7 +2,7 @@
 
 ghost use Rattle.std.specs.Prelude.{◌≡◌, ◌++◌, OnOk, OnErr, IfOk};
 ghost use Rattle.desk_events.specs.Entry.{data_of_entry, text_of_entry, AddsEntry, AddsLine};
-ghost use Rattle.desk_events.specs.Laws.{IsExactEntry};
+ghost use Rattle.desk_events.specs.Laws.{IsWritableEntry};
 ghost use Rattle.desk_events.specs.Refused.{members_of_refusal};
 ghost use Rattle.desk_events.specs.Replied.{members_of_reply};
 
@@ -162,7 +162,7 @@ pub fn write_entry(entry: &EventEntry, into: &mut Vec<u8>) -> Result<(), AllocEr
     ensures err { OnErr result (into.new.items ≡ into.old.items) }
 
     // The premise of the laws on texts.
-    ensures exact { OnOk result (IsExactEntry entry.now) }
+    ensures writable { OnOk result (IsWritableEntry entry.now) }
 {
     let len = into.len();
     let done = write_line(entry, into);
@@ -175,7 +175,7 @@ pub fn write_entry(entry: &EventEntry, into: &mut Vec<u8>) -> Result<(), AllocEr
 /// The text of an entry, as [`write_entry`] adds it. Fails only for want of memory.
 pub fn entry_text(alloc: Global, entry: &EventEntry) -> Result<Vec<u8>, AllocError>
     ensures text { IfOk result (λ text. text.items ≡ text_of_entry entry.now) }
-    ensures exact { IfOk result (λ _. IsExactEntry entry.now) }
+    ensures writable { IfOk result (λ _. IsWritableEntry entry.now) }
 {
     let mut text = Vec::new(alloc);
     write_entry(entry, &mut text)?;

@@ -8,4 +8,4 @@ returns-in_err-add_entry g c =
 pub returns : goal.returns
 returns g c =
     plan_added c.args.state.now c.publish.new.state c.args.line c.version.result c.args.read.now c.args.replies.now.items c.add_entry.new.replies.items c.publish.new.replies.items c.publish.result
-    c.version.ensures.version c.requires.planning c.in_ok-add_entry.ensures.ok c.in_ok-add_entry.ensures.exact c.publish.ensures
+    c.version.ensures.version c.requires.planning c.in_ok-add_entry.ensures.ok c.in_ok-add_entry.ensures.writable c.publish.ensures
