@@ -1,0 +1,4 @@
+pub mod Latest
+pub mod Closures
+pub mod Goes
+pub mod Histories
