@@ -1,11 +1,9 @@
 -- Whole, sound histories of one script, of which the last line alone may ask for a plan, are alike.
-use Rattle.std.proofs.Common.{◌≡◌, ℕ, zero, suc, ◌+◌, ◌-◌, ◌≤◌, ◌<◌, ◌⊎◌, ◌==◌, Bool, true, false, cond, List, [], ◌∷◌, ◌++◌, length, slice_index_or, refl, sym, ◌∙◌, ap, subst, inl, inr, arith, Some, None, Result, Ok, nat_lt, append_assoc}
+use Rattle.std.proofs.Common.{◌≡◌, ℕ, ◌+◌, ◌-◌, ◌≤◌, ◌⊎◌, Bool, true, false, List, [], ◌∷◌, ◌++◌, length, slice_index_or, refl, sym, ◌∙◌, ap, subst, inl, inr, arith, Some, None, Result, Ok, nat_lt, append_assoc}
 use Rattle.std.specs.List.{last_or}
-use Rattle.std.proofs.lemmas.Bool.{eq-eqb, ne_eqb}
 use Rattle.std.proofs.lemmas.Bool.Decides.{nat_tests}
 use Rattle.plan_base.specs.declared.claim.Claim.{Claim}
 use Rattle.plan_base.specs.declared.parts.Parts.{Parts}
-use Rattle.plan_base.specs.Limits.{most_starts}
 use Rattle.plan_base.specs.Planned.{IsPlanned}
 use Rattle.plan_base.specs.Solved.{HasFewStarts}
 use Rattle.plan_base.specs.Starts.{IsStartCount}
@@ -18,14 +16,14 @@ use Rattle.desk_events.specs.declared.fault.CommandFault.{CommandFault}
 use Rattle.desk_events.specs.declared.entry.EventEntry.{EventEntry}
 use Rattle.desk_events.specs.declared.entry.What.{What}
 use Rattle.desk_events.specs.declared.entry.What.TheVariants.{Line, Take, Publish}
-use Rattle.desk_events.specs.declared.refusal.Refusal.TheVariants.{Stale, TooManyStarts}
+use Rattle.desk_events.specs.declared.refusal.Refusal.TheVariants.{TooManyStarts}
 use Rattle.desk_events.specs.declared.reply.Reply.{Reply}
 use Rattle.desk_events.specs.declared.reply.Reply.TheVariants.{Published, Refused}
 use Rattle.desk_events.specs.Line.{command_of_line}
 use Rattle.desk_core.specs.Desk.{DeskSeen, StateSeen}
 use Rattle.desk_core.specs.DeskSnapshot.{snapshot_of}
 use Rattle.desk_core.specs.Step.{IsSnapshotOf}
-use Rattle.desk_core.specs.History.{IsPublication, read_at, replay, AreTurnsOf, IsReply, IsEntry, IsLineReply, IsWhole, entries_of, turns_of, after_what}
+use Rattle.desk_core.specs.History.{IsPublication, read_at, replay, AreTurnsOf, IsReply, IsEntry, IsLineReply, IsWhole, entries_of, after_what}
 use Rattle.desk_book.specs.Claims.{IsPlannedOver}
 use Rattle.desk_book.proofs.Histories.{replay_more}
 use Rattle.desk_book.proofs.OneReply.{one_reply}
