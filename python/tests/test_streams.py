@@ -2,6 +2,7 @@
 
 from __future__ import annotations
 
+import json
 import os
 import shlex
 import signal
@@ -11,10 +12,16 @@ from pathlib import Path
 
 import pytest
 
+from portal_document import DOCUMENT
+from purvelj.documents import compact
+from purvelj.portal import convert
 from script import LINES, REPLIES
 
 TOP = Path(__file__).resolve().parents[1]
 EXPORT = REPLIES[-1]
+#: A request group with a warning, and its line.
+GROUP = json.loads(DOCUMENT.replace('"ipp_value": 1.05', '"ipp_value": 1.0504'))
+SUBMIT = compact(convert(GROUP, 10).line())
 
 #: A session program that refuses each line.
 REFUSE = """
@@ -38,6 +45,7 @@ def test_standard_input_is_read(tmp_path: Path) -> None:
 def shell(command: str, folder: Path) -> tuple[int, str]:
     """The exit status of a shell's command, in which ``purvelj`` is the package, and what it says on standard error."""
     (folder / "export.json").write_text(EXPORT)
+    (folder / "group.json").write_text(json.dumps(GROUP))
     text = f'purvelj() {{ {shlex.quote(sys.executable)} -m purvelj "$@"; }}; {command}'
     environment = {**os.environ, "PYTHONPATH": str(TOP)}
     done = subprocess.run(["sh", "-c", text], cwd=folder, env=environment, capture_output=True, text=True, check=False)
@@ -63,10 +71,19 @@ def test_streams_that_fail_are_told(command: str, message: str, tmp_path: Path) 
 
 
 @pytest.mark.parametrize(
-    "command, status", [("check nowhere.json 2>&-", 3), ("check nowhere.json 2>/dev/full", 3), ("sing 2>&-", 2)]
+    "command, status",
+    [
+        ("check nowhere.json 2>&-", 3),
+        ("check nowhere.json 2>/dev/full", 3),
+        ("sing 2>&-", 2),
+        ("portal group.json --priority 10 2>&-", 0),
+        ("portal group.json --priority 10 2>/dev/full", 0),
+    ],
 )
 def test_a_standard_error_that_fails_leaves_the_status(command: str, status: int, tmp_path: Path) -> None:
-    assert shell(f"out=$(purvelj {command}); status=$?; echo \"$out\" >&2; exit $status", tmp_path) == (status, "\n")
+    """The result is there, too, where there is one."""
+    text = f'out=$(purvelj {command}); status=$?; printf "%s\\n" "$out" >&2; exit $status'
+    assert shell(text, tmp_path) == (status, "\n" if status else f"{SUBMIT}\n")
 
 
 def test_results_are_utf_8_in_every_country(tmp_path: Path, netsched: list[str]) -> None:

@@ -4,12 +4,11 @@ from __future__ import annotations
 
 import argparse
 import signal
-import sys
-from contextlib import contextmanager, suppress
+from contextlib import contextmanager
 from types import FrameType
 from typing import TYPE_CHECKING, Callable, Iterator
 
-from purvelj.cli.words import Commands, command, ranged
+from purvelj.cli.words import Commands, command, ranged, tell
 from purvelj.errors import WordsError
 
 if TYPE_CHECKING:
@@ -61,9 +60,9 @@ def run_serve(options: argparse.Namespace) -> int:
     with desk_of(options.journal, options.program, options.timeout) as desk:
         _tell_done(desk)
         with _listener(options) as listener:
-            server = Server(desk, listener, _tell)
+            server = Server(desk, listener, tell)
             with _stopped_by_signals(server.stop, caught):
-                _tell(f"listening at {listener.where}")
+                tell(f"listening at {listener.where}")
                 server.run()
     if signal.SIGINT in caught:
         raise KeyboardInterrupt
@@ -85,13 +84,13 @@ def _tell_done(desk: Desk) -> None:
     done = desk.history.exchanges
     plans = sum(is_plan(exchange) for exchange in done)
     if done:
-        _tell(f"lines that were done again: {len(done)}, published plans among them: {plans}")
+        tell(f"lines that were done again: {len(done)}, published plans among them: {plans}")
     else:
-        _tell("no line of the journal was done, so the desk is a new one")
+        tell("no line of the journal was done, so the desk is a new one")
     if desk.unanswered:
-        _tell("lines that aren't done, and are to be sent again by whoever sent them:")
+        tell("lines that aren't done, and are to be sent again by whoever sent them:")
         for line in desk.unanswered:
-            _tell(line)
+            tell(line)
 
 
 @contextmanager
@@ -113,10 +112,3 @@ def _stopped_by_signals(stop: Callable[[], None], caught: list[int]) -> Iterator
     finally:
         for each, handler in before.items():
             signal.signal(each, handler)
-
-
-def _tell(text: str) -> None:
-    """Tells the user something, from whatever thread; where nobody listens the server goes on."""
-    with suppress(OSError):
-        sys.stderr.write(f"purvelj: {text}\n")
-        sys.stderr.flush()

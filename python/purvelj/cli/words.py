@@ -5,6 +5,7 @@ from __future__ import annotations
 import argparse
 import shlex
 import sys
+from contextlib import suppress
 from typing import Any, Callable
 
 from purvelj.documents import write_output
@@ -41,5 +42,7 @@ def put(text: str) -> None:
 
 
 def tell(text: str) -> None:
-    """Tells the user something beside the output."""
-    print(f"purvelj: {text}", file=sys.stderr)
+    """Tells the user something beside the output, from whatever thread. Where that can't be, the command goes on."""
+    with suppress(OSError):
+        sys.stderr.write(f"purvelj: {text}\n")
+        sys.stderr.flush()
