@@ -12,7 +12,7 @@ from types import TracebackType
 from typing import Iterable, Mapping, Sequence, TypeVar
 
 from purvelj import lines
-from purvelj.documents import compact, write_text
+from purvelj.documents import compact, decoded, write_text
 from purvelj.history import Exchange, History, read_history
 from purvelj.journal import Journal
 from purvelj.lines import Line, Pairs
@@ -119,7 +119,7 @@ def run_script(
     output, exit_status = run_through(command, text, timeout)
     if exit_status:
         raise DeskEnded(command, exit_status)
-    history = read_history(output, text)
+    history = read_history(decoded(output, "output", "surrogatepass"), text)
     if len(history.exchanges) != len(script):
         raise DeskError(f"{len(script)} lines were sent, and {len(history.exchanges)} were replied to")
     return history
@@ -375,8 +375,9 @@ class Desk:
         texts: list[str] = []
         replies: list[Reply] = []
         while not replies or (len(replies) == 1 and is_taken(replies[0])):
-            texts.append(self._program.read().decode("utf-8", "surrogatepass"))
-            replies.append(read_reply(texts[-1], f"reply to line {place}"))
+            source = f"reply to line {place}"
+            texts.append(decoded(self._program.read(), source, "surrogatepass"))
+            replies.append(read_reply(texts[-1], source))
             if replies[-1].line != place:
                 raise DeskError(f"a reply to line {replies[-1].line} came back to line {place}")
             if self._journal:

@@ -118,7 +118,7 @@ class LineProgram:
         return DeskEnded(self.command, self.close())
 
 
-def run_through(command: Sequence[str], text: str, timeout: float | None = None) -> tuple[str, int]:
+def run_through(command: Sequence[str], text: str, timeout: float | None = None) -> tuple[bytes, int]:
     """What a program writes, and the exit status that it ends with, where a text is its whole input.
 
     ``NoReply`` where it takes longer than ``timeout`` seconds: it is ended then, with what it started.
@@ -131,7 +131,7 @@ def run_through(command: Sequence[str], text: str, timeout: float | None = None)
     finally:
         if process.poll() is None:
             _end_group(process)
-    return output.decode("utf-8", "surrogatepass"), process.returncode
+    return output, process.returncode
 
 
 def _started(command: Sequence[str]) -> subprocess.Popen[bytes]:

@@ -303,6 +303,17 @@ def test_a_reply_that_is_none() -> None:
             desk.plan()
 
 
+def test_a_reply_that_is_no_text() -> None:
+    writes = "sys.stdout.buffer.write(b'{\\xff}\\n'); sys.stdout.flush()"
+    with Desk(program(f"import sys; input(); {writes}"), timeout=20) as desk:
+        with pytest.raises(FileError, match="^reply to line 1: not a text in UTF-8$"):
+            desk.plan()
+    with pytest.raises(FileError, match="^output: not a text in UTF-8$"):
+        run_script(LINES, program(f"import sys; sys.stdin.read(); {writes}"))
+    with pytest.raises(DeskEnded, match="ended with status 5"):
+        run_script(LINES, program(f"import sys; sys.stdin.read(); {writes}; sys.exit(5)"))
+
+
 def test_a_late_reply_is_not_taken_for_another_lines() -> None:
     late = program('input(); print(\'{"caller":0,"line":7,"version":0,"ok":"opened"}\')')
     with Desk(late, timeout=20) as desk:
