@@ -4,16 +4,17 @@ from __future__ import annotations
 
 import os
 import select
+import selectors
 import signal
 import subprocess
 import time
 import weakref
-from contextlib import suppress
 from typing import Sequence
 
 from purvelj.errors import PurveljError, Status
 
-#: How long a program may take to end after its input was closed, and after it was told to end, in seconds.
+#: How long a program may take to end after its input was closed, and with what it started after they were told to
+#: end, in seconds.
 GRACE = 5.0
 
 
@@ -38,8 +39,8 @@ class NoReply(DeskError):
 class LineProgram:
     """A running program that is written lines and read lines from.
 
-    It runs in a process group of its own, so that ``close`` leaves neither it nor what it started.
-    Its standard error is this process's.
+    It runs in a process group of its own, so that ``close`` leaves neither it nor what it started, but for what
+    has left the group. Its standard error is this process's.
     """
 
     def __init__(self, command: Sequence[str], timeout: float | None = None) -> None:
@@ -59,7 +60,7 @@ class LineProgram:
         """Writes a line, to which the newline is added here."""
         self.test_open()
         left = memoryview(line + b"\n")
-        deadline = self._deadline()
+        deadline = _deadline(self._timeout)
         while left:
             self._wait(self._input, select.POLLOUT, deadline)
             try:
@@ -72,7 +73,7 @@ class LineProgram:
     def read(self) -> bytes:
         """Reads a line, without its newline."""
         self.test_open()
-        deadline = self._deadline()
+        deadline = _deadline(self._timeout)
         while b"\n" not in self._left:
             self._wait(self._output, select.POLLIN, deadline)
             piece = os.read(self._output, 1 << 16)
@@ -85,7 +86,8 @@ class LineProgram:
     def close(self) -> int:
         """Closes the program's input, waits for its end, and gives its exit status.
 
-        A program that doesn't end within some seconds is ended. A second call only gives the status.
+        A program that doesn't end within some seconds is ended by a signal, and so is whatever is left of what it
+        started. A second call only gives the status.
         """
         self._finalizer()
         return self._process.returncode
@@ -99,18 +101,12 @@ class LineProgram:
 
     def test_running(self) -> None:
         """``DeskEnded`` where the program has ended by itself, though nothing was written to it since."""
-        exit_status = self._process.poll()
+        exit_status = _exit_status(self._process)
         if exit_status is not None:
             raise DeskEnded(self.command, exit_status)
 
-    def _deadline(self) -> float | None:
-        return None if self._timeout is None else time.monotonic() + self._timeout
-
     def _wait(self, pipe: int, event: int, deadline: float | None) -> None:
-        poll = select.poll()
-        poll.register(pipe, event)
-        left = None if deadline is None else max(0.0, deadline - time.monotonic()) * 1000
-        if not poll.poll(left):
+        if not _is_ready(pipe, event, deadline):
             raise NoReply(f"{' '.join(self.command)} didn't answer within {self._timeout:g} s")
 
     def _ended(self) -> DeskEnded:
@@ -121,17 +117,54 @@ class LineProgram:
 def run_through(command: Sequence[str], text: str, timeout: float | None = None) -> tuple[bytes, int]:
     """What a program writes, and the exit status that it ends with, where a text is its whole input.
 
-    ``NoReply`` where it takes longer than ``timeout`` seconds: it is ended then, with what it started.
+    ``NoReply`` where it takes longer than ``timeout`` seconds: it is ended then. Whatever is left of what it started
+    is ended in any case, as by ``LineProgram.close``.
     """
+    deadline = _deadline(timeout)
     process = _started(command)
     try:
-        output, _ = process.communicate(text.encode("utf-8", "surrogatepass"), timeout)
-    except subprocess.TimeoutExpired:
-        raise NoReply(f"{' '.join(command)} didn't end within {timeout:g} s") from None
+        output = _passed(process, text.encode("utf-8", "surrogatepass"), deadline)
+        if output is None or not _ends_by(process, deadline):
+            raise NoReply(f"{' '.join(command)} didn't end within {timeout:g} s")
     finally:
-        if process.poll() is None:
-            _end_group(process)
+        _end_group(process)
     return output, process.returncode
+
+
+def _passed(process: subprocess.Popen[bytes], data: bytes, deadline: float | None) -> bytes | None:
+    """What a program writes, which is given these bytes meanwhile; None where it goes on at the deadline."""
+    assert process.stdin and process.stdout
+    os.set_blocking(process.stdin.fileno(), False)
+    left, pieces = memoryview(data), [b""]
+    with process.stdin, process.stdout, selectors.DefaultSelector() as pipes:
+        pipes.register(process.stdin, selectors.EVENT_WRITE, process.stdin)
+        pipes.register(process.stdout, selectors.EVENT_READ, process.stdout)
+        while pipes.get_map():
+            seconds = _seconds_to(deadline)
+            ready = pipes.select(seconds)
+            if not ready or seconds == 0:
+                return None
+            for key, _ in ready:
+                if key.data is process.stdin:
+                    left = _unwritten(key.fd, left)
+                    is_over = not left
+                else:
+                    pieces.append(os.read(key.fd, 1 << 16))
+                    is_over = not pieces[-1]
+                if is_over:
+                    pipes.unregister(key.data)
+                    key.data.close()
+    return b"".join(pieces)
+
+
+def _unwritten(pipe: int, data: memoryview) -> memoryview:
+    """Writes what goes into a pipe, and gives what is left to be written: nothing where nobody reads it."""
+    try:
+        return data[os.write(pipe, data) :]
+    except BlockingIOError:
+        return data
+    except BrokenPipeError:
+        return data[:0]
 
 
 def _started(command: Sequence[str]) -> subprocess.Popen[bytes]:
@@ -149,30 +182,94 @@ def _stop(process: subprocess.Popen[bytes]) -> None:
     try:
         _drain(process)
     finally:
-        if process.poll() is None:
-            _end_group(process)
+        _end_group(process)
         process.stdout.close()
 
 
 def _drain(process: subprocess.Popen[bytes]) -> None:
     """Reads away what the program still writes, until it ends or its time is over."""
     assert process.stdout
-    deadline = time.monotonic() + GRACE
-    poll = select.poll()
-    poll.register(process.stdout, select.POLLIN)
-    while poll.poll(max(0.0, deadline - time.monotonic()) * 1000) and os.read(process.stdout.fileno(), 1 << 16):
+    pipe, deadline = process.stdout.fileno(), time.monotonic() + GRACE
+    while _seconds_to(deadline) and _is_ready(pipe, select.POLLIN, deadline) and os.read(pipe, 1 << 16):
         pass
-    with suppress(subprocess.TimeoutExpired):
-        process.wait(max(0.0, deadline - time.monotonic()))
+    _ends_by(process, deadline)
 
 
 def _end_group(process: subprocess.Popen[bytes]) -> None:
-    os.killpg(process.pid, signal.SIGTERM)
-    with suppress(subprocess.TimeoutExpired):
-        process.wait(GRACE)
-    with suppress(ProcessLookupError):
-        os.killpg(process.pid, signal.SIGKILL)
+    """Ends by signals whatever is left of a program and of its group, and reaps the program."""
+    _exit_status(process)
+    if process.returncode is not None:
+        # Somebody else has reaped it, and its number may be another's by now.
+        return
+    deadline = time.monotonic() + GRACE
+    _signal_group(process, signal.SIGTERM)
+    if not _ends_by(process, deadline) or _leaves_others(process, deadline):
+        _signal_group(process, signal.SIGKILL)
     process.wait()
+
+
+def _leaves_others(process: subprocess.Popen[bytes], deadline: float) -> bool:
+    """Reaps a program that has ended, and gives whether anything of its group is left at the deadline.
+
+    As long as anything is, the group's number is no other's.
+    """
+    process.wait()
+    while _signal_group(process, 0):
+        if not _seconds_to(deadline):
+            return True
+        time.sleep(0.01)
+    return False
+
+
+def _signal_group(process: subprocess.Popen[bytes], number: int) -> bool:
+    """Sends a signal to what is left of a program's group; False where nothing is that may be sent any."""
+    try:
+        os.killpg(process.pid, number)
+    except (ProcessLookupError, PermissionError):
+        return False
+    return True
+
+
+def _exit_status(process: subprocess.Popen[bytes]) -> int | None:
+    """A program's exit status, or None while it runs. It isn't reaped, so that its number stays its own."""
+    if process.returncode is not None:
+        return process.returncode
+    try:
+        found = os.waitid(os.P_PID, process.pid, os.WEXITED | os.WNOHANG | os.WNOWAIT)
+    except ChildProcessError:
+        return process.poll()
+    if found is None:
+        return None
+    return found.si_status if found.si_code == os.CLD_EXITED else -found.si_status
+
+
+def _ends_by(process: subprocess.Popen[bytes], deadline: float | None) -> bool:
+    """Whether a program has ended by a deadline. It isn't reaped."""
+    pause = 0.0005
+    while _exit_status(process) is None:
+        left = _seconds_to(deadline)
+        if left == 0:
+            return False
+        pause = min(2 * pause, 0.05)
+        time.sleep(pause if left is None else min(pause, left))
+    return True
+
+
+def _is_ready(pipe: int, event: int, deadline: float | None) -> bool:
+    """Whether a pipe can be read, or written, by a deadline."""
+    poll = select.poll()
+    poll.register(pipe, event)
+    left = _seconds_to(deadline)
+    return bool(poll.poll(None if left is None else 1000 * left))
+
+
+def _deadline(timeout: float | None) -> float | None:
+    return None if timeout is None else time.monotonic() + timeout
+
+
+def _seconds_to(deadline: float | None) -> float | None:
+    """The seconds until a deadline, 0 once it has come, and None where there is none."""
+    return None if deadline is None else max(0.0, deadline - time.monotonic())
 
 
 def _ending(exit_status: int) -> str:

@@ -274,6 +274,80 @@ def _is_zombie(process: int) -> bool:
     return Path(f"/proc/{process}/stat").read_text().rsplit(")", 1)[1].split()[0] == "Z"
 
 
+#: A program that leaves another running, ``sleep``, whose number is the balance that it replies with.
+LEAVES = """
+import subprocess, sys
+line = sys.stdin.readline()
+child = subprocess.Popen(["sleep", "60"], stdout=None if "hold" in line else subprocess.DEVNULL)
+print('{"caller":0,"line":1,"ok":"granted","version":0,"balance":%d}' % child.pid, flush=True)
+if "last" not in line:
+    sys.stdin.read()
+"""
+
+
+def is_ended(process: int) -> bool:
+    return not alive(process) or _is_zombie(process)
+
+
+@pytest.mark.parametrize("word", ["hold", "leave"])
+def test_what_a_program_leaves_running_is_ended(word: str, monkeypatch: pytest.MonkeyPatch) -> None:
+    monkeypatch.setattr("purvelj.pipes.GRACE", 0.5)
+    with Desk(program(LEAVES), timeout=20) as desk:
+        child = desk.send(word)[0].balance
+        assert not is_ended(child)
+    assert desk.close() == 0 and is_ended(child)
+
+
+def test_what_a_program_leaves_that_ended_by_itself_is_ended(monkeypatch: pytest.MonkeyPatch) -> None:
+    monkeypatch.setattr("purvelj.pipes.GRACE", 0.5)
+    with Desk(program(LEAVES), timeout=20) as desk:
+        child = desk.send("last")[0].balance
+        with pytest.raises(DeskEnded, match="ended with status 0"):
+            for _ in range(2000):
+                desk.test_running()
+                time.sleep(0.01)
+        assert not is_ended(child)
+    assert desk.close() == 0 and is_ended(child)
+
+
+def test_what_a_script_leaves_running_is_ended(monkeypatch: pytest.MonkeyPatch, tmp_path: Path) -> None:
+    monkeypatch.setattr("purvelj.pipes.GRACE", 0.5)
+    assert is_ended(run_script(["last"], program(LEAVES)).exchanges[0].reply.balance)
+    notes = f"open({str(tmp_path / 'child')!r}, 'w').write(str(child.pid))"
+    with pytest.raises(NoReply, match="didn't end within 2 s"):
+        run_script(["last hold"], program(f"{LEAVES}\n{notes}"), timeout=2)
+    assert is_ended(int((tmp_path / "child").read_text()))
+
+
+def test_a_program_whose_number_may_be_anothers_is_sent_no_signal(monkeypatch: pytest.MonkeyPatch) -> None:
+    sent: list[int] = []
+    monkeypatch.setattr("os.killpg", lambda group, number: sent.append(number))
+    desk = Desk(program("import sys; sys.stdin.read()"))
+    desk._program._process.stdin.close()
+    os.waitpid(desk._program._process.pid, 0)
+    assert (desk.close(), sent) == (0, [])
+
+
+def test_a_program_that_is_gone_before_its_signal_comes(monkeypatch: pytest.MonkeyPatch) -> None:
+    def gone(group: int, number: int) -> None:
+        os.kill(group, signal.SIGKILL)
+        raise ProcessLookupError
+
+    monkeypatch.setattr("purvelj.pipes.GRACE", 0.3)
+    monkeypatch.setattr("os.killpg", gone)
+    assert Desk(program("import time; time.sleep(60)")).close() == -signal.SIGKILL
+
+
+def test_a_program_that_never_stops_writing_is_ended(monkeypatch: pytest.MonkeyPatch) -> None:
+    monkeypatch.setattr("purvelj.pipes.GRACE", 0.3)
+    with Desk(["yes"], timeout=20) as desk:
+        with pytest.raises(FileError, match="reply to line 1: not JSON"):
+            desk.plan()
+    assert desk.close() == -signal.SIGTERM
+    with pytest.raises(NoReply, match="didn't end within 0.1 s"):
+        run_script(LINES, program("while True: print(flush=True)"), timeout=0.1)
+
+
 def test_a_fault_in_the_with_statement_ends_the_program(netsched: list[str]) -> None:
     with pytest.raises(ZeroDivisionError):
         with Desk(netsched) as desk:
