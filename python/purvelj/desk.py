@@ -106,22 +106,24 @@ def command_of(program: Sequence[str] | str | None) -> list[str]:
 
 
 def run_script(
-    script: Sequence[str], program: Sequence[str] | str | None = None, timeout: float | None = TIMEOUT
+    script: Iterable[str], program: Sequence[str] | str | None = None, timeout: float | None = TIMEOUT
 ) -> History:
     """Sends the lines of a script all at once to a session program, and gives what it replied.
 
-    This serves a program, too, that reads all its input before it replies. ``DeskEnded`` where it ends
-    with a status above 0, ``NoReply`` where it takes longer than ``timeout`` seconds.
+    The script is a list of lines or an open file; lines may have their newlines at the end. This serves a program,
+    too, that reads all its input before it replies. ``DeskEnded`` where it ends with a status above 0, ``NoReply``
+    where it takes longer than ``timeout`` seconds.
     """
     _test_lines(script)
+    sent = [line.rstrip("\n") for line in script]
     command = command_of(program)
-    text = "".join(f"{line}\n" for line in script)
+    text = "".join(f"{line}\n" for line in sent)
     output, exit_status = run_through(command, text, timeout)
     if exit_status:
         raise DeskEnded(command, exit_status)
     history = read_history(decoded(output, "output", "surrogatepass"), text)
-    if len(history.exchanges) != len(script):
-        raise DeskError(f"{len(script)} lines were sent, and {len(history.exchanges)} were replied to")
+    if len(history.exchanges) != len(sent):
+        raise DeskError(f"{len(sent)} lines were sent, and {len(history.exchanges)} were replied to")
     return history
 
 

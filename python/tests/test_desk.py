@@ -408,6 +408,23 @@ def test_a_script_runs_through_a_program_that_reads_all_first(tmp_path: Path) ->
         run_script([*LINES, "[]"], [*program(READS_ALL), str(tmp_path / "reply.py")], timeout=20)
 
 
+def test_a_script_is_a_list_of_lines_or_an_open_file(tmp_path: Path) -> None:
+    (tmp_path / "script.jsonl").write_text("\n".join(LINES))
+    text = f"same = sys.stdin.read().splitlines() == {LINES!r}; print({chr(10).join(REPLIES)!r} if same else '')"
+    answer = program(f"import sys; {text}")
+    with open(tmp_path / "script.jsonl", encoding="utf-8") as script:
+        assert run_script(script, answer).output().splitlines() == REPLIES
+    with open(tmp_path / "script.jsonl", encoding="utf-8") as script:
+        history = run_script(script.readlines(), answer)
+    assert (history.output().splitlines(), history.script().splitlines()) == (REPLIES, LINES)
+    assert run_script(iter(LINES), answer) == history
+
+
+def test_a_line_of_a_script_with_a_newline_in_it_is_two() -> None:
+    with pytest.raises(DeskError, match="1 lines were sent, and 2 were replied to"):
+        run_script([f"{LINES[0]}\n{LINES[1]}"], program(f"print({chr(10).join(REPLIES[:2])!r})"))
+
+
 def test_a_script_through_a_program_that_fails_or_goes_on() -> None:
     with pytest.raises(DeskEnded, match="ended with status 5"):
         run_script(LINES, program("import sys; sys.stdin.read(); sys.exit(5)"))
