@@ -142,7 +142,8 @@ class Desk:
     call was interrupted, the desk is of no more use. Several threads may use a desk: a line of one waits until that
     of another is replied to.
 
-    All that was sent is kept in ``history``; ``save`` writes it as a script, and ``replay`` sends one.
+    All that was sent is kept in ``history``, unless ``keep_history`` is False; ``save`` writes it as a script, and
+    ``replay`` sends one.
     With a ``journal``, such as ``"tonight"``, each line is written to ``tonight.lines.jsonl`` before it is sent, and
     each reply to ``tonight.replies.jsonl`` before it is given; ``resume`` goes on with them.
     """
@@ -152,17 +153,21 @@ class Desk:
         program: Sequence[str] | str | None = None,
         timeout: float | None = TIMEOUT,
         journal: str | Path | None = None,
+        keep_history: bool = True,
     ) -> None:
         """Starts the program, by default ``default_program``: the words of a command, or a text that has them.
 
         ``FileError`` where a file of the journal is there already.
         """
-        self._exchanges: list[Exchange] = []
+        self._exchanges: list[Exchange] | None = [] if keep_history else None
+        self._count = 0
         self._lock = threading.Lock()
         self._lost = False
         self._journal: Journal | None = None
         #: The lines of the journal that weren't wholly replied to; only ``resume`` may find any.
         self.unanswered: tuple[str, ...] = ()
+        #: How many lines of the journal ``resume`` has done again, and how many published plans are among them.
+        self.done_again, self.plans_again = 0, 0
         self._program = LineProgram(command_of(program), timeout)
         if journal is not None:
             with ExitStack() as faults:
@@ -172,7 +177,11 @@ class Desk:
 
     @classmethod
     def resume(
-        cls, journal: str | Path, program: Sequence[str] | str | None = None, timeout: float | None = TIMEOUT
+        cls,
+        journal: str | Path,
+        program: Sequence[str] | str | None = None,
+        timeout: float | None = TIMEOUT,
+        keep_history: bool = True,
     ) -> Desk:
         """A desk that goes on where the one with this journal stopped, in a new session.
 
@@ -185,12 +194,13 @@ class Desk:
             kept = Journal.go_on(journal)
             faults.callback(kept.close)
             found = kept.stopped()
-            desk = cls(program, timeout)
+            desk = cls(program, timeout, keep_history=keep_history)
             faults.callback(desk.close)
             for exchange in found.done:
                 desk._do_again(exchange)
             kept.cut(found.done)
             desk._journal, desk.unanswered = kept, found.unanswered
+            desk.done_again, desk.plans_again = len(found.done), found.plans
             faults.pop_all()
         return desk
 
@@ -220,7 +230,9 @@ class Desk:
 
     @property
     def history(self) -> History:
-        """Every line that was sent so far, with its replies."""
+        """Every line that was sent so far, with its replies; ``DeskError`` where the desk doesn't keep them."""
+        if self._exchanges is None:
+            raise DeskError("the desk keeps no history")
         return History(tuple(self._exchanges))
 
     def save(self, path: str | Path) -> None:
@@ -241,7 +253,7 @@ class Desk:
                 if self._journal:
                     self._journal.line(text)
                 exchange = self._exchange(text)
-                self._exchanges.append(exchange)
+                self._keep(exchange)
             except BaseException:
                 self._lost = True
                 self._close_journal()
@@ -372,7 +384,7 @@ class Desk:
 
     def _exchange(self, line: str) -> Exchange:
         """Sends the next line and reads its replies."""
-        place = len(self._exchanges) + 1
+        place = self._count + 1
         self._program.write(line.encode("utf-8", "surrogatepass"))
         texts: list[str] = []
         replies: list[Reply] = []
@@ -390,8 +402,14 @@ class Desk:
         """Brings the session to the state that an exchange of another left."""
         found, wanted = self._exchange(line_again(exchange)).output, output_again(exchange)
         if found != wanted:
-            raise ReplyDiffers(len(self._exchanges) + 1, wanted, found)
-        self._exchanges.append(exchange)
+            raise ReplyDiffers(self._count + 1, wanted, found)
+        self._keep(exchange)
+
+    def _keep(self, exchange: Exchange) -> None:
+        """Counts a line that was wholly replied to, and keeps it in a desk with a history."""
+        self._count += 1
+        if self._exchanges is not None:
+            self._exchanges.append(exchange)
 
     def _close_journal(self) -> None:
         if self._journal:

@@ -36,10 +36,13 @@ GRACE = 5.0
 def desk_of(
     journal: str | Path, program: Sequence[str] | str | None = None, timeout: float | None = TIMEOUT
 ) -> Desk:
-    """A desk with this journal, which it begins where neither of the files is there, and else goes on with."""
+    """A desk with this journal, which it begins where neither of the files is there, and else goes on with.
+
+    It keeps no history, which the journal has.
+    """
     if any(os.path.lexists(path) for path in Journal.paths(journal)):
-        return Desk.resume(journal, program, timeout)
-    return Desk(program, timeout, journal)
+        return Desk.resume(journal, program, timeout, keep_history=False)
+    return Desk(program, timeout, journal, keep_history=False)
 
 
 class Listener:

@@ -12,6 +12,7 @@ import socket
 import stat
 import sys
 import threading
+import weakref
 from contextlib import suppress
 from pathlib import Path
 
@@ -20,7 +21,8 @@ import pytest
 from purvelj import cli
 from purvelj.desk import Desk
 from purvelj.errors import FileError
-from purvelj.serve import LONGEST, Server, listen_at_path
+from purvelj.pipes import DeskError
+from purvelj.serve import LONGEST, Server, desk_of, listen_at_path
 from script import LINES, REPLIES
 from serving import SLOW, Caller, Served, until
 
@@ -200,6 +202,23 @@ def test_a_kill_loses_nothing(serve) -> None:
         assert export == {**json.loads(REPLIES[9]), "line": 10}
     assert again.end() == 0
     assert serve().told()[0] == "lines that were done again: 10, published plans among them: 1"
+
+
+def test_a_servers_desk_keeps_no_exchange(netsched, tmp_path: Path) -> None:
+    name = tmp_path / "night"
+    with desk_of(name, netsched, timeout=20) as desk:
+        exchanges = [weakref.ref(desk.exchange(line)) for line in LINES]
+        assert [each() for each in exchanges] == [None] * len(LINES)
+        with pytest.raises(DeskError, match="the desk keeps no history"):
+            desk.save(tmp_path / "script.jsonl")
+    with desk_of(name, netsched, timeout=20) as desk:
+        assert (desk.done_again, desk.plans_again, desk.unanswered) == (9, 1, ())
+        with pytest.raises(DeskError, match="the desk keeps no history"):
+            assert desk.history
+        (reply,) = desk.exchange(LINES[8]).output
+    assert json.loads(reply) == {**json.loads(REPLIES[9]), "line": 10}
+    with Desk.resume(name, netsched) as desk:
+        assert (desk.done_again, desk.plans_again, len(desk.history.exchanges)) == (10, 1, 10)
 
 
 def test_a_program_that_ends_ends_the_server(serve) -> None:

@@ -79,12 +79,8 @@ def _listener(options: argparse.Namespace) -> Listener:
 
 def _tell_done(desk: Desk) -> None:
     """Tells how far the journal had come, and what the desk hasn't done."""
-    from purvelj.resume import is_plan
-
-    done = desk.history.exchanges
-    plans = sum(is_plan(exchange) for exchange in done)
-    if done:
-        tell(f"lines that were done again: {len(done)}, published plans among them: {plans}")
+    if desk.done_again:
+        tell(f"lines that were done again: {desk.done_again}, published plans among them: {desk.plans_again}")
     else:
         tell("no line of the journal was done, so the desk is a new one")
     if desk.unanswered:
