@@ -133,6 +133,44 @@ def test_what_has_nothing_to_draw() -> None:
         shares(story)
 
 
+def test_what_ends_after_the_year_9999_is_told() -> None:
+    base = replace(snapshot(single(1), slices=1440), first=844_674_335)
+    for shot, placements in ((base, ()), (replace(base, first=0), (Placement(1, 0, base.first + 1440),))):
+        with pytest.raises(DocumentError, match="^snapshot: its horizon ends after the year 9999, which can't be drawn"):
+            plan_view(Story(exported=exported(shot, placements, 0)))
+    assert plan_view(Story(exported=exported(replace(base, first=844_674_335 - 1440), (), 0))).bars == ()
+
+
+def test_a_telescope_that_can_be_used_after_the_horizon_is_drawn(tmp_path: Path) -> None:
+    shot = replace(snapshot(single(1)), telescopes=(Telescope(0, (Span(900, 10**12),)),))
+    view = plan_view(Story(exported=exported(shot, (), 0)))
+    assert view.rows[0].usable == (Span(900, 3600),)
+    save(draw_plan(view), tmp_path / "plan.svg")
+
+
+def test_a_plan_of_what_the_snapshot_does_not_have_is_told() -> None:
+    with pytest.raises(DocumentError, match="^claim: it places the request 7, which the snapshot doesn't have$"):
+        plan_view(Story(exported=exported(snapshot(single(1)), (Placement(7, 0, 0),), 0)))
+
+
+@pytest.mark.parametrize(
+    "place, line, message",
+    [
+        (0, '{"do":"open","now":0.5}', "line 1: now: 0.5 isn't written as a whole number"),
+        (0, '{"do":"open","now":253402300800}', "line 1: now: 253402300800 is out of 0 to 253402300799"),
+        (3, '{"do":"night","site":"coj","spans":[[0]]}', r"line 4: spans\[0\]: 1 elements, where 2 to 2 may be"),
+        (3, '{"do":"night","site":"coj","spans":[[0,[]]]}', r"line 4: spans\[0\]: a list stands where a whole number"),
+        (3, '{"do":"night","site":"coj","spans":[[9,9]]}', r"line 4: spans\[0\]: a span from 9 to 9 is empty"),
+        (6, LINES[6].replace('"requests":[', '"requests":[],"r":['), "line 7: group.requests: 0 elements, where 1"),
+    ],
+    ids=["a fraction", "too late", "one moment", "no moment", "an empty span", "no request"],
+)
+def test_a_script_of_another_output_is_told(place: int, line: str, message: str) -> None:
+    script = [*LINES[:place], line, *LINES[place + 1 :]]
+    with pytest.raises(DocumentError, match=f"^{message}"):
+        story_of(read_history("\n".join(REPLIES), "\n".join(script)))
+
+
 def test_a_report_among_several_that_run_needs_the_script(netsched: list[str]) -> None:
     with Desk(netsched, timeout=30) as desk:
         desk.replay(LINES[:3])

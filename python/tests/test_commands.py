@@ -222,6 +222,7 @@ FILES = {
     "odd.json": EXPORT.replace('"seconds":300', '"seconds":0'),
     "float.json": EXPORT.replace('"seconds":300', '"seconds":300.0'),
     "order.json": EXPORT.replace('"usable":[[0,3600]]', '"usable":[[0,1800],[1800,3600]]'),
+    "late.json": EXPORT.replace('"first":0', '"first":844674335').replace('"slices":12', '"slices":1440'),
     "wrong.json": EXPORT.replace('"bound":50000', '"bound":50001'),
     "nan.json": '{"snapshot":NaN}',
     "mark.json": "\ufeff" + EXPORT,
@@ -327,6 +328,11 @@ BAD = [
     (("chart", "export.json", "--plan", "p.gif"), 3, "p.gif: a picture's file ends in .svg or .png"),
     (("chart", "cut.json", "--plan", "p.svg"), 3, "cut.json, line 1: not JSON: it ends in the middle"),
     (("chart", "claim.json", "--plan", "p.svg"), 4, "claim.json, line 1: caller: is missing"),
+    (
+        ("chart", "late.json", "--plan", "p.svg"),
+        4,
+        "snapshot: its horizon ends after the year 9999, which can't be drawn",
+    ),
     (
         ("replay", "script.jsonl", "--program", "no-such-program"),
         9,

@@ -9,10 +9,11 @@ from __future__ import annotations
 from dataclasses import dataclass, field
 from typing import Callable
 
-from purvelj.documents import Document
+from purvelj.documents import Document, elements, whole
+from purvelj.errors import DocumentError
 from purvelj.history import Exchange, History
 from purvelj.model import Placement
-from purvelj.moments import in_utc
+from purvelj.moments import LAST, in_utc
 from purvelj.replies import (
     Balance,
     Balances,
@@ -175,10 +176,10 @@ class Story:
 
     def _own(self, document: Document, group: int, numbers: list[int] | tuple[int, ...]) -> None:
         account = ACCOUNTS.get(document.text("observation_type"), "standard")
-        requests = document.objects("requests")
+        requests = document.objects("requests", 1)
         for place, number in enumerate(numbers):
             request = requests[place] if len(requests) == len(numbers) else requests[0]
-            instrument = request.objects("configurations")[0].text("instrument_type")
+            instrument = request.objects("configurations", 1)[0].text("instrument_type")
             key = (document.text("proposal"), account, instrument)
             self.owners[number] = Owner(group, key, self._seconds(request, instrument))
 
@@ -225,11 +226,13 @@ def _spans(line: Document) -> Spans:
 
 
 def _span(value: object, path: str) -> Span:
-    start, end = value if isinstance(value, list) and len(value) == 2 else (None, None)
-    return Span(_moment(start, path), _moment(end, path))
+    start, end = (_moment(each, path) for each in elements(value, path, 2, 2))
+    if start >= end:
+        raise DocumentError(path, f"a span from {start} to {end} is empty")
+    return Span(start, end)
 
 
 def _moment(value: object, path: str) -> int:
     if isinstance(value, str):
         return int(in_utc(value, path).timestamp())
-    return value if isinstance(value, int) else int(str(value))
+    return whole(value, path, 0, LAST)

@@ -7,7 +7,8 @@ from dataclasses import dataclass
 
 from purvelj.chart.story import Key, Story
 from purvelj.errors import DocumentError
-from purvelj.model import Claim, Snapshot
+from purvelj.model import Claim, Placement, Snapshot
+from purvelj.moments import LAST
 from purvelj.spans import Span, Spans, meet
 
 
@@ -77,23 +78,17 @@ def plan_view(story: Story) -> PlanView:
     snapshot, claim = story.exported.snapshot, story.exported.claim
     horizon = snapshot.horizon
     rows = tuple(_row(story, snapshot, number) for number in range(len(snapshot.telescopes)))
-    bars = [
-        Bar(
-            placement.telescope,
-            snapshot.span_of(snapshot.requests[snapshot.places[placement.request]], placement.slice),
-            placement.request,
-            story.proposal_of(placement.request),
-            placement.request in story.running,
-        )
-        for placement in claim.placements
-    ]
+    bars = [_placed(story, snapshot, placement) for placement in claim.placements]
     placed = {placement.request for placement in claim.placements}
     bars += [
         bar for request in story.running if request not in placed for bar in _running(story, snapshot, request)
     ]
     spans = [bar.span for bar in bars] + [horizon]
+    drawn = Span(min(span.start for span in spans), max(span.end for span in spans))
+    if drawn.end > LAST:
+        raise DocumentError("snapshot", "its horizon ends after the year 9999, which can't be drawn")
     return PlanView(
-        horizon=Span(min(span.start for span in spans), max(span.end for span in spans)),
+        horizon=drawn,
         rows=rows,
         bars=tuple(sorted(bars, key=lambda bar: (bar.row, bar.span))),
         claim=claim,
@@ -121,6 +116,14 @@ def shares(story: Story) -> tuple[Share, ...]:
     )
 
 
+def _placed(story: Story, snapshot: Snapshot, placement: Placement) -> Bar:
+    number = placement.request
+    if number not in snapshot.places:
+        raise DocumentError("claim", f"it places the request {number}, which the snapshot doesn't have")
+    span = snapshot.span_of(snapshot.requests[snapshot.places[number]], placement.slice)
+    return Bar(placement.telescope, span, number, story.proposal_of(number), number in story.running)
+
+
 def _row(story: Story, snapshot: Snapshot, number: int) -> Row:
     telescope = snapshot.telescopes[number]
     named = story.telescopes.get(number)
@@ -128,7 +131,7 @@ def _row(story: Story, snapshot: Snapshot, number: int) -> Row:
     horizon = (snapshot.horizon,)
     night = meet(story.nights.get(named.site, ()), horizon) if named else ()
     closed = meet(story.closures.get(number, ()), night) if night else ()
-    return Row(name, telescope.usable, night, closed)
+    return Row(name, meet(telescope.usable, horizon), night, closed)
 
 
 def _running(story: Story, snapshot: Snapshot, request: int) -> list[Bar]:
