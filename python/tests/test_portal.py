@@ -211,6 +211,30 @@ def path_of(place: str) -> str:
     return path
 
 
+@pytest.mark.parametrize(
+    "priorities, warned",
+    [
+        ("1, 2", False),
+        ("2, 1", True),
+        ("1.5, 2.5", False),
+        ("2.5, 1.5", True),
+        ("2, 1.5", True),
+        ("1, 1.5", False),
+        ("null, 1", False),
+        ("1, null", True),
+        ('"b", "a"', False),
+    ],
+)
+def test_configurations_in_another_order_than_their_priorities_are_a_warning(priorities: str, warned: bool) -> None:
+    value = document()
+    configuration = value["requests"][0]["configurations"][0]
+    value["requests"][0]["configurations"] = [
+        {**configuration, "priority": priority} for priority in parse(f"[{priorities}]", "test")
+    ]
+    text = "warning: order: requests[0].configurations: the desk takes them as they stand, not by their priorities"
+    assert notes_of(value) == [text] * warned
+
+
 SILENT = [
     ("", {"id": 7, "submitter": "me", "created": "x", "modified": "y", "state": "PENDING"}),
     ("request", {"id": 8, "duration": 120, "state": "PENDING", "extra_params": {}, "observation_note": ""}),

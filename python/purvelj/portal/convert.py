@@ -8,6 +8,7 @@ fault where it wouldn't be.
 from __future__ import annotations
 
 from dataclasses import dataclass
+from decimal import Decimal
 from typing import Any
 
 from purvelj.documents import Document
@@ -163,7 +164,7 @@ class _Converter:
             text = f"the instrument types {', '.join(sorted(types))} are mixed in one request"
             self._notes.fault("mixed-instruments", path, text)
         order = [each.raw_or("priority", 0) for each in configurations]
-        if order != sorted(order, key=lambda each: each if isinstance(each, (int, float)) else 0):
+        if order != sorted(order, key=lambda each: each if isinstance(each, (int, float, Decimal)) else 0):
             self._notes.warn("order", path, "the desk takes them as they stand, not by their priorities")
         read = [self._notes.attempt("document", lambda: self._configuration(each)) for each in configurations]
         return read * self._repeats(document, len(read))
