@@ -50,7 +50,7 @@ class PlanBuilder:
         snapshot = self._starts.snapshot
         found = []
         for request, telescope, slice_ in placements:
-            own = self._own[snapshot.places[request]]
+            own = self._starts.of_request[snapshot.places[request]]
             at = (self._starts.slice[own] == slice_ - snapshot.first) & (self._starts.telescope[own] == telescope)
             found.append(int(own[np.flatnonzero(at)[0]]))
         return found
@@ -65,7 +65,7 @@ class PlanBuilder:
         """The request's earliest free start, on the lowest telescope, that its quota has room for."""
         if not self._has_room(request):
             return None
-        free = self.free(self._own[request])
+        free = self.free(self._starts.of_request[request])
         return int(free[0]) if len(free) else None
 
     def add(self, place: int) -> None:
@@ -77,7 +77,7 @@ class PlanBuilder:
         """Adds the earliest free start of a run, if there is one and its request isn't placed yet."""
         if self.is_placed(run.request) or not self._has_room(run.request):
             return
-        own = self._own[run.request]
+        own = self._starts.of_request[run.request]
         within = own[
             (self._starts.telescope[own] == run.telescope)
             & (self._starts.slice[own] >= run.first)
@@ -152,14 +152,6 @@ class PlanBuilder:
                     self.remove(added)
                 return False
         return True
-
-    @cached_property
-    def _own(self) -> list[Ints]:
-        """For each request the places of its starts, by slice and then telescope."""
-        order = np.argsort(self._starts.request, kind="stable")
-        count = len(self._starts.snapshot.requests)
-        ends = np.searchsorted(self._starts.request[order], np.arange(1, count))
-        return np.split(order, ends) if count else []
 
     @cached_property
     def _by_worth(self) -> list[tuple[Group, int, int]]:

@@ -141,6 +141,14 @@ class Starts:
         delay = np.minimum(self.slice - np.array(earliest, dtype=np.int64)[self.request], 1000)
         return np.maximum(1, value - value * fade * delay // 1000)
 
+    @cached_property
+    def of_request(self) -> list[Ints]:
+        """For each request the places of its starts, by slice and then telescope."""
+        order = np.argsort(self.request, kind="stable")
+        count = len(self.snapshot.requests)
+        ends = np.searchsorted(self.request[order], np.arange(1, count))
+        return np.split(order, ends) if count else []
+
     def placement(self, place: int) -> Placement:
         """The start at a place of the arrays, as a placement."""
         return Placement(

@@ -108,6 +108,22 @@ def test_a_filled_plan_has_room_for_nothing() -> None:
                 )
 
 
+def test_starts_are_sorted_by_request_once_for_all_plans(monkeypatch: pytest.MonkeyPatch) -> None:
+    sorted_again: list[int] = []
+
+    def argsort(array: np.ndarray, **members) -> np.ndarray:
+        sorted_again.append(len(array))
+        return array.argsort(**members)
+
+    monkeypatch.setattr("numpy.argsort", argsort)
+    starts = Starts.of(drawn_network(Random(1)))
+    for _ in range(3):
+        PlanBuilder(starts).fill()
+    assert sorted_again == [len(starts)]
+    assert [len(each) for each in starts.of_request] == np.bincount(starts.request).tolist()
+    assert all((starts.request[each] == place).all() for place, each in enumerate(starts.of_request))
+
+
 def _is_and(shot: Snapshot, request: int) -> bool:
     return shot.groups[shot.group_places[request]].operator.value == "AND"
 
