@@ -1,7 +1,8 @@
-"""Finds the package, the tests' own modules and the programs to talk to, from whatever folder the tests are run."""
+"""Finds the package, the tests' own modules and the programs to talk to, from whatever folder the tests are run, and runs commands."""
 
 from __future__ import annotations
 
+import json
 import os
 import shutil
 import signal
@@ -42,3 +43,34 @@ def netsched() -> list[str]:
 def plancheck() -> list[str]:
     """The command of the program that checks a claim."""
     return [built("plancheck"), "check"]
+
+
+class Ran:
+    """What a command wrote, and its exit status."""
+
+    def __init__(self, status: int, out: str, err: str) -> None:
+        self.status, self.out, self.err = status, out, err
+        assert "Traceback" not in err
+
+    def lines(self) -> list[dict]:
+        return [json.loads(line) for line in self.out.splitlines()]
+
+
+@pytest.fixture
+def run(tmp_path: Path, monkeypatch: pytest.MonkeyPatch, capfd):
+    """Runs a command in a folder of its own, in which each member of ``files`` is a file."""
+    from purvelj import cli
+
+    monkeypatch.chdir(tmp_path)
+
+    def command(*words: str, files: dict[str, object] | None = None) -> Ran:
+        for name, content in (files or {}).items():
+            text = content if isinstance(content, str) else json.dumps(content)
+            (tmp_path / name).write_text(text, encoding="utf-8")
+        try:
+            status = cli.main(words)
+        except SystemExit as end:
+            status = end.code
+        return Ran(status, *capfd.readouterr())
+
+    return command

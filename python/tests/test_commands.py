@@ -12,7 +12,6 @@ from pathlib import Path
 import pytest
 
 from portal_document import DOCUMENT
-from purvelj import cli
 from purvelj.checker import check
 from purvelj.documents import Document, compact
 from purvelj.model import read_claim
@@ -29,35 +28,6 @@ TARGETS = [
     {"name": "M31", "ra": 10.6847, "dec": 41.2687},
 ]
 EXPORT = REPLIES[-1]
-
-
-class Ran:
-    """What a command wrote, and its exit status."""
-
-    def __init__(self, status: int, out: str, err: str) -> None:
-        self.status, self.out, self.err = status, out, err
-        assert "Traceback" not in err
-
-    def lines(self) -> list[dict]:
-        return [json.loads(line) for line in self.out.splitlines()]
-
-
-@pytest.fixture
-def run(tmp_path: Path, monkeypatch: pytest.MonkeyPatch, capfd):
-    """Runs a command in a folder of its own, in which each member of ``files`` is a file."""
-    monkeypatch.chdir(tmp_path)
-
-    def command(*words: str, files: dict[str, object] | None = None) -> Ran:
-        for name, content in (files or {}).items():
-            text = content if isinstance(content, str) else json.dumps(content)
-            (tmp_path / name).write_text(text, encoding="utf-8")
-        try:
-            status = cli.main(words)
-        except SystemExit as end:
-            status = end.code
-        return Ran(status, *capfd.readouterr())
-
-    return command
 
 
 HORIZON = ("--from", "2026-11-27", "--days", "3")
@@ -323,7 +293,8 @@ BAD = [
     (("tighten", "nan.json"), 3, "nan.json: not JSON: NaN is no JSON number"),
     (("tighten", "output.jsonl"), 4, "output.jsonl: there is no reply to an `export` line in it"),
     (("tighten", "cutoutput.jsonl"), 3, "cutoutput.jsonl, line 10: not JSON: it ends in the middle"),
-    (("chart", "output.jsonl", "--plan", "p.svg"), 4, "there is no reply to an `export` line to draw a plan from"),
+    (("chart", "output.jsonl", "--plan", "p.svg"), 4, "there is no reply to an `export` line to take a plan from"),
+    (("list", "output.jsonl"), 4, "there is no reply to an `export` line to take a plan from"),
     (("chart", "export.json", "--accounts", "p.svg"), 4, "there is no reply to a `balances` line to draw shares"),
     (("chart", "export.json", "--plan", "p.gif"), 3, "p.gif: a picture's file ends in .svg or .png"),
     (("chart", "cut.json", "--plan", "p.svg"), 3, "cut.json, line 1: not JSON: it ends in the middle"),

@@ -74,7 +74,7 @@ class Share:
 def plan_view(story: Story) -> PlanView:
     """The view of the last export; ``DocumentError`` where there is none."""
     if story.exported is None:
-        raise DocumentError("", "there is no reply to an `export` line to draw a plan from")
+        raise DocumentError("", "there is no reply to an `export` line to take a plan from")
     snapshot, claim = story.exported.snapshot, story.exported.claim
     horizon = snapshot.horizon
     rows = tuple(_row(story, snapshot, number) for number in range(len(snapshot.telescopes)))

@@ -1,0 +1,48 @@
+"""``list``: a plan as a table of moments and names."""
+
+from __future__ import annotations
+
+import argparse
+import re
+
+from purvelj.cli.words import Commands, put, tell
+from purvelj.documents import read_text, source_of
+from purvelj.history import read_history
+
+
+def add_commands(commands: Commands) -> None:
+    """Adds the command to a parser."""
+    listing = commands.add_parser(
+        "list",
+        help="print a plan as a table: when, where, which request, whose",
+        description="Prints a line for each placement of the last export, and for what is running, in the order of "
+        "their starts. It has start, end, telescope, request, group, proposal, and `running` where it runs, with tabs "
+        "between them; what isn't known is empty.",
+    )
+    listing.add_argument("output", help="the replies of a session: all, or the one to an `export` line")
+    listing.add_argument("--script", metavar="FILE", help="the lines that were sent: they have the names")
+    listing.set_defaults(run=run_list)
+
+
+def run_list(options: argparse.Namespace) -> int:
+    """Runs ``list``."""
+    from purvelj.chart.story import story_of
+    from purvelj.chart.views import plan_view
+    from purvelj.moments import text_of
+
+    script = read_text(options.script) if options.script else None
+    story = story_of(read_history(read_text(options.output), script, source_of(options.output)))
+    view = plan_view(story)
+    for bar in sorted(view.bars, key=lambda bar: (bar.span, bar.row)):
+        owner = story.owners.get(bar.request)
+        group, proposal = (str(owner.group), owner.proposal) if owner else ("", "")
+        names = [view.rows[bar.row].name, str(bar.request), group, proposal, "running" if bar.running else ""]
+        put("\t".join([text_of(bar.span.start), text_of(bar.span.end), *map(_cell, names)]))
+    for note in dict.fromkeys(story.notes):
+        tell(note)
+    return 0
+
+
+def _cell(text: str) -> str:
+    """A text in a row of the table: a code may have a tab or the end of a line in it, which would part the row."""
+    return re.sub(r"[\t\n\r]", " ", text)

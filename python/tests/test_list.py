@@ -1,0 +1,40 @@
+"""The command that lists a plan."""
+
+from __future__ import annotations
+
+from pathlib import Path
+
+from script import LINES, REPLIES
+
+EXAMPLES = Path(__file__).resolve().parents[2] / "examples"
+
+
+def test_list_prints_a_plan_in_moments_and_names(run) -> None:
+    ran = run("list", str(EXAMPLES / "night.replies"), "--script", str(EXAMPLES / "night.jsonl"))
+    assert (ran.status, ran.err) == (0, "")
+    rows = [line.split("\t") for line in ran.out.splitlines()]
+    assert rows[0] == [
+        "2026-11-27T21:20:00Z",
+        "2026-11-27T22:00:28Z",
+        "cpt domb 1m0a",
+        "14",
+        "7",
+        "2026B-CLUSTERS",
+        "running",
+    ]
+    assert [row[0] for row in rows] == sorted(row[0] for row in rows)
+    assert sorted(int(row[3]) for row in rows) == [3, 7, 9, 10, 11, 14]
+    assert [row[6] for row in rows[1:]] == [""] * 5
+
+
+def test_list_of_an_export_alone_has_no_names(run) -> None:
+    ran = run("list", "export.json", files={"export.json": REPLIES[-1]})
+    row = "1970-01-01T00:00:00Z\t1970-01-01T00:05:00Z\ttelescope 0, site 0\t1\t\t\t\n"
+    assert (ran.status, ran.out, ran.err) == (0, row, "")
+
+
+def test_list_keeps_each_placement_in_a_row(run) -> None:
+    script = "\n".join([*LINES[:2], LINES[2].replace('"doma"', '"dom\\ta\\n"'), *LINES[3:]])
+    files = {"output.jsonl": "\n".join(REPLIES), "script.jsonl": script}
+    ran = run("list", "output.jsonl", "--script", "script.jsonl", files=files)
+    assert ran.out == "1970-01-01T00:00:00Z\t1970-01-01T00:05:00Z\tcoj dom a  1m0a\t1\t1\tP1\t\n"
