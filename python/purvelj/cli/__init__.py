@@ -6,7 +6,7 @@ import argparse
 from typing import Sequence
 
 from purvelj import __version__
-from purvelj.cli import chart, claims, listing, portal, replay, resume, serve, sky
+from purvelj.cli import chart, claims, listing, portal, replay, resume, send, serve, sky
 from purvelj.cli.ending import ended
 from purvelj.documents import writing_output
 
@@ -24,7 +24,7 @@ def parser() -> argparse.ArgumentParser:
     )
     words.add_argument("--version", action="version", version=f"purvelj {__version__}")
     commands = words.add_subparsers(dest="command", required=True, metavar="COMMAND")
-    for module in (sky, portal, replay, resume, serve, claims, listing, chart):
+    for module in (sky, portal, replay, resume, serve, send, claims, listing, chart):
         module.add_commands(commands)
     return words
 
