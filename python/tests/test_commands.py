@@ -92,6 +92,18 @@ def test_replay_sends_each_line_as_it_is(run, netsched: list[str]) -> None:
     assert run("replay", "none.jsonl", "--program", shlex.join(netsched), files={"none.jsonl": ""}).out == ""
 
 
+def test_replay_tells_of_a_byte_order_mark(run, netsched: list[str]) -> None:
+    script = "\ufeff" + "\r\n".join(LINES)
+    ran = run("replay", "script.jsonl", "--program", shlex.join(netsched), files={"script.jsonl": script})
+    assert (ran.status, [line["refused"] for line in ran.lines()]) == (0, ["NotJson", *["NotOpened"] * 8])
+    assert ran.err.splitlines() == [
+        "purvelj: the script begins with a byte order mark, with which its first line is no JSON",
+        "purvelj: 9 of 9 lines were refused",
+    ]
+    ran = run("replay", "script.jsonl", "--program", shlex.join(netsched), files={"script.jsonl": script[1:]})
+    assert (ran.out.splitlines(), ran.err) == (REPLIES, "")
+
+
 def test_check_says_what_plancheck_says(run) -> None:
     ran = run("check", "export.json", files={"export.json": EXPORT})
     assert (ran.status, ran.out) == (0, '{"bound":50000,"ok":"yes","value":50000}\n')

@@ -38,6 +38,8 @@ def run_replay(options: argparse.Namespace) -> int:
     from purvelj.desk import run_script
 
     text = read_text(options.script)
+    if text.startswith("\ufeff"):
+        tell("the script begins with a byte order mark, with which its first line is no JSON")
     lines = text.removesuffix("\n").split("\n") if text else []
     history = run_script(lines, options.program, options.timeout)
     for exchange in history.exchanges:
