@@ -20,13 +20,14 @@ def seconds_of(moment: Moment, path: str = "moment") -> int:
     """
     if isinstance(moment, bool) or not isinstance(moment, (int, str, datetime)):
         raise DocumentError(path, f"{moment!r} is no moment")
+    how = ": `.replace(microsecond=0)` makes it one"
     if isinstance(moment, str):
-        moment = in_utc(moment, path)
+        moment, how = in_utc(moment, path), ""
     if isinstance(moment, datetime):
         if moment.tzinfo is None:
             raise DocumentError(path, f"{moment} doesn't say in which offset from UTC it is")
         if moment.microsecond:
-            raise DocumentError(path, f"{moment} is no whole second")
+            raise DocumentError(path, f"{moment} is no whole second{how}")
         moment = int(moment.timestamp())
     if not 0 <= moment <= LAST:
         raise DocumentError(path, f"{moment} is out of the seconds from 0 to {LAST}")

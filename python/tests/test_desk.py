@@ -19,6 +19,7 @@ from purvelj.errors import DocumentError, FileError
 from purvelj.history import read_history
 from purvelj.lines import night_line, submit_line, visibility_line
 from purvelj.model import Placement
+from purvelj.moments import seconds_of
 from purvelj.pipes import DeskEnded, DeskError, NoReply
 from purvelj.replies import Balance, Completed, Failed, Refused, Submitted
 from script import LINES, REPLIES, SNAPSHOT
@@ -193,6 +194,18 @@ def test_spans_have_moments_as_all_lines_have() -> None:
     assert line["spans"] == [[1_795_737_600, 1_795_773_600], [1_795_780_800, 1_795_824_000]]
     with pytest.raises(DocumentError, match=r"spans\[1\]: 'noon' is no date and time"):
         visibility_line("M51", "coj", [(0, 1), ("noon", 2)])
+
+
+def test_a_moment_is_a_whole_second() -> None:
+    now = datetime(2026, 11, 28, 4, 0, 0, 123, tzinfo=timezone.utc)
+    text = r"2026-11-28 04:00:00.000123\+00:00 is no whole second: `.replace\(microsecond=0\)` makes it one$"
+    with pytest.raises(DocumentError, match=text):
+        seconds_of(now)
+    assert seconds_of(now.replace(microsecond=0)) == seconds_of("2026-11-28T04:00:00Z") == 1_795_838_400
+    with pytest.raises(DocumentError, match="is no whole second$"):
+        seconds_of("2026-11-28T04:00:00.5Z")
+    with pytest.raises(DocumentError, match="doesn't say in which offset from UTC it is"):
+        seconds_of(datetime(2026, 11, 28))
 
 
 def test_a_script_that_is_one_text_is_refused(desk: Desk, netsched: list[str]) -> None:
