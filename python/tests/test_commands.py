@@ -42,6 +42,13 @@ def test_nights(run) -> None:
     ]
 
 
+@pytest.mark.parametrize("moment", ["2026-11-27T04:00:00Z", "20261127T04", "1795752000", "01795752000"])
+def test_a_horizon_begins_at_a_moment_or_a_number_of_seconds(run, moment: str) -> None:
+    ran = run("nights", "sites.json", "--from", moment, "--days", "1", files={"sites.json": SITES[:1]})
+    assert (ran.status, ran.err) == (0, "")
+    assert ran.lines()[0]["spans"][0][0] == 1_795_752_000
+
+
 def test_visibility(run) -> None:
     files = {"sites.json": {"sites": SITES}, "targets.json": {"targets": TARGETS}}
     ran = run("visibility", "sites.json", "targets.json", *HORIZON, "--airmass", "1.9", files=files)
@@ -236,6 +243,17 @@ BAD = [
         "--days: 2 days from 9999-12-31T00:00:00Z on end after the year 9999",
     ),
     (("nights", "sites.json", "--from", "soon", "--days", "1"), 4, "--from: 'soon' is no date and time"),
+    (
+        ("nights", "sites.json", "--from", "253402300800", "--days", "1"),
+        4,
+        "--from: 253402300800 is out of the seconds from 0 to 253402300799",
+    ),
+    (("nights", "sites.json", "--from", "9" * 5000, "--days", "1"), 4, "--from: '9999"),
+    (
+        ("nights", "sites.json", "--from", "2026-11-27T04:00:00.5Z", "--days", "1"),
+        4,
+        "--from: 2026-11-27 04:00:00.500000+00:00 is no whole second",
+    ),
     (
         ("nights", "sites.json", "--from", "1960-01-01", "--days", "1"),
         4,

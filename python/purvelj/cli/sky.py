@@ -56,7 +56,7 @@ def add_commands(commands: Commands) -> None:
 def _add_horizon(command: argparse.ArgumentParser) -> None:
     command.add_argument("sites", help="a JSON list of sites with site, latitude, longitude and height")
     command.add_argument(
-        "--from", dest="start", required=True, metavar="MOMENT", help="such as 2026-11-27 or 2026-11-27T04:00:00Z"
+        "--from", dest="start", required=True, metavar="MOMENT", help="such as 2026-11-27, 2026-11-27T04:00:00Z or 1795752000"
     )
     command.add_argument("--days", type=ranged(float, 0.001, 366), required=True, help="how many days")
 
@@ -101,7 +101,10 @@ def run_visibility(options: argparse.Namespace) -> int:
 
 
 def _horizon(options: argparse.Namespace) -> tuple[int, int]:
-    start = seconds_of(options.start, "--from")
+    text: str = options.start
+    # A date without signs between, as 20261127, has 8 digits.
+    in_seconds = 8 < len(text) < 20 and text.isascii() and text.isdecimal()
+    start = seconds_of(int(text) if in_seconds else text, "--from")
     end = start + round(options.days * 86_400)
     if end > LAST:
         raise DocumentError("--days", f"{options.days:g} days from {text_of(start)} on end after the year 9999")
