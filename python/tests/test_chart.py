@@ -3,6 +3,7 @@
 from __future__ import annotations
 
 import json
+import os
 import re
 import struct
 from collections import Counter
@@ -291,6 +292,28 @@ def test_a_file_of_another_kind_or_nowhere(tmp_path: Path) -> None:
         save(figure, tmp_path / "plan.jpg")
     with pytest.raises(FileError, match="can't be written: No such file"):
         save(figure, tmp_path / "nowhere" / "plan.png")
+
+
+@pytest.mark.parametrize("ending", ["svg", "png"])
+def test_a_picture_that_cannot_be_written_leaves_what_was_there(tmp_path: Path, ending: str) -> None:
+    path = tmp_path / f"plan.{ending}"
+    path.write_text("an older picture")
+    (tmp_path / f"plan.{ending}.new").symlink_to("/dev/full")
+    with pytest.raises(FileError, match=f"plan.{ending}: can't be written: No space left on device"):
+        save(draw_shares(()), path)
+    assert (os.listdir(tmp_path), path.read_text()) == ([path.name], "an older picture")
+
+
+def test_a_picture_is_written_where_a_link_leads(tmp_path: Path) -> None:
+    (tmp_path / "kept").mkdir()
+    (tmp_path / "plan.svg").symlink_to("kept/plan.svg")
+    for _ in range(2):
+        save(draw_shares(()), tmp_path / "plan.svg")
+    assert (tmp_path / "plan.svg").is_symlink() and os.listdir(tmp_path / "kept") == ["plan.svg"]
+    (tmp_path / "folder.svg").mkdir()
+    with pytest.raises(FileError, match="folder.svg: can't be written: Is a directory"):
+        save(draw_shares(()), tmp_path / "folder.svg")
+    assert sorted(os.listdir(tmp_path)) == ["folder.svg", "kept", "plan.svg"]
 
 
 def test_there_are_styles_for_many_proposals() -> None:

@@ -2,6 +2,8 @@
 
 from __future__ import annotations
 
+import os
+from contextlib import suppress
 from pathlib import Path
 
 import matplotlib
@@ -15,13 +17,21 @@ FORMATS = ("svg", "png")
 
 
 def save(figure: Figure, path: str | Path) -> None:
-    """Writes a picture as SVG or PNG, by the ending of the path. The same picture is the same file."""
+    """Writes a picture as SVG or PNG, by the ending of the path. The same picture is the same file.
+
+    The picture is there whole, or what stood there before is: it is written beside it, to a file that ends in ``.new``.
+    """
     ending = Path(path).suffix.lower().lstrip(".")
     if ending not in FORMATS:
         raise FileError(f"{path}: a picture's file ends in .svg or .png")
     metadata = {"Date": None} if ending == "svg" else {"Software": None}
     with matplotlib.rc_context({"svg.hashsalt": "purvelj", "svg.fonttype": "none", "hatch.linewidth": 0.6}):
+        new = f"{os.path.realpath(path)}.new"
         try:
-            figure.savefig(path, format=ending, dpi=DOTS, metadata=metadata)
+            figure.savefig(new, format=ending, dpi=DOTS, metadata=metadata)
+            os.replace(new, os.path.realpath(path))
         except OSError as fault:
             raise FileError(f"{path}: can't be written: {fault.strerror or fault}") from None
+        finally:
+            with suppress(OSError):
+                os.unlink(new)
