@@ -172,6 +172,10 @@ def test_chart_draws_both(run) -> None:
     ran = run("chart", "output.jsonl", "--script", "script.jsonl", *words, files=files)
     assert (ran.status, ran.out, ran.err) == (0, "", "")
     assert "coj doma 1m0a" in Path("plan.svg").read_text() and Path("accounts.png").stat().st_size > 5000
+    words = ("--plan", "export.svg", "--accounts", "export.png")
+    ran = run("chart", "export.json", *words, files={"export.json": EXPORT})
+    assert (ran.status, ran.err) == (4, "purvelj: there is no reply to a `balances` line to draw shares from\n")
+    assert not Path("export.svg").exists()
     ran = run("chart", "output.jsonl")
     assert (ran.status, ran.err) == (2, "purvelj: chart draws nothing: name a file by --plan or --accounts\n")
 

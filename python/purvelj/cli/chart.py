@@ -34,10 +34,13 @@ def run_chart(options: argparse.Namespace) -> int:
         raise WordsError("chart draws nothing: name a file by --plan or --accounts")
     script = read_text(options.script) if options.script else None
     story = story_of(read_history(read_text(options.output), script, source_of(options.output)))
-    if options.plan:
-        save(draw_plan(plan_view(story)), options.plan)
-    if options.accounts:
-        save(draw_shares(shares(story)), options.accounts)
+    # Both before either is saved: where there is nothing to draw one of, neither is drawn.
+    plan = plan_view(story) if options.plan else None
+    accounts = shares(story) if options.accounts else None
+    if plan is not None:
+        save(draw_plan(plan), options.plan)
+    if accounts is not None:
+        save(draw_shares(accounts), options.accounts)
     for note in dict.fromkeys(story.notes):
         tell(note)
     return 0
