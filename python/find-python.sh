@@ -1,5 +1,5 @@
 # shellcheck shell=sh
-# What the scripts of this folder share: finding the Python that Debian's packages are for.
+# What the scripts share that run Python: finding the one that Debian's packages are for, and where matplotlib keeps its fonts.
 
 # Sets $python to the interpreter that $PURVELJ_PYTHON names, or where it names none to Debian's own, and says so where that
 # doesn't serve. Another python3 that comes first on the search path doesn't see Debian's packages.
@@ -21,6 +21,16 @@ find_python() {
 # Whether $python is a Python 3.11 or later.
 serves() {
     "$python" -c 'import sys; sys.exit(sys.version_info < (3, 11))' 2>/dev/null
+}
+
+# Has matplotlib keep its list of fonts in a folder of this user's own where there is no home to keep it in: else it would make a
+# folder at each start, say so, and leave it there where it is killed.
+keep_fonts() {
+    [ -n "${MPLCONFIGDIR:-}" ] || [ -w "${HOME:-/nonexistent}" ] && return
+    fonts=${TMPDIR:-/tmp}/purvelj-matplotlib-$(id -u)
+    mkdir -m 700 "$fonts" 2>/dev/null
+    # Another user may have made it first, or a link there.
+    [ -d "$fonts" ] && [ -O "$fonts" ] && [ ! -L "$fonts" ] && export MPLCONFIGDIR="$fonts"
 }
 
 # Prints those of the modules that $python doesn't have.

@@ -4,10 +4,13 @@ from __future__ import annotations
 
 import os
 import shutil
+import stat
 import subprocess
 from pathlib import Path
 
 import pytest
+
+from script import REPLIES
 
 TOP = Path(__file__).resolve().parents[2]
 PROGRAM = '#!/bin/sh\necho "netsched $*"\nexit 5\n'
@@ -73,3 +76,36 @@ def test_an_interpreter_that_is_named_and_does_not_serve_is_told(python: str) ->
     done = subprocess.run(command, env=environment, capture_output=True, text=True, check=False)
     assert (done.returncode, done.stdout) == (126, "")
     assert done.stderr == f"python/run: PURVELJ_PYTHON names {python}, which isn't a Python 3.11 or later\n"
+
+
+def fonts(home: Path, folder: Path, **members: str) -> str:
+    """Where a script has matplotlib keep its fonts, for a user with this home."""
+    environment = {"PATH": "/usr/bin:/bin", "HOME": str(home), "TMPDIR": str(folder), **members}
+    command = ["sh", "-c", '. "$1/python/find-python.sh"; keep_fonts; echo "${MPLCONFIGDIR-}"', "test", TOP]
+    done = subprocess.run(command, env=environment, capture_output=True, text=True, check=True)
+    assert done.stderr == ""
+    return done.stdout.removesuffix("\n")
+
+
+def test_fonts_are_kept_for_a_user_without_a_home(tmp_path: Path) -> None:
+    nowhere, name = tmp_path / "nowhere", tmp_path / f"purvelj-matplotlib-{os.getuid()}"
+    assert fonts(nowhere, tmp_path) == fonts(nowhere, tmp_path) == str(name)
+    assert stat.S_IMODE(name.stat().st_mode) == 0o700
+    assert (fonts(tmp_path, tmp_path), fonts(nowhere, tmp_path, MPLCONFIGDIR="/else")) == ("", "/else")
+    assert fonts(nowhere, nowhere) == ""
+    name.rename(tmp_path / "other")
+    name.symlink_to("other")
+    assert fonts(nowhere, tmp_path) == ""
+
+
+def test_a_user_without_a_home_draws_with_no_word(tmp_path: Path) -> None:
+    (tmp_path / "export.json").write_text(REPLIES[-1])
+    (tmp_path / "tmp").mkdir()
+    left_out = ("MPLCONFIGDIR", "XDG_CONFIG_HOME", "XDG_CACHE_HOME")
+    environment = {name: value for name, value in os.environ.items() if name not in left_out}
+    environment |= {"HOME": "/dev/null/home", "TMPDIR": str(tmp_path / "tmp")}
+    command = [TOP / "python" / "run", "chart", "export.json", "--plan", "plan.svg"]
+    done = subprocess.run(command, cwd=tmp_path, env=environment, capture_output=True, text=True, check=False)
+    assert (done.returncode, (tmp_path / "plan.svg").exists()) == (0, True)
+    # On a machine that is busy it may say that it lists the fonts.
+    assert "temporary" not in done.stderr and os.listdir(tmp_path / "tmp") == [f"purvelj-matplotlib-{os.getuid()}"]
