@@ -16,6 +16,7 @@ from purvelj.chart import draw_plan, draw_shares, plan_view, save, shares, story
 from purvelj.cli.ending import ended
 from purvelj.desk import Desk
 from purvelj.documents import write_text
+from purvelj.errors import FileError
 from purvelj.lines import Line
 from purvelj.model import Claim
 from purvelj.moments import seconds_of
@@ -50,7 +51,7 @@ def words() -> argparse.ArgumentParser:
 
 def run(options: argparse.Namespace) -> int:
     """Sets a desk up, plans, tightens, lets five hours pass, plans again, and draws, and gives the exit status."""
-    options.out.mkdir(parents=True, exist_ok=True)
+    make_folder(options.out)
     start = seconds_of(options.date, "--date")
     script = list(set_up(options.date, options.days, start))
     with Desk(options.program) as desk:
@@ -68,6 +69,14 @@ def run(options: argparse.Namespace) -> int:
             write_text(options.out / "output.jsonl", desk.history.output())
     print(f"script, output and pictures are in {os.path.relpath(options.out)}")
     return 0
+
+
+def make_folder(path: Path) -> None:
+    """Sees that a folder is there; ``FileError`` where it can't be made."""
+    try:
+        path.mkdir(parents=True, exist_ok=True)
+    except OSError as fault:
+        raise FileError(f"{path}: can't be made: {fault.strerror}; --out names another folder") from None
 
 
 def set_up(date: str, days: int, start: int) -> Iterator[Line]:

@@ -96,3 +96,10 @@ def test_a_refusal_ends_the_example(tmp_path: Path) -> None:
     assert (done.returncode, done.stdout) == (9, "")
     assert done.stderr.endswith('line 1 is refused: 6 OutOfRange {"member":"horizon"}\n')
     assert (tmp_path / "output.jsonl").exists()
+
+
+def test_a_folder_that_cannot_be_made_is_told(tmp_path: Path) -> None:
+    (tmp_path / "file").touch()
+    done = subprocess.run([TOP / RUN, "--out", "file/out"], cwd=tmp_path, capture_output=True, text=True, check=False)
+    message = "examples/sky/run: file/out: can't be made: Not a directory; --out names another folder\n"
+    assert (done.returncode, done.stdout, done.stderr) == (3, "", message)
