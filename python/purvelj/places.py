@@ -74,8 +74,7 @@ class Target:
         """The target that a document with ``name``, ``ra``, ``dec`` and perhaps a proper motion is."""
         return Target(
             document.text("name"),
-            document.number("ra", 0, 360),
-            document.number("dec", -90, 90),
+            *position(document),
             document.number_or("pm_ra", 0.0, -20_000, 20_000),
             document.number_or("pm_dec", 0.0, -20_000, 20_000),
             document.number_or("epoch", 2000.0, 1900, 2100),
@@ -130,6 +129,14 @@ class Limits:
         """The least sine of the altitude, by altitude and airmass."""
         least = math.sin(math.radians(self.altitude))
         return least if self.airmass is None else max(least, 1 / self.airmass)
+
+
+def position(document: Document) -> tuple[float, float]:
+    """The members ``ra`` and ``dec``, in degrees; ``DocumentError``, which says that unit, where they aren't."""
+    try:
+        return document.number("ra", 0, 360), document.number("dec", -90, 90)
+    except DocumentError as fault:
+        raise DocumentError(fault.path, f"{fault.text}; it is in degrees") from None
 
 
 def _test_range(path: str, name: str, value: float, least: float, most: float) -> None:

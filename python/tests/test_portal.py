@@ -9,7 +9,7 @@ from decimal import Decimal
 import pytest
 
 from portal_document import DOCUMENT
-from purvelj.documents import parse
+from purvelj.documents import Document, parse
 from purvelj.errors import DocumentError
 from purvelj.places import Limits, Target
 from purvelj.portal import Notes, PortalError, convert, summary, targets_of
@@ -383,3 +383,12 @@ def test_a_name_for_two_places_in_the_sky() -> None:
     value["requests"][1]["configurations"][0]["target"]["ra"] = 202.5
     with pytest.raises(DocumentError, match="M51 stands for two places in the sky"):
         targets_of([("a.json", value)], Limits(), Notes())
+
+
+def test_a_position_is_in_degrees() -> None:
+    value = document("target", ra="00:47:33")
+    wanted = r"^a.json: requests\[0\].configurations\[0\].target.ra: a text stands where a number should be; it is in degrees$"
+    with pytest.raises(DocumentError, match=wanted):
+        targets_of([("a.json:", value)], Limits(), Notes())
+    with pytest.raises(DocumentError, match=r"^dec: 91 is out of -90 to 90; it is in degrees$"):
+        Target.read(Document({"name": "x", "ra": 1, "dec": 91}))

@@ -7,7 +7,7 @@ from typing import Iterable
 from purvelj.documents import Document
 from purvelj.errors import DocumentError
 from purvelj.portal.notes import Notes
-from purvelj.places import Limits, Target
+from purvelj.places import Limits, Target, position
 
 
 def targets_of(values: Iterable[tuple[str, object]], default: Limits, notes: Notes) -> dict[Target, Limits]:
@@ -31,8 +31,7 @@ def targets_of(values: Iterable[tuple[str, object]], default: Limits, notes: Not
 def _join(found: dict[str, tuple[Target, Limits]], document: Document, limits: Limits, notes: Notes) -> None:
     target = Target(
         document.text("name"),
-        document.number("ra", 0, 360),
-        document.number("dec", -90, 90),
+        *position(document),
         document.number_or("proper_motion_ra", 0.0, -20_000, 20_000),
         document.number_or("proper_motion_dec", 0.0, -20_000, 20_000),
         document.number_or("epoch", 2000.0, 1900, 2100),
