@@ -392,3 +392,20 @@ def test_a_position_is_in_degrees() -> None:
         targets_of([("a.json:", value)], Limits(), Notes())
     with pytest.raises(DocumentError, match=r"^dec: 91 is out of -90 to 90; it is in degrees$"):
         Target.read(Document({"name": "x", "ra": 1, "dec": 91}))
+
+
+def test_two_spellings_of_a_target_are_a_warning() -> None:
+    value = document("", operator="MANY", requests=requests(5))
+    names = ("NGC 253", "ngc  253", "NGC 253", "NGC 253 ", "ngc  253")
+    for request, name in zip(value["requests"], names):
+        request["configurations"][0]["target"]["name"] = name
+    notes = Notes()
+    targets = targets_of([("a.json:", value)], Limits(), notes)
+    assert [target.name for target in targets] == ["NGC 253", "ngc  253", "NGC 253 "]
+    path = "configurations[0].target.name"
+    assert summary(notes.all()) == [
+        f"warning: spelling: a.json: requests[1].{path} and 1 more: "
+        "`ngc  253` is spelt as `NGC 253` elsewhere, and the two are two targets",
+        f"warning: spelling: a.json: requests[3].{path}: "
+        "`NGC 253 ` is spelt as `NGC 253` elsewhere, and the two are two targets",
+    ]

@@ -15,16 +15,19 @@ def targets_of(values: Iterable[tuple[str, object]], default: Limits, notes: Not
 
     Each group comes with the path that names it. The desk knows one visibility of a target and site. So
     where a target stands with several constraints, the strictest hold, and a warning says so; where a
-    name stands for two places in the sky, ``DocumentError`` is raised. What isn't a fixed star is left
-    out: the conversion of its group has a fault.
+    name stands for two places in the sky, ``DocumentError`` is raised. Names that differ by case or space
+    alone are two targets, which a warning says. What isn't a fixed star is left out: the conversion of its
+    group has a fault.
     """
     found: dict[str, tuple[Target, Limits]] = {}
+    spelt: dict[str, str] = {}
     for path, value in values:
         for request in Document(value, path).objects("requests"):
             for configuration in request.objects("configurations"):
                 target = configuration.object("target")
                 if target.raw_or("type", "ICRS") == "ICRS":
                     _join(found, target, _limits(configuration, default), notes)
+                    _test_spelling(spelt, target, notes)
     return dict(found.values())
 
 
@@ -43,6 +46,15 @@ def _join(found: dict[str, tuple[Target, Limits]], document: Document, limits: L
         text = f"{target.name} has several constraints, and the strictest hold for all"
         notes.warn("constraints", document.path, text)
         found[target.name] = (target, _strictest(before, limits))
+
+
+def _test_spelling(spelt: dict[str, str], document: Document, notes: Notes) -> None:
+    """Warns of a name that another differs from by case or space alone; ``spelt`` has the first of each such."""
+    name = document.text("name")
+    first = spelt.setdefault(" ".join(name.split()).casefold(), name)
+    if first != name:
+        text = f"`{name}` is spelt as `{first}` elsewhere, and the two are two targets"
+        notes.warn("spelling", document.path_of("name"), text)
 
 
 def _limits(configuration: Document, default: Limits) -> Limits:
