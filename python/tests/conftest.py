@@ -1,4 +1,7 @@
-"""Finds the package, the tests' own modules and the programs to talk to, from whatever folder the tests are run, and runs commands."""
+"""Finds the package, the tests' own modules and the programs to talk to, from whatever folder the tests are run.
+
+It has the fixtures that many tests share.
+"""
 
 from __future__ import annotations
 

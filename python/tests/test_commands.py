@@ -42,13 +42,6 @@ def test_nights(run) -> None:
     ]
 
 
-@pytest.mark.parametrize("moment", ["2026-11-27T04:00:00Z", "20261127T04", "1795752000", "01795752000"])
-def test_a_horizon_begins_at_a_moment_or_a_number_of_seconds(run, moment: str) -> None:
-    ran = run("nights", "sites.json", "--from", moment, "--days", "1", files={"sites.json": SITES[:1]})
-    assert (ran.status, ran.err) == (0, "")
-    assert ran.lines()[0]["spans"][0][0] == 1_795_752_000
-
-
 def test_visibility(run) -> None:
     files = {"sites.json": {"sites": SITES}, "targets.json": {"targets": TARGETS}}
     ran = run("visibility", "sites.json", "targets.json", *HORIZON, "--airmass", "1.9", files=files)
@@ -97,18 +90,6 @@ def test_replay_sends_each_line_as_it_is(run, netsched: list[str]) -> None:
     assert [(line["line"], line["refused"]) for line in ran.lines()] == [(1, "NotJson"), (2, "NotJson"), (3, "Missing")]
     assert ran.err == "purvelj: 3 of 3 lines were refused\n"
     assert run("replay", "none.jsonl", "--program", shlex.join(netsched), files={"none.jsonl": ""}).out == ""
-
-
-def test_replay_tells_of_a_byte_order_mark(run, netsched: list[str]) -> None:
-    script = "\ufeff" + "\r\n".join(LINES)
-    ran = run("replay", "script.jsonl", "--program", shlex.join(netsched), files={"script.jsonl": script})
-    assert (ran.status, [line["refused"] for line in ran.lines()]) == (0, ["NotJson", *["NotOpened"] * 8])
-    assert ran.err.splitlines() == [
-        "purvelj: the script begins with a byte order mark, with which its first line is no JSON",
-        "purvelj: 9 of 9 lines were refused",
-    ]
-    ran = run("replay", "script.jsonl", "--program", shlex.join(netsched), files={"script.jsonl": script[1:]})
-    assert (ran.out.splitlines(), ran.err) == (REPLIES, "")
 
 
 def test_check_says_what_plancheck_says(run) -> None:

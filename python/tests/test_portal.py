@@ -387,8 +387,7 @@ def test_a_name_for_two_places_in_the_sky() -> None:
 
 def test_a_position_is_in_degrees() -> None:
     value = document("target", ra="00:47:33")
-    wanted = r"^a.json: requests\[0\].configurations\[0\].target.ra: a text stands where a number should be; it is in degrees$"
-    with pytest.raises(DocumentError, match=wanted):
+    with pytest.raises(DocumentError, match=r"target.ra: a text stands where a number should be; it is in degrees$"):
         targets_of([("a.json:", value)], Limits(), Notes())
     with pytest.raises(DocumentError, match=r"^dec: 91 is out of -90 to 90; it is in degrees$"):
         Target.read(Document({"name": "x", "ra": 1, "dec": 91}))

@@ -104,7 +104,7 @@ def test_a_server_that_ends_is_told(serve, send) -> None:
     sender = send("night.socket")
     out, err = sender.communicate("[]\n" * 4, 60)
     assert (sender.returncode, out.count("\n")) == (3, 2)
-    assert err.splitlines()[-1] == "purvelj: night.socket: the server ended the connection: 2 of 4 lines were replied to"
+    assert err.endswith("purvelj: night.socket: the server ended the connection: 2 of 4 lines were replied to\n")
 
 
 def test_a_server_that_ends_while_no_line_comes_is_told(serve, send) -> None:

@@ -233,6 +233,14 @@ def test_lines_are_of_whole_seconds() -> None:
         assert spans and all(isinstance(each, int) for span in spans for each in span)
 
 
+@pytest.mark.parametrize("moment", ["2026-11-27T04:00:00Z", "20261127T04", "1795752000", "01795752000"])
+def test_a_horizon_begins_at_a_moment_or_a_number_of_seconds(run, moment: str) -> None:
+    files = {"sites.json": [{"site": "lsc", "latitude": -30.1674, "longitude": -70.8048}]}
+    ran = run("nights", "sites.json", "--from", moment, "--days", "1", files=files)
+    assert (ran.status, ran.err) == (0, "")
+    assert ran.lines()[0]["spans"][0][0] == 1_795_752_000
+
+
 def test_nothing_is_downloaded_or_said() -> None:
     """In a process of its own, since astropy asks for its tables once."""
     text = (

@@ -56,7 +56,11 @@ def add_commands(commands: Commands) -> None:
 def _add_horizon(command: argparse.ArgumentParser) -> None:
     command.add_argument("sites", help="a JSON list of sites with site, latitude, longitude and height")
     command.add_argument(
-        "--from", dest="start", required=True, metavar="MOMENT", help="such as 2026-11-27, 2026-11-27T04:00:00Z or 1795752000"
+        "--from",
+        dest="start",
+        required=True,
+        metavar="MOMENT",
+        help="such as 2026-11-27, 2026-11-27T04:00:00Z or 1795752000",
     )
     command.add_argument("--days", type=ranged(float, 0.001, 366), required=True, help="how many days")
 
