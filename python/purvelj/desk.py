@@ -182,6 +182,7 @@ class Desk:
         program: Sequence[str] | str | None = None,
         timeout: float | None = TIMEOUT,
         keep_history: bool = True,
+        seek: bool = False,
     ) -> Desk:
         """A desk that goes on where the one with this journal stopped, in a new session.
 
@@ -189,6 +190,10 @@ class Desk:
         ``plan`` lines. ``ReplyDiffers`` where a reply isn't the journal's, but for those that say ``taken``. What was
         torn at the ends of the files is dropped, and so are the lines without their replies: these are given in
         ``unanswered``, to be sent again.
+
+        With ``seek`` the lines are sent as they stand, and the plans sought again, which takes as long as it did. All
+        replies have to be the journal's then, which those of the same program with one worker are. It is for lines
+        that are longer with the claims than a session may read.
         """
         with ExitStack() as faults:
             kept = Journal.go_on(journal)
@@ -197,7 +202,7 @@ class Desk:
             desk = cls(program, timeout, keep_history=keep_history)
             faults.callback(desk.close)
             for exchange in found.done:
-                desk._do_again(exchange)
+                desk._do_again(exchange, seek)
             kept.cut(found.done)
             desk._journal, desk.unanswered = kept, found.unanswered
             desk.done_again, desk.plans_again = len(found.done), found.plans
@@ -398,9 +403,12 @@ class Desk:
                 self._journal.reply(texts[-1])
         return Exchange(line, tuple(texts), tuple(replies))
 
-    def _do_again(self, exchange: Exchange) -> None:
-        """Brings the session to the state that an exchange of another left."""
-        found, wanted = self._exchange(line_again(exchange)).output, output_again(exchange)
+    def _do_again(self, exchange: Exchange, seek: bool) -> None:
+        """Brings the session to the state that an exchange of another left, by seeking its plan or by its claim."""
+        line, wanted = exchange.line, exchange.output
+        if not seek:
+            line, wanted = line_again(exchange), output_again(exchange)
+        found = self._exchange(line).output
         if found != wanted:
             raise ReplyDiffers(self._count + 1, wanted, found)
         self._keep(exchange)

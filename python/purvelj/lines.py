@@ -17,6 +17,13 @@ Line = dict[str, object]
 Pairs = Iterable[tuple[Moment, Moment]]
 #: The accounts that a grant can go to.
 ACCOUNTS = ("standard", "time_critical", "rapid_response", "ipp")
+#: The most lines that a session reads, and the most bytes of them with their newlines.
+MOST_LINES, MOST_BYTES = 65_536, 67_108_864
+
+
+def size_of(text: str) -> int:
+    """The bytes that a session reads of a line that is this text, its newline among them."""
+    return len(text.encode("utf-8", "surrogatepass")) + 1
 
 
 def open_line(

@@ -17,6 +17,9 @@ from purvelj.errors import PurveljError, Status
 #: end, in seconds.
 GRACE = 5.0
 
+#: The exit status with which a session says that its input is longer than it may be.
+INPUT_TOO_LONG = 5
+
 
 class DeskError(PurveljError):
     """Something is wrong between here and the session program."""
@@ -280,7 +283,7 @@ def _ending(exit_status: int) -> str:
         2: "reading its input failed",
         3: "writing its output failed",
         4: "it ran out of memory",
-        5: "its input is longer than it may be",
+        INPUT_TOO_LONG: "its input is longer than it may be",
         126: "it could be neither found nor built",
     }
     return f"ended with status {exit_status}" + (f" ({words[exit_status]})" if exit_status in words else "")

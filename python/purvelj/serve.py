@@ -34,14 +34,17 @@ GRACE = 5.0
 
 
 def desk_of(
-    journal: str | Path, program: Sequence[str] | str | None = None, timeout: float | None = TIMEOUT
+    journal: str | Path,
+    program: Sequence[str] | str | None = None,
+    timeout: float | None = TIMEOUT,
+    seek: bool = False,
 ) -> Desk:
     """A desk with this journal, which it begins where neither of the files is there, and else goes on with.
 
-    It keeps no history, which the journal has.
+    It keeps no history, which the journal has. ``seek`` is that of ``Desk.resume``.
     """
     if any(os.path.lexists(path) for path in Journal.paths(journal)):
-        return Desk.resume(journal, program, timeout, keep_history=False)
+        return Desk.resume(journal, program, timeout, keep_history=False, seek=seek)
     return Desk(program, timeout, journal, keep_history=False)
 
 

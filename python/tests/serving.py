@@ -12,6 +12,8 @@ import time
 from pathlib import Path
 from typing import Callable
 
+from script import REPLIES
+
 TOP = Path(__file__).resolve().parents[1]
 
 #: A session program that seeks a plan until there is a file ``found``, and says so in a file ``seeking``.
@@ -30,6 +32,23 @@ for place, line in enumerate(sys.stdin, start=1):
     else:
         print(json.dumps({**heads, "ok": "night"}), flush=True)
 """
+
+#: A session program that has the replies to the short script, and may read no claim.
+LIMITED = """
+import json, pathlib, sys
+replies = pathlib.Path(sys.argv[1]).read_text().splitlines()
+for place, line in enumerate(sys.stdin, start=1):
+    if json.loads(line)["do"] == "publish":
+        sys.exit(5)
+    print("\\n".join(text for text in replies if json.loads(text)["line"] == place), flush=True)
+"""
+
+
+def limited(folder: Path) -> list[str]:
+    """The command of a session program to which a claim is an input that is too long."""
+    (folder / "limited.py").write_text(LIMITED)
+    (folder / "replies").write_text("\n".join(REPLIES))
+    return [sys.executable, str(folder / "limited.py"), str(folder / "replies")]
 
 
 def until(condition: Callable[[], object]) -> None:

@@ -18,6 +18,7 @@ from purvelj.pipes import DeskEnded, DeskError, NoReply
 from purvelj.replies import Balances, Shown, read_reply
 from purvelj.resume import line_again, stopped
 from script import CLAIM, LINES, REPLIES
+from serving import limited
 from test_desk import program
 
 EXAMPLES = Path(__file__).resolve().parents[2] / "examples"
@@ -56,6 +57,19 @@ def test_a_plan_is_published_again_in_its_place(resume) -> None:
     status, lines, told = resume(joined(REPLIES), joined(LINES))
     assert (status, lines) == (0, [*LINES[:7], PUBLISH, LINES[8]])
     assert told == ["lines that were done: 9, published plans among them: 1"]
+
+
+def test_lines_that_are_longer_than_a_session_may_read_are_told(resume, monkeypatch) -> None:
+    size = len(joined([*LINES[:7], PUBLISH, LINES[8]]))
+    monkeypatch.setattr("purvelj.cli.resume.MOST_BYTES", size)
+    assert len(resume(joined(REPLIES), joined(LINES))[2]) == 1
+    monkeypatch.setattr("purvelj.cli.resume.MOST_BYTES", size - 1)
+    status, lines, told = resume(joined(REPLIES), joined(LINES))
+    assert (status, len(lines)) == (0, 9)
+    assert told == [
+        "lines that were done: 9, published plans among them: 1",
+        "these lines are longer than a session may read; with one worker the script itself comes to the same state",
+    ]
 
 
 def test_lines_without_all_their_replies_are_left_to_be_sent(resume) -> None:
@@ -145,6 +159,22 @@ def test_a_desk_of_four_workers_has_its_plan_again(netsched, tmp_path: Path) -> 
         exported = again.export()
         assert (exported.claim, exported.snapshot) == (before[0], before[1].snapshot)
         assert again.balances() == before[2]
+
+
+def test_plans_are_sought_again_where_that_is_asked(netsched, tmp_path: Path) -> None:
+    name = journal(tmp_path, joined(LINES), joined(REPLIES))
+    short = limited(tmp_path)
+    with pytest.raises(DeskEnded, match="ended with status 5"):
+        Desk.resume(name, short)
+    for command in (short, netsched):
+        with Desk.resume(name, command, seek=True) as desk:
+            assert (desk.done_again, desk.plans_again, desk.unanswered) == (9, 1, ())
+            assert desk.history.output().splitlines() == REPLIES
+    assert json.loads((tmp_path / "night.replies.jsonl").read_text().splitlines()[-1])["line"] == 9
+    other = joined(REPLIES).replace('"bound":50000', '"bound":50001')
+    with pytest.raises(ReplyDiffers, match="line 8: the reply differs from the journal's: .*50000.* and .*50001"):
+        Desk.resume(journal(tmp_path, joined(LINES), other), netsched, seek=True)
+    assert (tmp_path / "night.replies.jsonl").read_text() == other
 
 
 def kill(desk: Desk) -> None:

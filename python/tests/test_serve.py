@@ -24,7 +24,7 @@ from purvelj.errors import FileError
 from purvelj.pipes import DeskError
 from purvelj.serve import LONGEST, Server, desk_of, listen_at_path
 from script import LINES, REPLIES
-from serving import SLOW, Caller, Served, until
+from serving import SLOW, Caller, Served, limited, until
 
 @pytest.fixture
 def serve(tmp_path: Path, netsched: list[str]):
@@ -202,6 +202,21 @@ def test_a_kill_loses_nothing(serve) -> None:
         assert export == {**json.loads(REPLIES[9]), "line": 10}
     assert again.end() == 0
     assert serve().told()[0] == "lines that were done again: 10, published plans among them: 1"
+
+
+def test_a_journal_whose_claims_are_too_long_has_its_plans_sought_again(serve, tmp_path: Path, capfd) -> None:
+    program = limited(tmp_path)
+    (tmp_path / "night.lines.jsonl").write_text("".join(f"{line}\n" for line in LINES))
+    (tmp_path / "night.replies.jsonl").write_text("".join(f"{text}\n" for text in REPLIES))
+    assert cli.main(["serve", str(tmp_path / "night"), "--program", shlex.join(program)]) == 9
+    said = capfd.readouterr().err.splitlines()
+    assert said[0] == (
+        "purvelj: the lines are more, or longer, than a session may read: see Limits in docs/operations.md"
+    )
+    assert "ended with status 5 (its input is longer than it may be)" in said[1] and len(said) == 2
+    server = serve("--seek", program=program)
+    assert server.told()[0] == "lines that were done again: 9, published plans among them: 1"
+    assert server.end() == 0
 
 
 def test_a_servers_desk_keeps_no_exchange(netsched, tmp_path: Path) -> None:

@@ -6,6 +6,7 @@ import argparse
 
 from purvelj.cli.words import Commands, put, tell
 from purvelj.documents import decoded, read_bytes, source_of
+from purvelj.lines import MOST_BYTES, size_of
 from purvelj.resume import Stopped, line_again, pieces, stopped
 
 
@@ -30,9 +31,14 @@ def run_resume(options: argparse.Namespace) -> int:
     replies = [text for text in decoded(output, source).split("\n") if text.strip()]
     lines = decoded(script, source_of(options.script)).split("\n")[:-1]
     found = stopped(replies, lines, torn, source)
+    size = 0
     for exchange in found.done:
-        put(line_again(exchange))
+        line = line_again(exchange)
+        size += size_of(line)
+        put(line)
     _tell(found)
+    if size > MOST_BYTES:
+        tell("these lines are longer than a session may read; with one worker the script itself comes to the same state")
     return 0
 
 

@@ -15,6 +15,9 @@ if TYPE_CHECKING:
     from purvelj.desk import Desk
     from purvelj.serve import Listener
 
+#: Where it is said how a desk goes on that has read as much as it may.
+HELP = "see Limits in docs/operations.md"
+
 SIGNALS = (signal.SIGTERM, signal.SIGINT)
 
 
@@ -47,6 +50,11 @@ def add_commands(commands: Commands) -> None:
         metavar="SECONDS",
         help="the most that a reply may take (default: 600)",
     )
+    serve.add_argument(
+        "--seek",
+        action="store_true",
+        help="seek the plans of the journal again, where its lines with their claims would be too long for a session",
+    )
     serve.set_defaults(run=run_serve)
 
 
@@ -57,7 +65,7 @@ def run_serve(options: argparse.Namespace) -> int:
     if options.host is not None and options.port is None:
         raise WordsError("--host goes with --port")
     caught: list[int] = []
-    with desk_of(options.journal, options.program, options.timeout) as desk:
+    with _hinting(), desk_of(options.journal, options.program, options.timeout, options.seek) as desk:
         _tell_done(desk)
         with _listener(options) as listener:
             server = Server(desk, listener, tell)
@@ -67,6 +75,19 @@ def run_serve(options: argparse.Namespace) -> int:
     if signal.SIGINT in caught:
         raise KeyboardInterrupt
     return 0
+
+
+@contextmanager
+def _hinting() -> Iterator[None]:
+    """Tells where help is for a session whose input has become too long, which it would be again at each start."""
+    from purvelj.pipes import INPUT_TOO_LONG, DeskEnded
+
+    try:
+        yield
+    except DeskEnded as fault:
+        if fault.exit_status == INPUT_TOO_LONG:
+            tell(f"the lines are more, or longer, than a session may read: {HELP}")
+        raise
 
 
 def _listener(options: argparse.Namespace) -> Listener:
