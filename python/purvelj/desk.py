@@ -13,6 +13,7 @@ from typing import Iterable, Mapping, Sequence, TypeVar
 
 from purvelj import lines
 from purvelj.documents import compact, decoded, write_text
+from purvelj.errors import PurveljError
 from purvelj.history import Exchange, History, read_history
 from purvelj.journal import Journal
 from purvelj.lines import Line, Pairs
@@ -39,7 +40,7 @@ from purvelj.replies import (
     is_taken,
     read_reply,
 )
-from purvelj.resume import line_again, output_again
+from purvelj.resume import line_again, output_again, pieces
 
 R = TypeVar("R", bound=Reply)
 
@@ -111,8 +112,8 @@ def run_script(
     """Sends the lines of a script all at once to a session program, and gives what it replied.
 
     The script is a list of lines or an open file; lines may have their newlines at the end. This serves a program,
-    too, that reads all its input before it replies. ``DeskEnded`` where it ends with a status above 0, ``NoReply``
-    where it takes longer than ``timeout`` seconds.
+    too, that reads all its input before it replies. ``DeskEnded`` where it ends with a status above 0, whose
+    ``history`` has the replies until then, and ``NoReply`` where it takes longer than ``timeout`` seconds.
     """
     _test_lines(script)
     sent = [line.rstrip("\n") for line in script]
@@ -120,11 +121,19 @@ def run_script(
     text = "".join(f"{line}\n" for line in sent)
     output, exit_status = run_through(command, text, timeout)
     if exit_status:
-        raise DeskEnded(command, exit_status)
+        raise DeskEnded(command, exit_status, _history_until(output, text))
     history = read_history(decoded(output, "output", "surrogatepass"), text)
     if len(history.exchanges) != len(sent):
         raise DeskError(f"{len(sent)} lines were sent, and {len(history.exchanges)} were replied to")
     return history
+
+
+def _history_until(output: bytes, script: str) -> History:
+    """What a program had replied to a script when it ended: a torn reply is none, and all are where one can't be read."""
+    try:
+        return read_history(decoded(pieces(output)[0], "output", "surrogatepass"), script)
+    except PurveljError:
+        return History(())
 
 
 def _test_lines(script: object) -> None:

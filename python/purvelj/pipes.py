@@ -9,9 +9,12 @@ import signal
 import subprocess
 import time
 import weakref
-from typing import Sequence
+from typing import TYPE_CHECKING, Sequence
 
 from purvelj.errors import PurveljError, Status
+
+if TYPE_CHECKING:
+    from purvelj.history import History
 
 #: How long a program may take to end after its input was closed, and with what it started after they were told to
 #: end, in seconds.
@@ -28,11 +31,15 @@ class DeskError(PurveljError):
 
 
 class DeskEnded(DeskError):
-    """The session program ended while a reply was due; ``exit_status`` is negative for a signal."""
+    """The session program ended while a reply was due; ``exit_status`` is negative for a signal.
 
-    def __init__(self, command: Sequence[str], exit_status: int) -> None:
+    ``history`` is what it had replied to a whole script; it is None where the script wasn't sent at once.
+    """
+
+    def __init__(self, command: Sequence[str], exit_status: int, history: History | None = None) -> None:
         super().__init__(f"{' '.join(command)} {_ending(exit_status)} before it replied to all lines")
         self.exit_status = exit_status
+        self.history = history
 
 
 class NoReply(DeskError):

@@ -439,8 +439,11 @@ def test_a_line_of_a_script_with_a_newline_in_it_is_two() -> None:
 
 
 def test_a_script_through_a_program_that_fails_or_goes_on() -> None:
-    with pytest.raises(DeskEnded, match="ended with status 5"):
-        run_script(LINES, program("import sys; sys.stdin.read(); sys.exit(5)"))
+    for replies in ([], REPLIES[:2], REPLIES[:8]):
+        writes = f"sys.stdin.read(); sys.stdout.write({''.join(f'{text}{chr(10)}' for text in replies)!r})"
+        with pytest.raises(DeskEnded, match="ended with status 5") as caught:
+            run_script(LINES, program(f"import sys; {writes}; sys.exit(5)"))
+        assert caught.value.history and caught.value.history.output().splitlines() == replies
     with pytest.raises(NoReply, match="didn't end within 0.3 s"):
         run_script(LINES, program("import time; time.sleep(60)"), timeout=0.3)
 

@@ -3,8 +3,34 @@
 from __future__ import annotations
 
 import shlex
+import sys
+
+import pytest
 
 from script import LINES, REPLIES
+
+
+def ends(output: str, status: int) -> str:
+    """The command of a program that reads all lines, writes this and ends with a status."""
+    text = f"import sys; sys.stdin.read(); sys.stdout.write({output!r}); sys.exit({status})"
+    return shlex.join([sys.executable, "-c", text])
+
+
+@pytest.mark.parametrize("torn", ["", REPLIES[8][:100], "\n"])
+def test_replay_prints_what_there_is_where_the_program_ends_early(run, torn: str) -> None:
+    refused = '{"caller":0,"line":4,"no":3,"refused":"Missing","version":3,"member":"spans"}'
+    replies = [*REPLIES[:3], refused, *REPLIES[4:8]]
+    output = "".join(f"{text}\n" for text in replies) + torn
+    ran = run("replay", "script.jsonl", "--program", ends(output, 5), files={"script.jsonl": "\n".join(LINES)})
+    assert (ran.status, ran.out.splitlines()) == (9, replies)
+    told = ran.err.splitlines()
+    assert told[0] == "purvelj: 1 of 9 lines were refused" and len(told) == 2
+    assert told[1].endswith("ended with status 5 (its input is longer than it may be) before it replied to all lines")
+
+
+def test_replay_prints_nothing_of_a_program_that_is_no_session(run) -> None:
+    ran = run("replay", "script.jsonl", "--program", ends("usage: other WORDS\n", 1), files={"script.jsonl": LINES[0]})
+    assert (ran.status, ran.out, len(ran.err.splitlines())) == (9, "", 1)
 
 
 def test_replay_tells_of_a_byte_order_mark(run, netsched: list[str]) -> None:

@@ -6,6 +6,7 @@ import argparse
 
 from purvelj.cli.words import Commands, command, put, ranged, tell
 from purvelj.documents import read_text
+from purvelj.history import History
 from purvelj.replies import Refused
 
 
@@ -15,7 +16,8 @@ def add_commands(commands: Commands) -> None:
         "replay",
         help="send a script to a session program and print its replies",
         description="Sends all lines of a script to a session program and prints its replies. A script may have lines "
-        "that are refused: how many were is told on standard error, and the status is 0.",
+        "that are refused: how many were is told on standard error, and the status is 0. Where the program ends with a "
+        "status above 0 the replies that it had are printed, and the status is 9.",
     )
     replay.add_argument("script", help="a file with a line for the desk in each line, or - for standard input")
     replay.add_argument(
@@ -36,16 +38,26 @@ def add_commands(commands: Commands) -> None:
 def run_replay(options: argparse.Namespace) -> int:
     """Runs ``replay``."""
     from purvelj.desk import run_script
+    from purvelj.pipes import DeskEnded
 
     text = read_text(options.script)
     if text.startswith("\ufeff"):
         tell("the script begins with a byte order mark, with which its first line is no JSON")
     lines = text.removesuffix("\n").split("\n") if text else []
-    history = run_script(lines, options.program, options.timeout)
+    try:
+        _put(run_script(lines, options.program, options.timeout), len(lines))
+    except DeskEnded as fault:
+        if fault.history:
+            _put(fault.history, len(lines))
+        raise
+    return 0
+
+
+def _put(history: History, sent: int) -> None:
+    """Prints all replies, and tells how many of the lines that were sent were refused."""
     for exchange in history.exchanges:
         for text in exchange.output:
             put(text)
     refused = sum(isinstance(exchange.reply, Refused) for exchange in history.exchanges)
     if refused:
-        tell(f"{refused} of {len(lines)} lines were refused")
-    return 0
+        tell(f"{refused} of {sent} lines were refused")
