@@ -19,8 +19,10 @@ HERE = Path(__file__).resolve().parent
 TOP = HERE.parents[1]
 sys.path[:0] = [str(HERE.parent), str(HERE)]
 
-# A shell starts what it runs in the background with this signal ignored, and that would be so in what the tests start and interrupt.
+# A shell starts what it runs in the background with the first signal ignored, and `nohup` with the second; that would be so in what
+# the tests start and interrupt.
 signal.signal(signal.SIGINT, signal.default_int_handler)
+signal.signal(signal.SIGHUP, signal.SIG_DFL)
 
 
 def built(name: str) -> str:

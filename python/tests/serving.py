@@ -125,11 +125,11 @@ class Served:
         """The lines or the replies of its journal."""
         return (self.folder / f"night.{kind}.jsonl").read_text(encoding="utf-8").splitlines()
 
-    def stop(self) -> None:
-        """Sends SIGTERM and waits until its handler has run, after which another one isn't caught."""
-        self.process.terminate()
+    def stop(self, number: int = signal.SIGTERM) -> None:
+        """Sends a signal and waits until its handler has run, after which another one isn't caught."""
+        self.process.send_signal(number)
         status = Path(f"/proc/{self.process.pid}/status")
-        until(lambda: not int(status.read_text().split("SigCgt:")[1].split()[0], 16) >> (signal.SIGTERM - 1) & 1)
+        until(lambda: not int(status.read_text().split("SigCgt:")[1].split()[0], 16) >> (number - 1) & 1)
 
     def end(self) -> int:
         self.process.terminate()

@@ -117,7 +117,7 @@ def test_sigterm_has_the_line_replied_to_and_takes_no_more(serve, tmp_path: Path
     assert server.written("lines") == ['{"do":"plan"}'] and not server.path.exists()
 
 
-@pytest.mark.parametrize("number, status", [(signal.SIGTERM, 0), (signal.SIGINT, 130)])
+@pytest.mark.parametrize("number, status", [(signal.SIGTERM, 0), (signal.SIGHUP, 0), (signal.SIGINT, 130)])
 def test_a_signal_ends_an_idle_server(serve, number: int, status: int) -> None:
     server = serve()
     with Caller(server.path) as caller:
@@ -141,6 +141,31 @@ def test_a_second_signal_ends_it_at_once(serve, tmp_path: Path) -> None:
         server.process.terminate()
         assert server.process.wait(20) == -signal.SIGTERM
     (tmp_path / "found").touch()
+
+
+def test_a_terminal_that_is_closed_lets_the_line_be_replied_to(serve, tmp_path: Path) -> None:
+    server = serve(program=slow(tmp_path))
+    with Caller(server.path) as caller:
+        caller.send('{"do":"plan"}')
+        until((tmp_path / "seeking").exists)
+        server.stop(signal.SIGHUP)
+        server.process.send_signal(signal.SIGHUP)
+        (tmp_path / "found").touch()
+        assert [json.loads(text)["line"] for text in caller.read(2)] == [1, 1]
+        assert (caller.rest(), server.process.wait(20)) == (b"", 0)
+    assert len(server.written("replies")) == 2 and not server.path.exists()
+
+
+def test_a_signal_that_is_ignored_stays_so(serve) -> None:
+    before = signal.signal(signal.SIGHUP, signal.SIG_IGN)
+    try:
+        server = serve()
+    finally:
+        signal.signal(signal.SIGHUP, before)
+    server.process.send_signal(signal.SIGHUP)
+    with Caller(server.path) as caller:
+        assert caller.ask(LINES[0]) == REPLIES[:1]
+    assert server.end() == 0
 
 
 def test_a_torn_last_piece_is_no_line(serve) -> None:

@@ -18,7 +18,7 @@ if TYPE_CHECKING:
 #: Where it is said how a desk goes on that has read as much as it may.
 HELP = "see Limits in docs/operations.md"
 
-SIGNALS = (signal.SIGTERM, signal.SIGINT)
+SIGNALS = (signal.SIGTERM, signal.SIGHUP, signal.SIGINT)
 
 
 def add_commands(commands: Commands) -> None:
@@ -27,8 +27,8 @@ def add_commands(commands: Commands) -> None:
         "serve",
         help="take the lines of several connections to one desk with a journal",
         description="Begins the journal, or goes on with it where its files are there, and takes lines from whoever "
-        "connects. Each connection gets the replies to its own lines. There is no authentication. SIGTERM and Ctrl-C "
-        "end it once the line that is being done is replied to; a second one ends it at once.",
+        "connects. Each connection gets the replies to its own lines. There is no authentication. SIGTERM, SIGHUP and "
+        "Ctrl-C end it once the line that is being done is replied to; a second SIGTERM or Ctrl-C ends it at once.",
     )
     serve.add_argument("journal", help="the name of the journal, such as tonight for tonight.lines.jsonl")
     where = serve.add_mutually_exclusive_group()
@@ -112,11 +112,14 @@ def _tell_done(desk: Desk) -> None:
 
 @contextmanager
 def _stopped_by_signals(stop: Callable[[], None], caught: list[int]) -> Iterator[None]:
-    """Has the first signal call ``stop`` and be noted; a second one ends the process. Ignored ones stay so."""
+    """Has the first signal call ``stop`` and be noted; a second one ends the process. Ignored ones stay so.
+
+    A second SIGHUP is passed over: when a terminal is closed both its shell and the system may send one.
+    """
 
     def handle(number: int, frame: FrameType | None) -> None:
         for each in before:
-            signal.signal(each, signal.SIG_DFL)
+            signal.signal(each, signal.SIG_IGN if each == signal.SIGHUP else signal.SIG_DFL)
         caught.append(number)
         stop()
 
