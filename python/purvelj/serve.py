@@ -7,13 +7,14 @@ So what waits is one line of each connection at most, and a connection that does
 
 from __future__ import annotations
 
+import errno
 import os
 import queue
 import socket
 import stat
 import threading
 import time
-from contextlib import suppress
+from contextlib import ExitStack, suppress
 from pathlib import Path
 from types import TracebackType
 from typing import BinaryIO, Callable, Iterator, Sequence
@@ -49,10 +50,10 @@ def desk_of(
 
 
 class Listener:
-    """A socket to which others connect, and the words that say where; a path is removed again at the end."""
+    """A socket to which others connect once it listens, and the words that say where; a path is removed at the end."""
 
-    def __init__(self, listening: socket.socket, where: str, path: str | None = None) -> None:
-        self.socket = listening
+    def __init__(self, bound: socket.socket, where: str, path: str | None = None) -> None:
+        self.socket = bound
         self.where = where
         self._path = path
         self._own = _identity(path) if path else None
@@ -66,6 +67,13 @@ class Listener:
         self.shut()
         self.socket.close()
 
+    def listen(self) -> None:
+        """Lets others connect. ``FileError`` where another that had the same port listens there by now."""
+        try:
+            self.socket.listen()
+        except OSError as fault:
+            raise FileError(f"{self.where}: can't be listened at: {fault.strerror or fault}") from None
+
     def shut(self) -> None:
         """Takes no more connections: who waits in ``accept`` gets an ``OSError``. A second call does nothing."""
         with suppress(OSError):
@@ -76,36 +84,42 @@ class Listener:
         self._path = None
 
 
-def listen_at_path(path: str) -> Listener:
+def bind_path(path: str) -> Listener:
     """A Unix socket that only its owner may use. One that a server left behind is replaced.
 
-    ``FileError`` where another server listens there, where something else stands there, or where it can't be made.
+    ``FileError`` where another server has it, where something else stands there, or where it can't be made.
     """
-    listening = socket.socket(socket.AF_UNIX, socket.SOCK_STREAM)
+    bound = socket.socket(socket.AF_UNIX, socket.SOCK_STREAM)
     try:
         _remove_left(path)
-        listening.bind(path)
+        bound.bind(path)
         # Nobody can connect before it listens.
         os.chmod(path, 0o600)
-        listening.listen()
     except OSError as fault:
-        listening.close()
+        bound.close()
         raise FileError(f"{path}: can't be listened at: {fault.strerror or fault}") from None
     except FileError:
-        listening.close()
+        bound.close()
         raise
-    return Listener(listening, path, path)
+    return Listener(bound, path, path)
 
 
-def listen_at_port(host: str, port: int) -> Listener:
+def bind_port(host: str, port: int) -> Listener:
     """A port of this host's address; 0 is one that is free. ``FileError`` where it can't be had."""
     try:
-        family = socket.getaddrinfo(host, port, type=socket.SOCK_STREAM)[0][0]
-        listening = socket.create_server((host, port), family=family)
+        family, *_, address = socket.getaddrinfo(host, port, type=socket.SOCK_STREAM)[0]
+        with ExitStack() as faults:
+            bound = faults.enter_context(socket.socket(family, socket.SOCK_STREAM))
+            # Else the port of a server that has just ended couldn't be had for a minute.
+            bound.setsockopt(socket.SOL_SOCKET, socket.SO_REUSEADDR, 1)
+            if family == socket.AF_INET6:
+                bound.setsockopt(socket.IPPROTO_IPV6, socket.IPV6_V6ONLY, 1)
+            bound.bind(address)
+            faults.pop_all()
     except (OSError, UnicodeError) as fault:
         words = getattr(fault, "strerror", None) or fault
         raise FileError(f"port {port} of {host}: can't be listened at: {words}") from None
-    return Listener(listening, f"port {listening.getsockname()[1]} of {host}")
+    return Listener(bound, f"port {bound.getsockname()[1]} of {host}")
 
 
 class Server:
@@ -265,21 +279,24 @@ def _read(source: BinaryIO) -> bytes:
 
 
 def _remove_left(path: str) -> None:
-    """Removes a socket that no server listens at any more."""
+    """Removes a socket that no process has any more.
+
+    One that a server has, though it doesn't listen yet, is told from it by a connection of another kind, which isn't made.
+    """
     if not os.path.lexists(path):
         return
     if not stat.S_ISSOCK(os.lstat(path).st_mode):
         raise FileError(f"{path}: it is there already, and is no socket")
-    with socket.socket(socket.AF_UNIX, socket.SOCK_STREAM) as probe:
-        probe.settimeout(GRACE)
+    with socket.socket(socket.AF_UNIX, socket.SOCK_DGRAM) as probe:
         try:
             probe.connect(path)
         except ConnectionRefusedError:
             os.unlink(path)
             return
-        except BlockingIOError:
-            pass
-    raise FileError(f"{path}: another server listens there")
+        except OSError as fault:
+            if fault.errno != errno.EPROTOTYPE:
+                raise
+    raise FileError(f"{path}: another server has it")
 
 
 def _identity(path: str) -> tuple[int, int] | None:

@@ -13,7 +13,7 @@ from typing import Iterator
 
 import pytest
 
-from purvelj.serve import listen_at_path
+from purvelj.serve import bind_path
 from script import LINES, REPLIES
 from serving import SLOW, TOP, Served, until
 
@@ -119,7 +119,8 @@ def test_a_server_that_ends_while_no_line_comes_is_told(serve, send) -> None:
 
 
 def test_a_torn_reply_is_none(tmp_path: Path, send) -> None:
-    with listen_at_path(str(tmp_path / "socket")) as listener:
+    with bind_path(str(tmp_path / "socket")) as listener:
+        listener.listen()
         sender = send("socket")
         taken, _ = listener.socket.accept()
         with taken:

@@ -60,18 +60,18 @@ def add_commands(commands: Commands) -> None:
 
 def run_serve(options: argparse.Namespace) -> int:
     """Runs ``serve``."""
-    from purvelj.serve import Server, desk_of
+    from purvelj.serve import Server
 
     if options.host is not None and options.port is None:
         raise WordsError("--host goes with --port")
     caught: list[int] = []
-    with _hinting(), desk_of(options.journal, options.program, options.timeout, options.seek) as desk:
+    with _listener(options) as listener, _hinting(), _desk(options) as desk:
         _tell_done(desk)
-        with _listener(options) as listener:
-            server = Server(desk, listener, tell)
-            with _stopped_by_signals(server.stop, caught):
-                tell(f"listening at {listener.where}")
-                server.run()
+        server = Server(desk, listener, tell)
+        with _stopped_by_signals(server.stop, caught):
+            listener.listen()
+            tell(f"listening at {listener.where}")
+            server.run()
     if signal.SIGINT in caught:
         raise KeyboardInterrupt
     return 0
@@ -91,11 +91,18 @@ def _hinting() -> Iterator[None]:
 
 
 def _listener(options: argparse.Namespace) -> Listener:
-    from purvelj.serve import listen_at_path, listen_at_port
+    """The listener, whose address it has before the desk is there, so that a fault of that is told at once."""
+    from purvelj.serve import bind_path, bind_port
 
     if options.port is not None:
-        return listen_at_port(options.host or "127.0.0.1", options.port)
-    return listen_at_path(options.socket or f"{options.journal}.socket")
+        return bind_port(options.host or "127.0.0.1", options.port)
+    return bind_path(options.socket or f"{options.journal}.socket")
+
+
+def _desk(options: argparse.Namespace) -> Desk:
+    from purvelj.serve import desk_of
+
+    return desk_of(options.journal, options.program, options.timeout, options.seek)
 
 
 def _tell_done(desk: Desk) -> None:
