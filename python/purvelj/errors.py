@@ -23,7 +23,8 @@ class Status(IntEnum):
     NO = 7
     #: HiGHS gave no solution in time.
     TIME = 8
-    #: The session program can't be started, ended or didn't reply in time; or, where it matters, it refused a line.
+    #: The session program can't be started, ended or didn't reply in time, or may read no more lines; or, where it
+    #: matters, it refused a line.
     DESK = 9
     #: A user interrupted it, as a shell says it: 128 and the number of SIGINT.
     INTERRUPTED = 130

@@ -23,9 +23,16 @@ from purvelj.desk import TIMEOUT, Desk
 from purvelj.documents import decoded
 from purvelj.errors import FileError
 from purvelj.journal import Journal
+from purvelj.lines import MOST_LINES
 
 #: The most bytes of a line without its newline. A session refuses a longer one, which counts among what it may read.
 LONGEST = 1 << 20
+
+#: After how many lines it is told how many more the session may read.
+NEARLY_ALL = 60_000
+
+#: Where it is said how a desk goes on that has read nearly as much as it may, or more.
+HELP = "see Limits in docs/operations.md"
 
 #: How often it is looked whether the desk's program still runs, in seconds.
 WATCH = 1.0
@@ -47,6 +54,11 @@ def desk_of(
     if any(os.path.lexists(path) for path in Journal.paths(journal)):
         return Desk.resume(journal, program, timeout, keep_history=False, seek=seek)
     return Desk(program, timeout, journal, keep_history=False)
+
+
+def few_left(done: int) -> str:
+    """What is told where a session has done so many lines that it may read only a few more."""
+    return f"the session may read {MOST_LINES - done} more lines, and then a new desk has to go on: {HELP}"
 
 
 class Listener:
@@ -165,7 +177,10 @@ class Server:
             return
         if handed and not self._stopping:
             connection, line = handed
-            connection.replies.put(self._desk.exchange(line).output)
+            exchange = self._desk.exchange(line)
+            connection.replies.put(exchange.output)
+            if exchange.reply.line == NEARLY_ALL + 1:
+                self.tell(few_left(exchange.reply.line))
 
     def _accept(self) -> None:
         """Takes connections until the listener is shut. One that can't be taken is told, and left."""

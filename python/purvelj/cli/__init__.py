@@ -19,8 +19,8 @@ def parser() -> argparse.ArgumentParser:
         epilog="Exit statuses: 0 done, 2 the words are others, 3 a file or a socket can't be read or written, a file "
         "is no JSON, or a package is missing, 4 a document isn't what it should be, 5 a request group can't be turned "
         "into a line, 6 no night or no visibility, 7 the checker says No, 8 HiGHS gave no solution in time, 9 the "
-        "session program can't be started, ended, didn't reply in time, or replied otherwise than a journal has it, "
-        "130 interrupted.",
+        "session program can't be started, ended, didn't reply in time, replied otherwise than a journal has it, or may "
+        "read no more lines, 130 interrupted.",
     )
     words.add_argument("--version", action="version", version=f"purvelj {__version__}")
     commands = words.add_subparsers(dest="command", required=True, metavar="COMMAND")

@@ -15,9 +15,6 @@ if TYPE_CHECKING:
     from purvelj.desk import Desk
     from purvelj.serve import Listener
 
-#: Where it is said how a desk goes on that has read as much as it may.
-HELP = "see Limits in docs/operations.md"
-
 SIGNALS = (signal.SIGTERM, signal.SIGHUP, signal.SIGINT)
 
 
@@ -67,6 +64,7 @@ def run_serve(options: argparse.Namespace) -> int:
     caught: list[int] = []
     with _listener(options) as listener, _hinting(), _desk(options) as desk:
         _tell_done(desk)
+        _tell_left(desk.done_again)
         server = Server(desk, listener, tell)
         with _stopped_by_signals(server.stop, caught):
             listener.listen()
@@ -81,6 +79,7 @@ def run_serve(options: argparse.Namespace) -> int:
 def _hinting() -> Iterator[None]:
     """Tells where help is for a session whose input has become too long, which it would be again at each start."""
     from purvelj.pipes import INPUT_TOO_LONG, DeskEnded
+    from purvelj.serve import HELP
 
     try:
         yield
@@ -115,6 +114,17 @@ def _tell_done(desk: Desk) -> None:
         tell("lines that aren't done, and are to be sent again by whoever sent them:")
         for line in desk.unanswered:
             tell(line)
+
+
+def _tell_left(done: int) -> None:
+    """Tells how many lines the session may still read, where these are few. ``DeskError`` where there are none."""
+    from purvelj.pipes import DeskError
+    from purvelj.serve import HELP, MOST_LINES, NEARLY_ALL, few_left
+
+    if done >= MOST_LINES:
+        raise DeskError(f"the session may read no more lines, so it takes none, and a new desk has to go on: {HELP}")
+    if done > NEARLY_ALL:
+        tell(few_left(done))
 
 
 @contextmanager
