@@ -129,7 +129,7 @@ def run_script(
 
 
 def _history_until(output: bytes, script: str) -> History:
-    """What a program had replied to a script when it ended: a torn reply is none, and all are where one can't be read."""
+    """What a program had replied to a script when it ended, but for a torn reply; nothing where one can't be read."""
     try:
         return read_history(decoded(pieces(output)[0], "output", "surrogatepass"), script)
     except PurveljError:

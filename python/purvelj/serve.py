@@ -296,7 +296,8 @@ def _read(source: BinaryIO) -> bytes:
 def _remove_left(path: str) -> None:
     """Removes a socket that no process has any more.
 
-    One that a server has, though it doesn't listen yet, is told from it by a connection of another kind, which isn't made.
+    One that a server has, though it doesn't listen yet, is told from it by a connection of another kind: that is refused
+    as of the wrong type.
     """
     if not os.path.lexists(path):
         return

@@ -19,8 +19,8 @@ HERE = Path(__file__).resolve().parent
 TOP = HERE.parents[1]
 sys.path[:0] = [str(HERE.parent), str(HERE)]
 
-# A shell starts what it runs in the background with the first signal ignored, and `nohup` with the second; that would be so in what
-# the tests start and interrupt.
+# A shell starts what it runs in the background with the first signal ignored, and `nohup` with the second. That would be so in
+# what the tests start and interrupt.
 signal.signal(signal.SIGINT, signal.default_int_handler)
 signal.signal(signal.SIGHUP, signal.SIG_DFL)
 
@@ -79,3 +79,23 @@ def run(tmp_path: Path, monkeypatch: pytest.MonkeyPatch, capfd):
         return Ran(status, *capfd.readouterr())
 
     return command
+
+
+@pytest.fixture
+def serve(tmp_path: Path, netsched: list[str]):
+    """Starts a server, by default over the session program, and waits until it listens if nothing else is said."""
+    from serving import Served, until
+
+    started: list[Served] = []
+
+    def start(*words: str, program: list[str] | None = None, listens: bool = True) -> Served:
+        server = Served(tmp_path, program or netsched, *words)
+        started.append(server)
+        until(lambda: not listens or server.says("listening at ") or server.process.poll() is not None)
+        assert server.process.poll() is None, server.told()
+        return server
+
+    yield start
+    for server in started:
+        server.process.kill()
+        server.process.wait(20)

@@ -29,7 +29,8 @@ def test_replay_prints_what_there_is_where_the_program_ends_early(run, torn: str
 
 
 def test_replay_prints_nothing_of_a_program_that_is_no_session(run) -> None:
-    ran = run("replay", "script.jsonl", "--program", ends("usage: other WORDS\n", 1), files={"script.jsonl": LINES[0]})
+    command = ends("usage: other WORDS\n", 1)
+    ran = run("replay", "script.jsonl", "--program", command, files={"script.jsonl": LINES[0]})
     assert (ran.status, ran.out, len(ran.err.splitlines())) == (9, "", 1)
 
 

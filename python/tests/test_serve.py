@@ -4,9 +4,7 @@ from __future__ import annotations
 
 import json
 import os
-import re
 import resource
-import shlex
 import signal
 import socket
 import stat
@@ -18,30 +16,11 @@ from pathlib import Path
 
 import pytest
 
-from purvelj import cli
 from purvelj.desk import Desk
-from purvelj.errors import FileError
 from purvelj.pipes import DeskError
-from purvelj.serve import LONGEST, Server, bind_path, bind_port, desk_of
+from purvelj.serve import LONGEST, Server, bind_path, desk_of
 from script import LINES, REPLIES
-from serving import SLOW, Caller, Served, limited, until
-
-@pytest.fixture
-def serve(tmp_path: Path, netsched: list[str]):
-    """Starts a server, by default over the session program, and waits until it listens where nothing else is said."""
-    started: list[Served] = []
-
-    def start(*words: str, program: list[str] | None = None, listens: bool = True) -> Served:
-        server = Served(tmp_path, program or netsched, *words)
-        started.append(server)
-        until(lambda: not listens or server.says("listening at ") or server.process.poll() is not None)
-        assert server.process.poll() is None, server.told()
-        return server
-
-    yield start
-    for server in started:
-        server.process.kill()
-        server.process.wait(20)
+from serving import SLOW, Caller, until
 
 
 def test_two_callers_take_turns(serve) -> None:
@@ -80,23 +59,6 @@ def test_lines_that_come_at_once_get_their_own_replies(serve) -> None:
     assert {reply["ok"] for reply in found["show"]} == {"shown"}
     assert places["show"] == sorted(places["show"]) and places["balances"] == sorted(places["balances"])
     assert sorted(places["show"] + places["balances"]) == list(range(8, 128))
-
-
-#: A session program that replies to its first line with a word of its command, once there is a file ``go``.
-WAITS = """
-import pathlib, sys, time
-for line in sys.stdin:
-    pathlib.Path("asked").touch()
-    while not pathlib.Path("go").exists():
-        time.sleep(0.01)
-    print(sys.argv[1], flush=True)
-"""
-
-
-def left_by_another(folder: Path) -> None:
-    """Makes the journal of a desk that did the short script."""
-    for kind, texts in (("lines", LINES), ("replies", REPLIES)):
-        (folder / f"night.{kind}.jsonl").write_text("".join(f"{text}\n" for text in texts))
 
 
 def slow(folder: Path) -> list[str]:
@@ -246,56 +208,6 @@ def test_a_kill_loses_nothing(serve) -> None:
     assert serve().told()[0] == "lines that were done again: 10, published plans among them: 1"
 
 
-def test_a_journal_whose_claims_are_too_long_has_its_plans_sought_again(serve, tmp_path: Path, capfd) -> None:
-    program = limited(tmp_path)
-    left_by_another(tmp_path)
-    assert cli.main(["serve", str(tmp_path / "night"), "--program", shlex.join(program)]) == 9
-    said = capfd.readouterr().err.splitlines()
-    assert said[0] == (
-        "purvelj: the lines are more, or longer, than a session may read: see Limits in docs/operations.md"
-    )
-    assert "ended with status 5 (its input is longer than it may be)" in said[1] and len(said) == 2
-    server = serve("--seek", program=program)
-    assert server.told()[0] == "lines that were done again: 9, published plans among them: 1"
-    assert server.end() == 0
-
-
-@pytest.mark.parametrize("most, nearly, status", [(20, 9, 0), (20, 8, 0), (10, 8, 0), (9, 8, 9)])
-def test_lines_that_are_nearly_used_up_are_told(most, nearly, status, tmp_path: Path, monkeypatch, capfd) -> None:
-    monkeypatch.setattr("purvelj.serve.MOST_LINES", most)
-    monkeypatch.setattr("purvelj.serve.NEARLY_ALL", nearly)
-    monkeypatch.setattr("purvelj.serve.Server.run", lambda server: None)
-    left_by_another(tmp_path)
-    words = ["serve", str(tmp_path / "night"), "--seek", "--program", shlex.join(limited(tmp_path))]
-    assert cli.main(words) == status
-    said = capfd.readouterr().err.splitlines()[1:]
-    new = "a new desk has to go on: see Limits in docs/operations.md"
-    listening = f"purvelj: listening at {tmp_path}/night.socket"
-    if status:
-        assert said == [f"purvelj: the session may read no more lines, so it takes none, and {new}"]
-    elif nearly == 8:
-        assert said == [f"purvelj: the session may read {most - 9} more lines, and then {new}", listening]
-    else:
-        assert said == [listening]
-    assert not (tmp_path / "night.socket").exists()
-
-
-def test_lines_that_become_few_are_told_once(netsched, tmp_path: Path, monkeypatch) -> None:
-    monkeypatch.setattr("purvelj.serve.NEARLY_ALL", 2)
-    told: list[str] = []
-    with Desk(netsched) as desk, bind_path(str(tmp_path / "socket")) as listener:
-        listener.listen()
-        server = Server(desk, listener, told.append)
-        running = threading.Thread(target=server.run)
-        running.start()
-        with Caller(tmp_path / "socket") as caller:
-            for place, line in enumerate(LINES[:6]):
-                assert caller.ask(line) == [REPLIES[place]]
-        server.stop()
-        running.join(20)
-    assert [text.split(",")[0] for text in told] == ["the session may read 65533 more lines"]
-
-
 def test_a_servers_desk_keeps_no_exchange(netsched, tmp_path: Path) -> None:
     name = tmp_path / "night"
     with desk_of(name, netsched, timeout=20) as desk:
@@ -344,44 +256,6 @@ def test_a_program_that_is_silent_ends_the_server(serve) -> None:
     ]
 
 
-def test_a_second_server_on_the_journal_is_refused(serve, netsched, tmp_path: Path, capfd) -> None:
-    server = serve()
-    words = ["serve", str(tmp_path / "night"), "--program", shlex.join(netsched)]
-    assert cli.main([*words, "--port", "0"]) == 3
-    assert capfd.readouterr().err == f"purvelj: {tmp_path}/night.lines.jsonl: another desk writes it\n"
-    with Caller(server.path) as caller:
-        assert caller.ask(LINES[0]) == REPLIES[:1]
-    for others in (words, [*words[:1], str(tmp_path / "dawn"), *words[2:], "--socket", str(server.path)]):
-        assert cli.main(others) == 3
-        assert capfd.readouterr().err == f"purvelj: {server.path}: another server has it\n"
-    assert server.end() == 0 and not server.path.exists()
-    assert not list(tmp_path.glob("dawn*"))
-
-
-def test_an_address_is_had_before_a_journal_is_done_again(serve, tmp_path: Path, capfd) -> None:
-    for kind, text in (("lines", LINES[0]), ("replies", REPLIES[0])):
-        (tmp_path / f"night.{kind}.jsonl").write_text(f"{text}\n")
-    (tmp_path / "waits.py").write_text(WAITS)
-    server = serve(program=[sys.executable, "waits.py", REPLIES[0]], listens=False)
-    until((tmp_path / "asked").exists)
-    with pytest.raises(ConnectionRefusedError):
-        Caller(server.path)
-    words = ["serve", str(tmp_path / "dawn"), "--program", "cat", "--socket", str(server.path)]
-    assert cli.main(words) == 3
-    assert capfd.readouterr().err == f"purvelj: {server.path}: another server has it\n"
-    (tmp_path / "go").touch()
-    until(lambda: server.says("listening at night.socket"))
-    Caller(server.path).socket.close()
-    assert server.end() == 0 and not server.path.exists() and not list(tmp_path.glob("dawn*"))
-
-
-@pytest.mark.parametrize("words", [("--socket", "long" * 30), ("--socket", "."), ("--port", "0", "--host", "a..b")])
-def test_an_address_that_cannot_be_had_is_told_before_a_journal_is_begun(words, tmp_path: Path, capfd) -> None:
-    assert cli.main(["serve", str(tmp_path / "night"), "--program", "cat", *words]) == 3
-    assert len(capfd.readouterr().err.splitlines()) == 1
-    assert not list(tmp_path.iterdir())
-
-
 def test_a_server_without_a_file_to_spare_goes_on(serve) -> None:
     server = serve()
     with Caller(server.path) as first:
@@ -395,53 +269,6 @@ def test_a_server_without_a_file_to_spare_goes_on(serve) -> None:
             assert first.ask(LINES[1]) == REPLIES[1:2]
             resource.prlimit(server.process.pid, resource.RLIMIT_NOFILE, before)
             assert second.ask(LINES[2]) == REPLIES[2:3]
-
-
-def test_a_port_is_listened_at(serve, capfd, tmp_path: Path) -> None:
-    server = serve("--port", "0")
-    found = re.fullmatch("listening at port ([0-9]+) of 127.0.0.1", server.told()[-1])
-    assert found
-    with Caller(("127.0.0.1", int(found[1]))) as caller:
-        assert caller.ask(LINES[0]) == REPLIES[:1]
-    for host, port in (("127.0.0.1", found[1]), ("a..b", "0")):
-        words = ["--port", port, "--host", host, "--program", "cat"]
-        assert cli.main(["serve", str(tmp_path / f"{host}.night"), *words]) == 3
-        assert capfd.readouterr().err.startswith(f"purvelj: port {port} of {host}: can't be listened at: ")
-        assert not list(tmp_path.glob(f"{host}*"))
-    assert server.end() == 0 and not server.path.exists()
-
-
-def test_a_socket_is_replaced_only_where_nobody_has_it(tmp_path: Path) -> None:
-    path = str(tmp_path / "socket")
-    with bind_path(path) as listener:
-        for _ in range(2):
-            with pytest.raises(FileError, match="socket: another server has it"):
-                bind_path(path)
-            listener.listen()
-    assert not os.path.lexists(path)
-    with socket.socket(socket.AF_UNIX) as left:
-        left.bind(path)
-    with bind_path(path) as listener:
-        os.rename(path, tmp_path / "moved")
-        (tmp_path / "socket").write_text("another's")
-    assert listener.socket.fileno() == -1 and (tmp_path / "socket").read_text() == "another's"
-    with pytest.raises(FileError, match="socket: it is there already, and is no socket"):
-        bind_path(path)
-    with pytest.raises(FileError, match="nowhere/socket: can't be listened at: No such file"):
-        bind_path(str(tmp_path / "nowhere" / "socket"))
-    with pytest.raises(FileError, match="can't be listened at: AF_UNIX path too long"):
-        bind_path(str(tmp_path / ("long" * 30)))
-
-
-def test_of_two_that_have_a_port_one_listens() -> None:
-    with bind_port("127.0.0.1", 0) as first:
-        port = first.socket.getsockname()[1]
-        with bind_port("127.0.0.1", port) as second:
-            first.listen()
-            with pytest.raises(FileError, match=f"port {port} of 127.0.0.1: can't be listened at: Address already in"):
-                second.listen()
-        with pytest.raises(FileError, match=f"port {port} of 127.0.0.1: can't be listened at: Address already in"):
-            bind_port("127.0.0.1", port)
 
 
 def test_a_caller_that_does_not_read_holds_up_nobody_else(netsched, tmp_path: Path, monkeypatch) -> None:
@@ -465,9 +292,3 @@ def test_a_caller_that_does_not_read_holds_up_nobody_else(netsched, tmp_path: Pa
             assert not running.is_alive() and other.rest() == b""
         assert len(desk.history.exchanges) < 500
     assert told == []
-
-
-@pytest.mark.parametrize("words", [("--host", "::1"), ("--port", "1", "--socket", "s"), ("--port", "65536")])
-def test_words_that_do_not_go_together_are_refused(words: tuple[str, ...], capfd) -> None:
-    assert cli.main(["serve", "night", *words]) == 2
-    assert "purvelj" in capfd.readouterr().err
