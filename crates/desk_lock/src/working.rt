@@ -6,14 +6,11 @@ use crate::desk::{Desk, Sending};
 use desk_book::BookStep;
 use lanes::solve_plan_with;
 use plan_base::Taken;
-use plan_io::{Gate, Point};
+use plan_io::{Gate, MOST_LINES, Point};
 use snapshot_starts::StartCache;
 use std::alloc::{AllocError, Global};
 use std::sync::Wait;
 use std::thread::Threads;
-
-/// The most lines of a caller.
-const MOST_LINES: u32 = 65_536;
 
 /// Seeks the plan of what was taken, with the lock free, and publishes it.
 fn seek_and_publish<S: Sending, R: Threads + Wait + Sync, G: Gate>(

@@ -4,15 +4,13 @@ ghost use Rattle.plan_io.specs.Words.{IsOneWord};
 ghost use Rattle.plan_io.specs.Document.{IsAnswered, IsDocumentRun, IsDocumentCause, status_of};
 ghost use Rattle.plan_io.specs.declared.document.Said.{Said as SaidSeen};
 
+use crate::limits::MOST_BYTES;
 use crate::program::is_word;
 use crate::sink::{PutAnswer, Sink, put};
 use crate::source::Source;
 use crate::status::Status;
 use crate::whole::{WholeAnswer, read_whole};
 use std::alloc::{AllocError, Global};
-
-/// The most bytes that are read of a document.
-const MOST_BYTES: u64 = 67_108_864;
 
 /// What an answer says of a document.
 #[derive(Clone, Copy)]
@@ -76,7 +74,7 @@ fn write_answer<A: Answers, K: Sink>(
 }
 
 /// Answers a document. The words are that one word, else the status is `Words` and nothing is read or written. The
-/// source is read to its end, at most 67,108,864 bytes, else the status is `ReadFault` or `InputOver` and nothing is
+/// source is read to its end, at most `MOST_BYTES` bytes, else the status is `ReadFault` or `InputOver` and nothing is
 /// written. The answer to what was read is written, at status `Done`, `No` or `NoDocument` as it says; at `WriteFault` a
 /// part of it was written, and at `NoMemory` nothing.
 pub fn run_document<A: Answers, S: Source, K: Sink>(

@@ -1,5 +1,5 @@
 //! What a program is given, and what it ends with.
-ghost use Rattle.std.specs.Prelude.{◌≡◌, ◌↔◌, IsTrue};
+ghost use Rattle.std.specs.Prelude.{◌≡◌, ◌⊎◌, ◌↔◌, IsTrue, IfErr};
 ghost use Rattle.std.specs.Process.{exit_status};
 ghost use Rattle.plan_io.specs.Exit.{status_number};
 ghost use Rattle.plan_io.specs.Words.{IsOneWord};
@@ -12,7 +12,9 @@ use std::rt::Env;
 
 /// The words after the program's name, or the status where there is no list of them: [`Status::Words`] where one isn't
 /// UTF-8, [`Status::NoMemory`] for want of memory.
-pub fn program_words<R: Env + AllocGlobal>(rt: &R) -> Result<Vec<String>, Status> {
+pub fn program_words<R: Env + AllocGlobal>(rt: &R) -> Result<Vec<String>, Status>
+    ensures { IfErr result (λ status. (status ≡ Status.Words) ⊎ (status ≡ Status.NoMemory)) }
+{
     let args = match env::args(rt) {
         Ok(args) => args,
         Err(error) => {

@@ -21,9 +21,6 @@ use writing::{write_history, write_refusal};
 /// How many callers a session may have.
 const CALLERS: u8 = 8;
 
-/// The most lines of a caller.
-const MOST_LINES: u32 = 65_536;
-
 /// How the threads of callers share their desk.
 #[derive(Clone, Copy)]
 enum Sharing {
@@ -119,8 +116,9 @@ fn play<R: Threads + Wait + Sync, S: Source, K: Sink, G: Gate>(
 /// status is `NoCaller`: `{"line":n,"no":8}` is written and a newline, `n` being the line's number from 1, and nothing is done.
 ///
 /// Then each caller's lines are done in their order, by a thread of its own where one can be made, and the text of the whole
-/// history is written. Which of the histories it is that the scripts may have depends on the threads. It may wait for them, and
-/// its contract holds if it returns.
+/// history is written: the status is `Done`, or `WriteFault` where a write fails. At `NoMemory`, for want of memory, nothing or a
+/// beginning of it was written. Which of the histories it is that the scripts may have depends on the threads. It may wait for
+/// them, and its contract holds if it returns.
 ///
 /// The threads pass the gate at each [`Point`](plan_io::Point).
 pub fn run_live<R: Threads + Wait + Sync, S: Source, K: Sink, G: Gate>(

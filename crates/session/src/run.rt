@@ -13,16 +13,10 @@ use crate::replies::{GATHERED, write_replies};
 use crate::tally::tell_workload;
 use crate::words::{Mode, mode_of};
 use desk_core::State;
-use plan_io::{LineAnswer, Lines, PutAnswer, Sink, Source, Status, put};
+use plan_io::{LineAnswer, Lines, MOST_BYTES, MOST_LINES, PutAnswer, Sink, Source, Status, put};
 use snapshot_starts::StartCache;
 use std::alloc::{AllocError, Global};
 use std::thread::Threads;
-
-/// The most bytes that a session reads.
-const MOST_BYTES: u64 = 67_108_864;
-
-/// The most lines that a session takes, of one caller or of several.
-pub(crate) const MOST_LINES: u64 = 65_536;
 
 /// Whether replies are to be written before the next line: where a caller may wait for them, since no whole line is at hand,
 /// or where they are many.
@@ -45,8 +39,7 @@ fn write_due<K: Sink>(sink: &mut K, reader: &Lines, replies: &mut Vec<u8>) -> Pu
 }
 
 /// Does each line of the source on a new desk, and writes the replies before it waits for more lines. One cache keeps possible
-/// starts from plan to plan. Where memory is wanting,
-/// replies that are not written yet stay.
+/// starts from plan to plan. Where memory is wanting, replies that are not written yet stay.
 fn answer_lines<R: Threads + Sync, S: Source, K: Sink>(
     rt: &R,
     alloc: Global,
@@ -62,7 +55,7 @@ fn answer_lines<R: Threads + Sync, S: Source, K: Sink>(
     ensures cause { IfOk result (IsSessionCause (S.faults source.old) (S.faults source.new) (K.faults sink.old) (K.faults sink.new)) }
     ensures gathered { OnErr result (IsGathered (S.left source.old) (S.left source.new) (K.written sink.old) (K.written sink.new) replies.new.items) }
 {
-    let mut reader = Lines::new(alloc, MOST_BYTES, MOST_LINES)?;
+    let mut reader = Lines::new(alloc, MOST_BYTES, u64::from(MOST_LINES))?;
     let mut cache = StartCache::new();
     let mut done: u32 = 0;
     loop {
@@ -138,7 +131,9 @@ fn run_workload<R: Threads + Sync, K: Sink>(
 ///
 /// In a session lines are read and done in order, at most 67,108,864 bytes and 65,536 lines, to the end of the source, a fault
 /// or a limit; the replies of the lines before it are written. They are written before the source is read again, so that
-/// whoever waits for a reply gets it, and else once they have 65,536 bytes.
+/// whoever waits for a reply gets it, and else once they have 65,536 bytes. The status is `Done` at the end of the source,
+/// `ReadFault` where a read fails, and `InputOver` beyond a limit; `WriteFault` where a write fails, and `NoMemory` for want of
+/// memory: what was written is then a beginning of the replies.
 ///
 /// With a workload nothing is read: the lines of [`Workload`](workload::Workload) with four workers are done, and one line is
 /// written, the summary of what is replied to them.

@@ -7,12 +7,12 @@ ghost use Rattle.desk_passes.specs.Rule.{EachIsBack};
 ghost use Rattle.desk_passes.specs.Calls.{IsRootOf, IsPassOf, root_view, view};
 ghost use Rattle.session.specs.Passes.{IsFresh, IsOf, EachPass, OnlyOut};
 
+use super::CALLERS;
 use super::same::is_same;
-use super::{CALLERS, MOST_LINES};
 use desk_book::Book;
 use desk_passes::{CallAnswer, Pass, Root, SharedDesk};
 use lanes::solve_plan_with;
-use plan_io::{ByteList, Gate, Point, ScriptLine};
+use plan_io::{ByteList, Gate, MOST_LINES, Point, ScriptLine};
 use snapshot_starts::StartCache;
 use std::alloc::{AllocError, Global};
 use std::sync::Wait;

@@ -6,13 +6,12 @@ ghost use Rattle.desk_book.specs.Seen.{empty_book};
 ghost use Rattle.session.specs.Live.{caller_in, caller_of_bytes, caller_of};
 ghost use Rattle.session.specs.LiveParts.{IsSent, IsInput, IsInputCause, HasReadSome};
 
-use crate::run::MOST_LINES;
 use desk_book::Book;
-use plan_io::{LineAnswer, Lines, ScriptLine, Source};
+use plan_io::{LineAnswer, Lines, MOST_LINES, ScriptLine, Source};
 use plan_json::{Doc, JsonFault, Member, parse_object};
 use std::alloc::{AllocError, Global};
 
-/// The most bytes that are read.
+/// The most bytes of the lines of several callers, which are all kept.
 const MOST_BYTES: u64 = 16_777_216;
 
 /// The greatest number of a caller.
@@ -91,7 +90,7 @@ pub(crate) fn read_input<S: Source>(
     ensures cause { IfOk result (IsInputCause (S.faults source.old) (S.faults source.new)) }
     ensures first { OnErr result (HasReadSome (S.left source.old) (S.left source.new)) }
 {
-    let mut reader = Lines::new(alloc, MOST_BYTES, MOST_LINES)?;
+    let mut reader = Lines::new(alloc, MOST_BYTES, u64::from(MOST_LINES))?;
     let mut number: u32 = 0;
     loop {
         match reader.next(source)? {

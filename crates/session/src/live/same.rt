@@ -2,9 +2,8 @@
 ghost use Rattle.std.specs.Prelude.{◌≡◌, ◌<◌, length, IsTrue};
 ghost use Rattle.desk_core.specs.History.{script_of};
 
-use super::MOST_LINES;
 use desk_book::Book;
-use plan_io::ScriptLine;
+use plan_io::{MOST_LINES, ScriptLine};
 
 /// Whether two lines are the same.
 fn is_same_line(a: &ScriptLine, b: &ScriptLine) -> bool
