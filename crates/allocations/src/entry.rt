@@ -14,7 +14,8 @@ pub enum EntryKind {
     Refund,
 }
 
-/// An entry of the ledger. A number that doesn't apply is 0.
+/// An entry of the ledger, of which contracts speak; no value of it is ever made, as the ledger keeps the places of accounts. A
+/// number that doesn't apply is 0.
 pub struct Entry {
     /// Whose account it is.
     pub key: Key,

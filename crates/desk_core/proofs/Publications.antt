@@ -28,7 +28,7 @@ use Rattle.desk_runs.specs.declared.group.Group.{Group}
 use Rattle.desk_runs.specs.declared.observation.Observation.{Observation}
 use Rattle.desk_runs.specs.Clock.{has_begun}
 use Rattle.desk_runs.specs.Numbers.{requests_of, is_request, has_request, is_pending_at, is_placed}
-use Rattle.desk_runs.specs.Sound.{IsOneOfOnce, IsObservedOnce, placed_in}
+use Rattle.desk_runs.specs.Sound.{IsOneOfOnce, IsObservedAtMostOnce, placed_in}
 use Rattle.desk_runs.specs.States.{is_oneof}
 use Rattle.desk_runs.specs.Adding.{CanPublish}
 use Rattle.desk_runs.proofs.Adding.{published_sound}
@@ -189,9 +189,9 @@ kept_once version d claim h f k e lt oneof =
 pub can_publish : (version : ℕ) (d : DeskSeen) (claim : Claim) → IsDesk d → IsFeasible (snapshot_of version d) claim.placements → CanPublish (kept_of d claim) d.progress
 can_publish version d claim h f = record { pending = kept_pending version d claim f; begun = kept_later version d claim h f; once = kept_once version d claim h f }
 
--- each request is observed once
+-- no request is observed twice
 kept_apart : (version : ℕ) (d : DeskSeen) (claim : Claim) → IsDesk d → IsFeasible (snapshot_of version d) claim.placements
-    → IsObservedOnce (kept_of d claim ++ d.progress.running)
+    → IsObservedAtMostOnce (kept_of d claim ++ d.progress.running)
 kept_apart version d claim h f =
     pairs_append (λ a b. a.request.0 ≢ b.request.0) (kept_of d claim) d.progress.running
     (AllPairs-map (λ a b. a.request.0 ≢ b.request.0) (observed d) claim.placements (pairs_from_map (λ a b. a ≢ b) (λ (p : Placement). p.request.0) claim.placements f.once))

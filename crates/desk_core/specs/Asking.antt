@@ -38,6 +38,7 @@ pub record MadeSeen : Type 0 where
   pub seconds : ℕ
   pub windows : List Span
 
+-- a request that is to be made, as contracts see it
 abbrev pub seen_made : Made → MadeSeen
 seen_made m = record { asked = m.asked.now; seconds = m.seconds; windows = m.windows }
 
@@ -59,6 +60,7 @@ seconds_for r index q =
 
 -- ---- when it may be observed
 
+-- whether the operator is SINGLE, of which alone a request may have a cadence
 abbrev pub is_single : Op → Bool
 is_single Single = true
 is_single Many = false

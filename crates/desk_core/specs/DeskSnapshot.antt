@@ -39,10 +39,11 @@ use Rattle.desk_core.specs.Seconds.{spans_below}
 abbrev pub first_slice : DeskSeen → ℕ
 first_slice d = slices_for d.opening.slice d.progress.moment.0
 
--- the first second of the horizon, and the one after its last
+-- the first second of the horizon
 abbrev pub horizon_from : DeskSeen → ℕ
 horizon_from d = first_slice d * d.opening.slice
 
+-- the second after the last one of the horizon
 abbrev pub horizon_to : DeskSeen → ℕ
 horizon_to d = (first_slice d + d.opening.horizon) * d.opening.slice
 
@@ -81,6 +82,7 @@ site_of d t = unwrap_or (number_of d.network.registry.sites t.code.site) 0
 abbrev pub telescope_part : DeskSeen → ℕ × TelescopeSeen → TelescopePart
 telescope_part d p = record { site = record { 0 = site_of d p.1 }; usable = in_horizon d (is_usable d (site_of d p.1) p.0) }
 
+-- all telescopes that are registered so far, in the order of their numbers
 abbrev pub telescope_parts : DeskSeen → List TelescopePart
 telescope_parts d = map (telescope_part d) (enumerate_from 0 d.network.registry.telescopes)
 
@@ -102,6 +104,7 @@ IsGroupNo d number = (1 ≤ number.0) × (number.0 ≤ length d.progress.groups)
 abbrev pub telescopes_for : DeskSeen → Wanted → List TelescopeNo
 telescopes_for d w = map (λ p. record { 0 = p.0 }) (filter (λ p. is_fit w.location w.instrument p.1) (enumerate_from 0 d.network.registry.telescopes))
 
+-- a request as the snapshot has it, with the numbers of the telescopes that fit
 abbrev pub request_part : DeskSeen → Request × Wanted → RequestPart
 request_part d p = record {
   request = p.0.number;
@@ -138,6 +141,7 @@ abbrev pub quota_place : DeskSeen → List ℕ → Option ℕ → Option ℕ
 quota_place d proposal None = None
 quota_place d proposal (Some quota) = number_of (proposals_of d) proposal
 
+-- a group as the snapshot has it: those of its requests that are waiting, and the place of its proposal's quota, if the desk has one
 abbrev pub group_part : DeskSeen → Submitted × Group → GroupPart
 group_part d p = record {
   group = p.1.number;
@@ -157,10 +161,11 @@ quotas_of d (Some quota) = map (λ name. quota) (proposals_of d)
 abbrev pub with_numbers_of : List ℕ → List TargetNo → List ℕ
 with_numbers_of numbers targets = fold (insert_key nat_cmp) numbers (map (λ t. t.0) targets)
 
--- the targets of the requests of a group, and of all groups
+-- the targets of the requests of a group, one request after another
 abbrev pub group_targets : GroupPart → List TargetNo
 group_targets x = flat_map (λ q. q.targets) x.requests
 
+-- the targets of the requests of all groups, one group after another
 abbrev pub part_targets : List GroupPart → List TargetNo
 part_targets groups = flat_map group_targets groups
 
@@ -178,6 +183,7 @@ sky_part d target site =
 abbrev pub skies_at : DeskSeen → ℕ → List Sky
 skies_at d target = filter_map (sky_part d target) (range_with_len 0 (length d.network.registry.sites))
 
+-- the skies of the targets of listed requests, by target and then by site
 abbrev pub skies_of : DeskSeen → List Sky
 skies_of d = flat_map (skies_at d) (targets_listed d)
 

@@ -65,5 +65,6 @@ CanEndAll books (e ∷ endings) = CanEnd books e × CanEndAll (ended books e) en
 abbrev pub refund_in : Ending → Option GroupRefund
 refund_in e = option_map (λ h. record { group = e.group; seconds = h.seconds }) e.refund
 
+-- what is told of all endings, in their order: nothing of those that refund nothing
 abbrev pub refunds_in : List Ending → List GroupRefund
 refunds_in endings = filter_map refund_in endings

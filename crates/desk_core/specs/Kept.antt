@@ -18,7 +18,7 @@ use Rattle.desk_runs.specs.declared.group.Group.{Group}
 use Rattle.desk_runs.specs.declared.group.Request.{Request}
 use Rattle.desk_runs.specs.States.{is_open}
 use Rattle.desk_runs.specs.Owners.{pending_count}
-use Rattle.desk_runs.specs.Sound.{IsSound, IsObservedOnce}
+use Rattle.desk_runs.specs.Sound.{IsSound, IsObservedAtMostOnce}
 use Rattle.desk_core.specs.declared.desk.Opening.{Opening}
 use Rattle.desk_core.specs.declared.desk.Submitted.{Submitted}
 use Rattle.desk_core.specs.declared.desk.Wanted.{Wanted}
@@ -104,6 +104,10 @@ pub record AreClosures (count : ℕ) (closures : List (List Span)) : Type 0 wher
 
 -- ---- all of it
 
+-- an opened desk: what it was opened with is in its ranges, its slices are those of its groups, and its moment is before the year 10000;
+-- the groups are sound, and go along with what was submitted; at most 1,024 requests are pending, and none is observed twice;
+-- the books hold for each group what it needs, and all that they hold or charge is of accounts that have a grant;
+-- there is a list of closures for each telescope that there may be, and the last publication, if there is one, is certified
 pub record IsDesk (d : DeskSeen) : Type 0 where
   pub opening : IsOpenedWith d.opening
   pub len : d.progress.len ≡ d.opening.slice
@@ -111,7 +115,7 @@ pub record IsDesk (d : DeskSeen) : Type 0 where
   pub sound : IsSound d.progress
   pub along : AllZip (IsAlong (length d.network.registry.targets)) d.groups d.progress.groups
   pub pending : pending_count d.progress.groups ≤ 1024
-  pub once : IsObservedOnce (d.progress.kept ++ d.progress.running)
+  pub once : IsObservedAtMostOnce (d.progress.kept ++ d.progress.running)
   pub held : AllZip IsHeldFor (zip d.groups d.progress.groups) d.books.holds
   pub granted : All (λ g. All (λ h. IsTrue (has_grant d.books.entries h.key)) g.holds) d.books.holds
   pub charged : All (λ g. IfSome g.ipp (λ h. IsTrue (has_grant d.books.entries h.key))) d.books.holds

@@ -37,6 +37,7 @@ targets_with d document = all_numbered d.network.registry.targets (target_names 
 abbrev pub value_of : GroupDoc → ℕ → ℕ
 value_of document seconds = document.priority * document.ipp * div_ceil seconds 60
 
+-- what is wanted of a request that is made: what its part of the document asks for, its value, its windows, and its targets by their numbers
 abbrev pub wanted_of : List (List ℕ) → GroupDoc → MadeSeen → Wanted
 wanted_of targets document m = record {
   location = m.asked.location;

@@ -53,5 +53,6 @@ pub record Numbers (names : List (List ℕ)) (old new : NetworkSeen) {V : Type 0
 abbrev pub numbers_of : List (List ℕ) → List ConfigDoc → List ℕ
 numbers_of targets configurations = fold (insert_key nat_cmp) [] (filter_map (λ c. number_of targets c.target) configurations)
 
+-- the targets of configurations by these numbers: each once, in rising order, and none for a name that has no number
 abbrev pub targets_of : List (List ℕ) → List ConfigDoc → List TargetNo
 targets_of targets configurations = map (λ n. record { 0 = n }) (numbers_of targets configurations)

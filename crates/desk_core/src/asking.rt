@@ -243,8 +243,8 @@ impl Desk {
     }
 
     /// The requests that a document makes, in its order. Its requests are tested one after another; each may be refused
-    /// with `NoSuchInstrument`, `TooLong`, `BadCadence`, `TooManyWindows`, `OutsideSemester`, `WindowPast` or
-    /// `NoTelescope`, the first that comes in this order.
+    /// with `NoSuchInstrument`, `TooLong`, `BadCadence`, `TooManyWindows`, `BadCadence` again where no window is left,
+    /// `OutsideSemester`, `WindowPast` or `NoTelescope`, the first that comes in this order.
     pub(crate) fn made_of<'a>(
         &self,
         alloc: Global,

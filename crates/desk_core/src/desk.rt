@@ -44,7 +44,7 @@ pub struct Wanted {
     pub targets: ListOf<TargetNo>,
 }
 
-// These values are great, so each has a `drop` of its own: a function that leaves one behind then makes one call, whose proof
+// These values have many parts, so each has a `drop` of its own: a function that leaves one behind then makes one call, whose proof
 // doesn't follow the value's parts.
 impl Drop for Wanted {
     fn drop(self) {

@@ -71,7 +71,7 @@ fn numbers_of(
 }
 
 // The targets with these numbers.
-fn listed(alloc: Global, numbers: &BTreeSet<u16>) -> Result<Vec<TargetNo>, AllocError>
+pub(crate) fn listed(alloc: Global, numbers: &BTreeSet<u16>) -> Result<Vec<TargetNo>, AllocError>
     ensures { IfOk result (λ v. v.items ≡ map (λ n. record { 0 = n }) numbers.now.keys) }
 {
     numbers.iter().map(|n| TargetNo(*n)).collect(alloc)

@@ -18,7 +18,7 @@ use Rattle.desk_runs.specs.Owners.{pending_count, pending_of}
 use Rattle.desk_runs.specs.Progress.{Progress}
 use Rattle.desk_runs.specs.Turning.{group_of, groups_of, is_open_at}
 use Rattle.desk_runs.specs.Adding.{requests_from, next_group, with_group}
-use Rattle.desk_runs.specs.Sound.{IsCounted, IsNumbered, IsLaterRequest, IsLater, IsObservedOnce}
+use Rattle.desk_runs.specs.Sound.{IsCounted, IsNumbered, IsLaterRequest, IsLater, IsObservedAtMostOnce}
 use Rattle.desk_runs.proofs.Later.{later_flat}
 use Rattle.desk_runs.proofs.Places.{opened_groups, differs}
 use Rattle.desk_runs.proofs.Opened.{opened_after, open_in_range, as_many_requests}
@@ -147,8 +147,8 @@ apart o (x ∷ xs) n e h =
     let other : x.request.0 ≢ n = λ same. h 0 x (omega arith) (e ∙ sym same) in
     ap (λ (b : Bool). b || list_any (λ y. y.request.0 == n) xs) (differs x.request.0 n other) ∙ apart o xs n e (λ k d l. h (suc k) d (omega arith))
 
--- where each request is observed once, each is at most once
-pub once_counts : (os : List Observation) (n : ℕ) → IsObservedOnce os → times_of n os ≤ 1
+-- where no request is observed twice, each is at most once
+pub once_counts : (os : List Observation) (n : ℕ) → IsObservedAtMostOnce os → times_of n os ≤ 1
 once_counts [] n h = omega arith
 once_counts (o ∷ os) n h =
     let p : Observation → Bool = λ x. x.request.0 == n in
@@ -166,7 +166,7 @@ once_counts (o ∷ os) n h =
     ]
 
 -- and the other way round
-pub counts_once : (os : List Observation) → ((n : ℕ) → times_of n os ≤ 1) → IsObservedOnce os
+pub counts_once : (os : List Observation) → ((n : ℕ) → times_of n os ≤ 1) → IsObservedAtMostOnce os
 counts_once [] h i j d l m = absurd (omega arith)
 counts_once (o ∷ os) h i zero d l m = absurd (omega arith)
 counts_once (o ∷ os) h zero (suc j) d l m = λ same.
@@ -187,6 +187,6 @@ counts_once (o ∷ os) h (suc i) (suc j) d l m =
     let most : times_of n (o ∷ os) ≤ 1 = h n in
     omega (arith, sum, most)) i j d (omega arith) (omega arith)
 
--- so each is observed once where none is observed more often than before
-pub once_fewer : (before after : List Observation) → ((n : ℕ) → times_of n after ≤ times_of n before) → IsObservedOnce before → IsObservedOnce after
+-- so none is observed twice where none is observed more often than before
+pub once_fewer : (before after : List Observation) → ((n : ℕ) → times_of n after ≤ times_of n before) → IsObservedAtMostOnce before → IsObservedAtMostOnce after
 once_fewer before after less h = counts_once after (λ n. let most : times_of n before ≤ 1 = once_counts before n h in let fewer : times_of n after ≤ times_of n before = less n in omega (arith, most, fewer))

@@ -15,7 +15,7 @@ use Rattle.desk_runs.specs.Progress.{Progress}
 use Rattle.desk_runs.specs.Clock.{IsSettled, settle, at_moment}
 use Rattle.desk_runs.specs.Reports.{reported, withdrawn}
 use Rattle.desk_runs.specs.Adding.{with_group, with_kept, CanPublish}
-use Rattle.desk_runs.specs.Sound.{IsSound, IsLater, IsWithdrawable, IsObservedOnce}
+use Rattle.desk_runs.specs.Sound.{IsSound, IsLater, IsWithdrawable, IsObservedAtMostOnce}
 
 -- ---- settled and sound
 
@@ -46,19 +46,22 @@ PublicationKeepsSound = (s : Progress) (kept : List Observation) → IsSound s �
 
 -- ---- what goes on
 
--- groups only go on: none becomes pending again, so no more requests are pending; and where each request was observed once,
--- each still is
+-- groups only go on: none becomes pending again, so no more requests are pending; and where no request was observed twice, none is
+-- afterwards
 pub record GoesOn (before after : Progress) : Type 0 where
   pub later : AllZip IsLater before.groups after.groups
   pub pending : pending_count after.groups ≤ pending_count before.groups
-  pub once : IsObservedOnce (before.kept ++ before.running) → IsObservedOnce (after.kept ++ after.running)
+  pub once : IsObservedAtMostOnce (before.kept ++ before.running) → IsObservedAtMostOnce (after.kept ++ after.running)
 
+-- at another moment groups have only gone on, whatever the state and the moment
 abbrev pub MomentGoesOn : Type 0
 MomentGoesOn = (s : Progress) (now : Sec) → GoesOn s (settle (at_moment now s))
 
+-- and so after a report, whether or not it completes, and whether or not its request runs or is there
 abbrev pub ReportGoesOn : Type 0
 ReportGoesOn = (s : Progress) (number : RequestNo) (completes : Bool) → GoesOn s (reported number completes s)
 
+-- and so after a withdrawal, whether or not its group is there
 abbrev pub WithdrawalGoesOn : Type 0
 WithdrawalGoesOn = (s : Progress) (number : GroupNo) → GoesOn s (withdrawn number s)
 
@@ -72,6 +75,7 @@ IsOverStill q r = is_pending q.state ≡ false → r.state ≡ q.state
 abbrev pub StaysOver : Progress → Progress → Type 0
 StaysOver before after = AllZip IsOverStill (requests_of before.groups) (requests_of after.groups)
 
+-- another moment leaves each request that isn't pending in its state
 abbrev pub MomentLeavesOver : Type 0
 MomentLeavesOver = (s : Progress) (now : Sec) → StaysOver s (settle (at_moment now s))
 
@@ -79,6 +83,7 @@ MomentLeavesOver = (s : Progress) (now : Sec) → StaysOver s (settle (at_moment
 abbrev pub ReportLeavesOver : Type 0
 ReportLeavesOver = (s : Progress) (number : RequestNo) (completes : Bool) → IsSound s → is_placed s.running number ≡ true → StaysOver s (reported number completes s)
 
+-- and so does a withdrawal, whether or not its group is there
 abbrev pub WithdrawalLeavesOver : Type 0
 WithdrawalLeavesOver = (s : Progress) (number : GroupNo) → StaysOver s (withdrawn number s)
 

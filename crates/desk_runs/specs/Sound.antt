@@ -30,9 +30,9 @@ placed_in g observations = count_by (λ o. has_request o.request g) observations
 abbrev pub IsOneOfOnce : List Group → List Observation → Type 0
 IsOneOfOnce groups observations = All (λ g. is_oneof g.op ≡ true → placed_in g observations ≤ 1) groups
 
--- each request is observed once
-abbrev pub IsObservedOnce : List Observation → Type 0
-IsObservedOnce observations = AllPairs (λ a b. a.request.0 ≢ b.request.0) observations
+-- no request is observed twice
+abbrev pub IsObservedAtMostOnce : List Observation → Type 0
+IsObservedAtMostOnce observations = AllPairs (λ a b. a.request.0 ≢ b.request.0) observations
 
 -- running observations are of pending requests
 abbrev pub AllPending : List Group → List Observation → Type 0

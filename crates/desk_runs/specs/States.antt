@@ -8,12 +8,14 @@ use Rattle.plan_base.specs.declared.state.RequestState.TheVariants.{Pending, Com
 use Rattle.plan_base.specs.States.{is_pending, is_completed, is_canceled}
 use Rattle.desk_runs.specs.declared.group.Group.{Group}
 
+-- whether the operator is ONEOF, of whose requests at most one is observed
 abbrev pub is_oneof : Op → Bool
 is_oneof Single = false
 is_oneof Many = false
 is_oneof OneOf = true
 is_oneof And = false
 
+-- whether the operator is AND, whose requests are observed all or not at all
 abbrev pub is_and : Op → Bool
 is_and Single = false
 is_and Many = false

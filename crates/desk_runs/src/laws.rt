@@ -23,7 +23,7 @@ pub fn changes_keep_sound()
     ensures publication { PublicationKeepsSound }
 {}
 
-/// After a moment, a report or a withdrawal no request is pending again, and each is observed once where it was.
+/// After a moment, a report or a withdrawal no request is pending again, and none is observed twice where none was.
 pub fn groups_only_go_on()
     ensures moment { MomentGoesOn }
     ensures report { ReportGoesOn }

@@ -12,6 +12,7 @@ ask_of_document (doc.Json e) = Document (doc.Json e)
 ask_of_document (doc.Snapshot e) = Document (doc.Snapshot e)
 ask_of_document doc.NoMemory = NoMemory
 
+-- a fault of trees, as one of both; want of memory stays what it is
 abbrev pub ask_of_forest : ForestFault → AskFault
 ask_of_forest (trees.NotSingle group) = Forest (trees.NotSingle group)
 ask_of_forest trees.HasQuota = Forest trees.HasQuota

@@ -21,9 +21,11 @@ pub record IsPair (P : List ℕ → Type 0) (c : ℕ → ℤ) (x : Greatest) : T
 abbrev pub most_sum : ℕ
 most_sum = 1024 * most_price
 
+-- the number lies from minus the greatest sum to the greatest sum
 abbrev pub IsSum : ℤ → Type 0
 IsSum b = (neg_ℤ (pos most_sum) ≤ℤ b) × (b ≤ℤ pos most_sum)
 
+-- both numbers of a node lie there
 pub record AreSums (x : Greatest) : Type 0 where
   pub any : IsSum x.any
   pub some : IsSum x.some
@@ -41,6 +43,7 @@ pub record IsSound (s : Parts) (t : Node) : Type 0 where
   pub few : length (leaves t) ≤ 1024
   pub full : is_full t ≡ true
 
+-- the same of several nodes: all their leaves are requests, at most 1,024 together, and each node has children
 pub record AreSound (s : Parts) (ts : Nodes) : Type 0 where
   pub known : All (IsKnown s) (all_leaves ts)
   pub few : length (all_leaves ts) ≤ 1024

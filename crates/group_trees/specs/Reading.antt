@@ -27,6 +27,7 @@ branch_of m Many = Ok branch.Many
 branch_of m OneOf = Ok branch.OneOf
 branch_of m And = Ok branch.And
 
+-- the kind of node that a value is: `MANY`, `ONEOF` or `AND`; `SINGLE` is out of range
 abbrev pub branch_in : Member → Data → Result Branch JsonFault
 branch_in m d = operator_in m d >>= branch_of m
 

@@ -45,6 +45,7 @@ abbrev pub forest_verdict_data : ForestVerdict → Data
 forest_verdict_data (Yes value bound) = yes_data value bound
 forest_verdict_data (No reason) = forest_reason_data reason
 
+-- the number that a fault of trees is told by, 51 to 55; 0 for want of memory
 abbrev pub number_of_forest : ForestFault → ℕ
 number_of_forest (fault.NotSingle group) = 51
 number_of_forest (fault.TreeLeaf request) = 52
@@ -53,6 +54,7 @@ number_of_forest (fault.TreeEmpty tree) = 54
 number_of_forest fault.HasQuota = 55
 number_of_forest fault.NoMemory = 0
 
+-- the name that a fault of trees is told by, as bytes
 abbrev pub name_of_forest : ForestFault → List ℕ
 name_of_forest (fault.NotSingle group) = codes "NotSingle"
 name_of_forest (fault.TreeLeaf request) = codes "TreeLeaf"
@@ -61,6 +63,7 @@ name_of_forest (fault.TreeEmpty tree) = codes "TreeEmpty"
 name_of_forest fault.HasQuota = codes "HasQuota"
 name_of_forest fault.NoMemory = codes "NoMemory"
 
+-- the fields of a fault that has none
 abbrev pub no_fields : FaultFields
 no_fields = record { group = None; request = None; tree = None }
 

@@ -30,9 +30,11 @@ seen_level (Tree-F.And children) = all_of (nodes_of children.items)
 abbrev pub seen : Tree → Node
 seen = fold-Tree Node seen_level
 
+-- what each of the trees is, in their order
 abbrev pub trees_seen : List Tree → List Node
 trees_seen ts = map seen ts
 
+-- the same trees, as the nodes of a list
 abbrev pub all_seen : List Tree → Nodes
 all_seen ts = nodes_of (trees_seen ts)
 

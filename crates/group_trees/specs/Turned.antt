@@ -27,6 +27,7 @@ use Rattle.group_trees.specs.declared.turned.Turned.TheVariants.{Placed, Priced,
 use Rattle.group_trees.specs.Trees.{Node}
 use Rattle.group_trees.specs.Verdicts.{IsForestReason, IsFirstForestReason, rank_of_reason}
 
+-- what a reason tells: wrong placements, wrong prices or a wrong value, or the bound that was found; Other where no snapshot of a forest gives it
 abbrev pub turned_reason : Reason → Turned
 turned_reason (checked.UnknownRequest i) = Placed (UnknownRequest i)
 turned_reason (checked.PlacedTwice i) = Placed (PlacedTwice i)
@@ -42,6 +43,7 @@ turned_reason (checked.QuotaPriceRange i) = Other
 turned_reason (checked.ValueDiffers claimed found) = Priced (ValueDiffers claimed found)
 turned_reason (checked.BoundDiffers claimed found) = Bounded found
 
+-- what a verdict tells: a Yes the bound, which was found to be right, and a No what its reason tells
 abbrev pub turned : Verdict → Turned
 turned (Yes value bound) = Bounded bound
 turned (No reason) = turned_reason reason
@@ -61,6 +63,7 @@ pub record IsPricedFirst (s : Parts) (claim : Claim) (reason : ForestReason) : T
   pub first : (trees : List Node) (other : ForestReason) → rank_of_reason other < rank_of_reason reason → rank_of_reason other ≢ 5
       → ¬ (IsForestReason s trees claim other)
 
+-- all but the trees and the bound is right, and the prices give this bound where each group stands alone
 pub record IsBoundedBy (s : Parts) (claim : Claim) (found : ℕ) : Type 0 where
   pub fit : AreSumsFit s claim
   pub bound : IsBound s claim.prices.0 claim.quota_prices.0 (pos found)

@@ -17,6 +17,7 @@ abbrev pub AreEnds : List Start → ℕ → List ℕ → Type 0
 AreEnds starts begin [] = begin ≡ length starts
 AreEnds starts begin (end ∷ ends) = (begin ≤ end) × AreEnds starts end ends
 
+-- where rows begin and end in the starts: the first number is where the first begins, and each later one where one ends
 abbrev pub AreBounds : List Start → List ℕ → Type 0
 AreBounds starts [] = ⊥
 AreBounds starts (begin ∷ ends) = AreEnds starts begin ends

@@ -21,7 +21,8 @@ impl<'a> Rows<'a> {
     /// of which no two share a slice, of what the starts are worth less the prices of their requests, as
     /// [`crate::Solver::solve`] has it. What the telescope starts to reach it is added to the lane's uses. The lanes
     /// are solved in step: there is a list of `L` prices for each request, each from -10^12 to 10^12, and a table with
-    /// an entry for each slice and one more, which is for the call's own use. It takes no memory.
+    /// an entry for each slice and one more, which is for the call's own use. `L` is 1 to 64, and there is a [`Uses`] for
+    /// each lane, with room for as many starts more as the horizon has slices. It takes no memory.
     pub fn solve<const L: usize>(
         &self,
         prices: &[[i64; L]],

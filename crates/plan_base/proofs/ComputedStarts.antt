@@ -6,7 +6,7 @@ use Rattle.plan_base.specs.declared.span.Span.{Span}
 use Rattle.plan_base.specs.declared.number.TargetNo.{TargetNo}
 use Rattle.plan_base.specs.Requests.{windows_of, targets_of}
 use Rattle.plan_base.specs.Starts.{start_second, end_second, site_of, IsPossibleStart}
-use Rattle.plan_base.specs.BySpans.{HasAll, IsVisibleThrough}
+use Rattle.plan_base.specs.BySpans.{OneHasAll, IsVisibleThrough}
 use Rattle.plan_base.proofs.Small.{span, asked, single, fading, at}
 use Rattle.plan_base.proofs.SpanStarts.{possible_from_by_spans}
 
@@ -20,7 +20,7 @@ Sees k target = IsVisibleThrough touching target.0 (site_of touching 0) (start_s
 seen : (k : ℕ) → k < 3 → All (Sees k) (targets_of touching 1)
 seen k h = All-cons (Sees k) (record { 0 = 0 }) [] (zero, _, omega arith, refl, (refl, refl, (zero, span 0 86400, omega arith, refl, (omega arith, omega arith)))) (All-nil (Sees k))
 
-inside : (k : ℕ) → k < 3 → HasAll (windows_of touching 1) (start_second touching (at 1 k)) (end_second touching (at 1 k)) → IsPossibleStart touching (at 1 k)
+inside : (k : ℕ) → k < 3 → OneHasAll (windows_of touching 1) (start_second touching (at 1 k)) (end_second touching (at 1 k)) → IsPossibleStart touching (at 1 k)
 inside k h window = possible_from_by_spans touching (at 1 k) (record {
   known = omega arith;
   able = (zero, omega arith, refl);

@@ -5,13 +5,13 @@ use Rattle.std.proofs.lemmas.List.{get_or_default}
 use Rattle.plan_base.specs.declared.span.Span.{Span}
 use Rattle.plan_base.specs.Snapshot.{IsSortedApart}
 use Rattle.plan_base.specs.Starts.{HasSecond}
-use Rattle.plan_base.specs.BySpans.{HasAll}
+use Rattle.plan_base.specs.BySpans.{OneHasAll}
 
 -- each second from a to the one before b lies in one of the spans
 abbrev pub HasEach : List Span → ℕ → ℕ → Type 0
 HasEach spans a b = (x : ℕ) → a ≤ x → x < b → Any (λ w. HasSecond w x) spans
 
-pub each_from_all : (spans : List Span) (a b : ℕ) → HasAll spans a b → HasEach spans a b
+pub each_from_all : (spans : List Span) (a b : ℕ) → OneHasAll spans a b → HasEach spans a b
 each_from_all spans a b (k, w, l, at, (from, to)) x h g = (k, w, l, at, (omega arith, omega arith))
 
 below_same_above : (i j : ℕ) → ((i < j) ⊎ (j < i)) ⊎ (i ≡ j)
@@ -40,7 +40,7 @@ never_after spans i j v w apart l m at_i at_j a (v_from, v_to) (w_from, w_to) = 
       omega arith
 ]
 
-pub all_from_each : (spans : List Span) (a b : ℕ) → IsSortedApart spans → a < b → HasEach spans a b → HasAll spans a b
+pub all_from_each : (spans : List Span) (a b : ℕ) → IsSortedApart spans → a < b → HasEach spans a b → OneHasAll spans a b
 all_from_each spans a b apart h each =
     let first = each a (omega arith) h in
     let span : Span = first.1 in

@@ -5,7 +5,7 @@ use Rattle.std.specs.List.Sorted.{IsPartitionedBy}
 use Rattle.std.proofs.lemmas.Bool.Decides.{nat_tests}
 use Rattle.std.proofs.lemmas.List.{get_or_default}
 use Rattle.plan_base.specs.declared.parts.Sky.{Sky}
-use Rattle.plan_base.specs.BySpans.{HasAll}
+use Rattle.plan_base.specs.BySpans.{OneHasAll}
 use Rattle.plan_base.specs.Skies.{IsSkyOf, IsSkyBelow, SkiesRise, is_below, IsCountBelow}
 
 below_same_above : (i j : ℕ) → ((i < j) ⊎ (j < i)) ⊎ (i ≡ j)
@@ -64,16 +64,16 @@ one_sky skies target site y z rise (i, l, e) (j, m, d) (yt, ys) (zt, zs) = elim 
 
 -- some sky of the target at the site has all seconds
 abbrev pub IsSeen : List Sky → ℕ → ℕ → ℕ → ℕ → Type 0
-IsSeen skies target site a b = Any (λ y. (y.target.0 ≡ target) × (y.site.0 ≡ site) × HasAll y.spans a b) skies
+IsSeen skies target site a b = Any (λ y. (y.target.0 ≡ target) × (y.site.0 ≡ site) × OneHasAll y.spans a b) skies
 
-pub seen_by : (skies : List Sky) (target site : ℕ) (y : Sky) (a b : ℕ) → Contains skies y → IsSkyOf target site y → HasAll y.spans a b → IsSeen skies target site a b
+pub seen_by : (skies : List Sky) (target site : ℕ) (y : Sky) (a b : ℕ) → Contains skies y → IsSkyOf target site y → OneHasAll y.spans a b → IsSeen skies target site a b
 seen_by skies target site y a b (k, l, e) (on_target, on_site) has = (k, y, l, e, (on_target, on_site, has))
 
 -- it is the one sky that they have
-pub seen_one : (skies : List Sky) (target site : ℕ) (y : Sky) (a b : ℕ) → SkiesRise skies → Contains skies y → IsSkyOf target site y → IsSeen skies target site a b → HasAll y.spans a b
+pub seen_one : (skies : List Sky) (target site : ℕ) (y : Sky) (a b : ℕ) → SkiesRise skies → Contains skies y → IsSkyOf target site y → IsSeen skies target site a b → OneHasAll y.spans a b
 seen_one skies target site y a b rise c is (k, z, l, e, (on_target, on_site, has)) =
     let same : z ≡ y = one_sky skies target site z y rise (k, l, e) c (on_target, on_site) is in
-    subst (λ (x : Sky). HasAll x.spans a b) same has
+    subst (λ (x : Sky). OneHasAll x.spans a b) same has
 
 -- where no sky is that of the target at the site, none has them
 pub seen_never : (skies : List Sky) (target site a b : ℕ) → All (λ y. ¬ (IsSkyOf target site y)) skies → ¬ (IsSeen skies target site a b)

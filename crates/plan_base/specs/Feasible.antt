@@ -14,6 +14,7 @@ requests_of plan = map (λ p. p.request.0) plan
 abbrev pub AreOfOneOneOf : Parts → ℕ → ℕ → Type 0
 AreOfOneOneOf s a b = (g : ℕ) × IsKind s OneOf g × IsOf s g a × IsOf s g b
 
+-- whether this quota is the one that is named
 abbrev pub is_quota : ℕ → Option ℕ → Bool
 is_quota q None = false
 is_quota q (Some p) = p == q

@@ -14,6 +14,7 @@ abbrev pub worth_by_kind : Op → List ℕ → ℕ
 worth_by_kind OneOf values = fold max 0 values
 worth_by_kind _ values = sum_by (λ v. v) values
 
+-- the worth of a group by its values
 abbrev pub worth_of_group : GroupPart → ℕ
 worth_of_group x = worth_by_kind x.op (map (λ q. q.value) x.requests)
 
@@ -61,6 +62,7 @@ pub record VisitsGroup (s : Parts) (plan : List Placement) (g : ℕ) (after : Li
   pub absent : IsAbsent s plan g → TakesAllOrNone s plan (members s g) after
   pub served : IsKind s OneOf g ⊎ IsKind s And g → ¬ (HasNonePlaced s plan g) → after ≡ plan
 
+-- a pass visits these groups one after another
 abbrev pub VisitsEach : Parts → List Placement → List ℕ → List Placement → Type 0
 VisitsEach s plan [] after = after ≡ plan
 VisitsEach s plan (g ∷ gs) after = (next : List Placement) × VisitsGroup s plan g next × VisitsEach s next gs after

@@ -1,14 +1,15 @@
--- The greatest numbers of snapshots, plans and claims, each named once.
+-- The greatest numbers of snapshots, plans and claims.
 use Rattle.std.specs.Prelude.{ℕ, ◌*◌, ◌^◌}
 
 -- the most changes that a desk accepts, and so its greatest version
 abbrev pub most_version : ℕ
 most_version = 524288
 
--- the shortest and the longest slice, in seconds
+-- the shortest slice, in seconds
 abbrev pub least_len : ℕ
 least_len = 60
 
+-- the longest slice, in seconds
 abbrev pub most_len : ℕ
 most_len = 3600
 

@@ -34,6 +34,7 @@ AddsWholes s starts plan (g ∷ gs) after =
 abbrev pub group_places : Parts → List ℕ
 group_places s = map (λ x. x.0) (enumerate_from 0 s.groups)
 
+-- whether a group is an AND
 abbrev pub is_and : Op → Bool
 is_and And = true
 is_and _ = false

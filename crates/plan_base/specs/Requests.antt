@@ -44,6 +44,7 @@ group_of s r = known_or (λ x. x.group) 0 s r
 abbrev pub quota_of : Parts → ℕ → Option ℕ
 quota_of s r = known_or (λ x. x.quota) None s r
 
+-- how long r takes, in seconds
 abbrev pub seconds_of : Parts → ℕ → ℕ
 seconds_of s r = known_or (λ x. x.request.seconds) 0 s r
 
@@ -51,15 +52,19 @@ seconds_of s r = known_or (λ x. x.request.seconds) 0 s r
 abbrev pub request_value : Parts → ℕ → ℕ
 request_value s r = known_or (λ x. x.request.value) 0 s r
 
+-- the thousandths of its value that r loses with each slice of delay
 abbrev pub fade_of : Parts → ℕ → ℕ
 fade_of s r = known_or (λ x. x.request.fade) 0 s r
 
+-- the windows of r
 abbrev pub windows_of : Parts → ℕ → List Span
 windows_of s r = known_or (λ x. x.request.windows) [] s r
 
+-- the telescopes that can take r
 abbrev pub telescopes_of : Parts → ℕ → List TelescopeNo
 telescopes_of s r = known_or (λ x. x.request.telescopes) [] s r
 
+-- the targets of r
 abbrev pub targets_of : Parts → ℕ → List TargetNo
 targets_of s r = known_or (λ x. x.request.targets) [] s r
 

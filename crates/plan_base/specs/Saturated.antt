@@ -44,7 +44,8 @@ abbrev pub TakesEach : Parts → List Placement → List ℕ → List Placement 
 TakesEach s plan [] after = after ≡ plan
 TakesEach s plan (r ∷ rs) after = (p : Placement) × IsEarliestFree s plan r p × TakesEach s (plan ++ p ∷ []) rs after
 
--- nothing can be added: no unplaced request of a SINGLE, a MANY or an untouched ONEOF, and no absent AND whole
+-- no unplaced request of a SINGLE, a MANY or an untouched ONEOF has a free start, and no absent AND is placed whole where each of its
+-- requests takes its earliest free start
 pub record IsSaturated (s : Parts) (plan : List Placement) : Type 0 where
   pub alone : (g : ℕ) (p : Placement) → (IsKind s Single g ⊎ IsKind s Many g) ⊎ IsUntouched s plan g → IsOf s g p.request.0
       → ¬ (Contains (requests_of plan) p.request.0) → ¬ (IsFree s plan p)

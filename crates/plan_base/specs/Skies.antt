@@ -10,6 +10,7 @@ IsSkyOf target site sky = (sky.target.0 ≡ target) × (sky.site.0 ≡ site)
 abbrev pub IsSkyBelow : Sky → Sky → Type 0
 IsSkyBelow a b = (a.target.0 < b.target.0) ⊎ ((a.target.0 ≡ b.target.0) × (a.site.0 < b.site.0))
 
+-- skies stand by target, then site, and no two are of the same
 abbrev pub SkiesRise : List Sky → Type 0
 SkiesRise skies = AllPairs IsSkyBelow skies
 

@@ -98,6 +98,7 @@ most_requests Many = 256
 most_requests OneOf = 32
 most_requests And = 32
 
+-- whether the group has at least one request, and no more than its kind may have
 abbrev pub has_shape : GroupPart → Bool
 has_shape x = nat_le 1 (length x.requests) && nat_le (length x.requests) (most_requests x.op)
 
@@ -115,6 +116,7 @@ abbrev pub names_quota : ℕ → Option ℕ → Bool
 names_quota n None = true
 names_quota n (Some q) = nat_lt q n
 
+-- the first that there is
 abbrev pub first_some : {X : Type 0} → List (Option X) → Option X
 first_some [] = None
 first_some (x ∷ xs) = option_or x (first_some xs)
@@ -123,32 +125,41 @@ first_some (x ∷ xs) = option_or x (first_some xs)
 abbrev pub limit_fault : Parts → Option SnapshotFault
 limit_fault s = first_some (map (λ what. option_map (λ n. OverLimit what n) (find (λ n. nat_lt (limit_of what) n) (counts_of s what))) all_counted)
 
+-- the fault of a span without a second
 abbrev pub span_fault : Parts → Option SnapshotFault
 span_fault s = if list_any (λ w. nat_le w.to.0 w.from.0) (all_spans s) then Some EmptySpan else None
 
+-- the fault of usable spans or skies that aren't in order with gaps between them
 abbrev pub apart_fault : Parts → Option SnapshotFault
 apart_fault s = if list_all (λ t. is_apart t.usable) s.telescopes && list_all (λ y. is_apart y.spans) s.skies && skies_rise s.skies then None else Some NotApart
 
+-- the fault of the first group whose number isn't above that of the one before it
 abbrev pub group_fault : Parts → Option SnapshotFault
 group_fault s = option_map (λ p. GroupOrder p.1.group) (find (λ p. nat_le p.1.group.0 p.0.group.0) (zip s.groups (drop 1 s.groups)))
 
+-- the fault of the first request whose number isn't above that of the one before it
 abbrev pub request_fault : Parts → Option SnapshotFault
 request_fault s =
     option_map (λ p. RequestOrder p.1.request.request) (find (λ p. nat_le p.1.request.request.0 p.0.request.request.0) (zip (listed s) (drop 1 (listed s))))
 
+-- the fault of the first group with too few or too many requests
 abbrev pub shape_fault : Parts → Option SnapshotFault
 shape_fault s = option_map (λ x. BadShape x.group) (find (λ x. not (has_shape x)) s.groups)
 
+-- the fault of the first telescope of a request that isn't in the list, or doesn't rise after the one before it
 abbrev pub telescope_fault : Parts → Option SnapshotFault
 telescope_fault s =
     option_map (λ p. NoSuchTelescope p.1) (find (λ p. not (fits_after (length s.telescopes) p)) (flat_map (λ x. with_last x.request.telescopes) (listed s)))
 
+-- the fault of the first request that loses more than its value
 abbrev pub fade_fault : Parts → Option SnapshotFault
 fade_fault s = option_map (λ x. FadeRange x.request.request) (find (λ x. nat_lt 1000 x.request.fade) (listed s))
 
+-- the fault of the first group that names a quota that isn't in the list
 abbrev pub quota_fault : Parts → Option SnapshotFault
 quota_fault s = option_map (λ x. NoSuchQuota x.group) (find (λ x. not (names_quota (length s.quotas) x.quota)) s.groups)
 
+-- the fault of the first quota that is too great
 abbrev pub quota_range_fault : Parts → Option SnapshotFault
 quota_range_fault s = option_map (λ i. QuotaRange i) (position (λ q. nat_lt most_quota q) s.quotas)
 

@@ -103,7 +103,7 @@ abbrev pub least_of : List ℕ → ℕ
 least_of [] = 0
 least_of (x ∷ xs) = fold min x xs
 
--- the first slice that doesn't begin before each window of request r
+-- the first slice that begins no earlier than the earliest window of request r, or slice 0 where it has none
 abbrev pub earliest_slice : Parts → ℕ → ℕ
 earliest_slice s r = slices_for s.len (least_of (map (λ w. w.from.0) (windows_of s r)))
 

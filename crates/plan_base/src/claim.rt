@@ -14,12 +14,13 @@ pub struct Placement {
     pub slice: SliceNo,
 }
 
-/// A price for each request of a snapshot, in their order: -10^12 to 10^12 in a claim that is certified.
+/// A price for each request of a snapshot, in their order and in the units of its value: -10^12 to 10^12 in a claim that is
+/// certified.
 #[derive(Clone, Drop)]
 pub struct Prices(pub ListOf<i64>);
 
-/// A price for each second of each quota of a snapshot, 0 to 200,000 in a claim that is certified; the empty list
-/// stands for all 0.
+/// A price for each second of each quota of a snapshot, in the units of a request's value: 0 to 200,000 in a claim that is
+/// certified; the empty list stands for all 0.
 #[derive(Clone, Drop)]
 pub struct QuotaPrices(pub ListOf<u32>);
 

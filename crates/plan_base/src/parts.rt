@@ -61,7 +61,8 @@ pub struct RequestPart {
     pub request: RequestNo,
     /// How long it takes, 1 to 86,400 seconds.
     pub seconds: u32,
-    /// What it is worth at its earliest slice, 1 to 288,000,000.
+    /// What it is worth at its earliest slice, 1 to 288,000,000. Of a desk's request these are thousandths of a minute at
+    /// priority 1 and neutral ipp.
     pub value: u32,
     /// It lies inside one of these.
     pub windows: ListOf<Span>,

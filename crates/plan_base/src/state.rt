@@ -39,7 +39,7 @@ impl RequestState {
     }
 
     /// Whether it is `WINDOW_EXPIRED`.
-    pub fn is_window_expired(self) -> bool
+    fn is_window_expired(self) -> bool
         ensures { result ≡ is_window_expired self }
     {
         match self {
@@ -49,7 +49,7 @@ impl RequestState {
     }
 
     /// Whether it is `CANCELED`.
-    pub fn is_canceled(self) -> bool
+    fn is_canceled(self) -> bool
         ensures { result ≡ is_canceled self }
     {
         match self {

@@ -17,6 +17,7 @@ pub record IsGroupInRanges (group : GroupPart) : Type 0 where
   pub values : All (λ q. (1 ≤ q.value) × (q.value ≤ most_value)) group.requests
   pub moments : All (λ q. All (λ w. IsMoment w.from.0 × IsMoment w.to.0) q.windows) group.requests
 
+-- whether the operator is SINGLE, whose groups alone can be inserted
 abbrev pub is_single : Op → Bool
 is_single Single = true
 is_single Many = false

@@ -17,6 +17,7 @@ abbrev pub placed_data : Inserted → Data
 placed_data (Placed p) = placement_data p
 placed_data NoPlace = null
 
+-- a request by its number
 abbrev pub request_number_data : RequestNo → Data
 request_number_data r = whole r.0
 

@@ -23,6 +23,7 @@ exposure_of ms =
     member_of (number_in 1 10000) ms ExposureCount >>= λ number.
     Ok (record { ms = time; count = number })
 
+-- the exposures of one length that an object is, an element of `instrument_configs`
 abbrev pub exposure_in : Data → Result Exposure JsonFault
 exposure_in d = object_in InstrumentConfigs d >>= exposure_of
 
@@ -36,6 +37,7 @@ typed_of ms =
     read_each exposure_in ds >>= λ all.
     Ok (record { instrument = type; configuration = record { target = name; exposures = all } })
 
+-- the configuration that an object is, an element of `configurations`, with its instrument type
 abbrev pub typed_in : Data → Result Typed JsonFault
 typed_in d = object_in Configurations d >>= typed_of
 

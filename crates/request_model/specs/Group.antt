@@ -30,6 +30,7 @@ kind_named s =
     else (if bytes_eq s (codes "RAPID_RESPONSE") then Some RapidResponse
     else None))
 
+-- `observation_type`: `NORMAL`, `TIME_CRITICAL` or `RAPID_RESPONSE`; any other text is out of range
 abbrev pub kind_of : Members → Result ObsKind JsonFault
 kind_of ms = member_of text_in ms member.ObservationType >>= λ s. ok_or (kind_named s) (OutOfRange member.ObservationType)
 
@@ -47,6 +48,7 @@ is_shape Many n = is_in_range 2 32 n
 is_shape OneOf n = is_in_range 2 32 n
 is_shape And n = is_in_range 2 32 n
 
+-- the elements of `requests`, if the operator may have so many, else a bad shape with their count
 abbrev pub shaped : Op → List Data → Result (List Data) GroupFault
 shaped op ds = if is_shape op (length ds) then Ok ds else Err (BadShape op (length ds))
 

@@ -33,6 +33,7 @@ window_in index window d =
     in_group (member_of moment_in ms member.End) >>= λ last.
     if nat_lt first.0 last.0 then Ok (record { from = first; to = last }) else Err (BadWindow index window)
 
+-- `windows` of the request at place `index`: 1 to 32, in the document's order, or the first fault of one
 abbrev pub windows_of : ℕ → Members → Result (List Span) GroupFault
 windows_of index ms = in_group (member_of (λ m. list_in m 1 32) ms member.Windows) >>= read_from (window_in index) 0
 

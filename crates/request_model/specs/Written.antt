@@ -23,9 +23,11 @@ use Rattle.request_model.specs.declared.request.RequestDoc.{RequestDoc}
 use Rattle.request_model.specs.Fault.{in_group}
 use Rattle.request_model.specs.Group.{group_of}
 
+-- an object with `exposure_time_ms` and `exposure_count`
 abbrev pub exposure_data : Exposure → Data
 exposure_data e = object_of (given member.ExposureTimeMs (whole e.ms) ∷ given member.ExposureCount (whole e.count) ∷ [])
 
+-- an object with the target's `name`
 abbrev pub target_data : List ℕ → Data
 target_data name = object_of (given member.Name (string name) ∷ [])
 
@@ -38,6 +40,7 @@ configuration_data type c =
     ∷ given member.InstrumentConfigs (list_of exposure_data c.exposures)
     ∷ [])
 
+-- an object with `telescope_class`, and with `site`, `enclosure` and `telescope` where they are named
 abbrev pub location_data : Location → Data
 location_data l =
     object_of
@@ -47,6 +50,7 @@ location_data l =
     ∷ given_if member.Telescope (option_map string l.telescope)
     ∷ [])
 
+-- an object with `start`, `end`, `period` and `jitter`, its moments as whole numbers of seconds
 abbrev pub cadence_data : Cadence → Data
 cadence_data c =
     object_of
@@ -56,6 +60,7 @@ cadence_data c =
     ∷ given member.Jitter (whole c.jitter)
     ∷ [])
 
+-- an object with `start` and `end`, as whole numbers of seconds
 abbrev pub window_data : Span → Data
 window_data w = object_of (given member.Start (whole w.from.0) ∷ given member.End (whole w.to.0) ∷ [])
 
@@ -86,9 +91,11 @@ request_at r times fade =
     ∷ given_if member.Fade (option_map whole fade)
     ∷ [])
 
+-- an object with `cadence` or `windows`, whichever the request has, and with `fade` where it is above 0
 abbrev pub request_data : RequestDoc → Data
 request_data r = request_at r r.when (fade_above_0 r.fade)
 
+-- the word that `observation_type` has for each way of scheduling
 abbrev pub kind_name : ObsKind → List ℕ
 kind_name Normal = codes "NORMAL"
 kind_name TimeCritical = codes "TIME_CRITICAL"

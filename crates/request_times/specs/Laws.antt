@@ -10,7 +10,8 @@ pub record IsInside (c : Cadence) (w : Span) : Type 0 where
   pub from : c.start.0 ≤ w.from.0
   pub to : w.to.0 ≤ c.end.0
 
--- the windows lie inside start and end, rise, are no shorter than the duration, and each centre below the end has its window or was too short
+-- the windows lie inside start and end, none begins or ends before the one before it, none is shorter than the duration, and each centre
+-- below the end has its window or was too short
 pub record IsSound (c : Cadence) (seconds : ℕ) (windows : List Span) : Type 0 where
   pub inside : All (IsInside c) windows
   pub begins_rise : IsNonDecreasingBy (λ w. w.from.0) windows

@@ -2,8 +2,8 @@
 
 ghost use Rattle.request_times.specs.Laws.{WindowsAreSound, CentresAreCounted};
 
-/// The windows of a cadence lie inside its start and end, rise, are no shorter than the request, and each centre below
-/// the end has its window, or that was too short.
+/// The windows of a cadence lie inside its start and end, none begins or ends before the one before it, none is shorter than
+/// the request, and each centre below the end has its window, or that was too short.
 pub fn windows_are_sound()
     ensures { WindowsAreSound }
 {}

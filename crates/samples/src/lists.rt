@@ -11,12 +11,12 @@ pub struct Found {
     pub placement: Placement,
     /// The slice after its last one.
     pub after: u32,
-    /// What the request is worth there less its price, in thousandths.
+    /// What the request is worth there less its price.
     pub gives: i64,
 }
 
-/// The starts of a telescope, by slice and then by request. A price is in thousandths; they stand in the order of the
-/// requests, and a request without one has no starts.
+/// The starts of a telescope, by slice and then by request. Prices are in the units of a request's value and stand in the order of
+/// the requests; a request without one has no starts.
 pub fn find_starts(
     alloc: Global,
     parts: &Parts,
@@ -61,7 +61,7 @@ fn find_at(
     Ok(())
 }
 
-/// What the request is worth at a slice, in thousandths.
+/// What the request is worth at a slice, in the units of its value.
 fn worth(len: u32, request: &RequestPart, slice: SliceNo) -> i64 {
     let lost = u64::from(request.value)
         .saturating_mul(u64::from(request.fade))
@@ -85,7 +85,7 @@ fn delay(len: u32, request: &RequestPart, slice: SliceNo) -> u64 {
         .count() as u64
 }
 
-/// The greatest sum, in thousandths, that a list of the starts gives that begin at slice `free` or after it, where no two
+/// The greatest sum that a list of the starts gives that begin at slice `free` or after it, where no two
 /// of the list share a slice. The starts are those of one telescope, sorted by slice.
 pub fn best_of_all(found: &[Found], free: u32) -> i64 {
     match found {

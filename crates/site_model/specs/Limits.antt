@@ -9,12 +9,15 @@ use Rattle.site_model.specs.declared.fault.FullOf.TheVariants.{Instruments, Tele
 abbrev pub most_instruments : ℕ
 most_instruments = 64
 
+-- the most telescopes
 abbrev pub most_telescopes : ℕ
 most_telescopes = 32
 
+-- the most sites
 abbrev pub most_sites : ℕ
 most_sites = 16
 
+-- the most targets
 abbrev pub most_targets : ℕ
 most_targets = 2048
 

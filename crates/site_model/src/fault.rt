@@ -10,17 +10,17 @@ use thiserror::Error;
 /// What a network has a most of.
 #[derive(Clone, Copy, Debug)]
 pub enum FullOf {
-    /// The instrument types.
+    /// The instrument types, at most 64.
     Instruments,
-    /// The telescopes of all sites.
+    /// The telescopes of all sites, at most 32.
     Telescopes,
-    /// The sites of which a telescope was registered.
+    /// The sites of which a telescope was registered, at most 16.
     Sites,
-    /// The targets that a request or a sky has named.
+    /// The targets that a request or a sky has named, at most 2,048.
     Targets,
-    /// The pieces of the skies of all targets at all sites.
+    /// The pieces of the skies of all targets at all sites, at most 262,144.
     Visibility,
-    /// The pieces of one telescope's closures.
+    /// The pieces of one telescope's closures, at most 512.
     Closures,
 }
 
@@ -40,7 +40,7 @@ impl FullOf {
     }
 
     /// `Full` where there are as many as there may be.
-    pub(crate) fn has_room(self, count: usize) -> Result<(), SiteFault>
+    pub(crate) fn check_room(self, count: usize) -> Result<(), SiteFault>
         ensures room { OnOk result (full_of self count ≡ None) }
         ensures full { IfErr result (λ fault. full_of self count ≡ Some fault) }
     {
@@ -64,7 +64,7 @@ pub enum SiteFault {
     #[error("it is registered already")]
     Repeated,
     /// There would be more than there may be.
-    #[error("there are {limit} {what:?} already")]
+    #[error("there may be at most {limit} {what:?}")]
     Full { limit: u64, what: FullOf },
     /// The telescope carries an instrument that isn't registered: the first such, by its place in the list.
     #[error("instrument {index} isn't registered")]
@@ -75,7 +75,7 @@ pub enum SiteFault {
 }
 
 impl SiteFault {
-    /// There are as many as there may be.
+    /// There would be more than there may be.
     pub(crate) fn full(what: FullOf) -> SiteFault
         ensures { result ≡ full what }
     {

@@ -31,7 +31,7 @@ pub fn number(
     if let Some(place) = names.get_index_of(name) {
         return Ok(place);
     }
-    what.has_room(names.len())?;
+    what.check_room(names.len())?;
     let (place, _) = names.insert_full(name.clone()?)?;
     Ok(place)
 }

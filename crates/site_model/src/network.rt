@@ -84,7 +84,7 @@ impl Network {
         if self.instruments.contains_key(&name) {
             return Err(SiteFault::Repeated);
         }
-        FullOf::Instruments.has_room(self.instruments.len())?;
+        FullOf::Instruments.check_room(self.instruments.len())?;
         self.instruments.insert(name, times)?;
         Ok(())
     }
@@ -107,7 +107,7 @@ impl Network {
             return Err(SiteFault::Repeated);
         }
         let place = self.telescopes.len();
-        FullOf::Telescopes.has_room(place)?;
+        FullOf::Telescopes.check_room(place)?;
         self.telescopes.reserve(1)?;
         let site = number(&mut self.sites, self.alloc, &code.site, FullOf::Sites)?;
         let telescope = Telescope {

@@ -9,7 +9,7 @@ use Rattle.plan_base.specs.declared.number.TelescopeNo.{TelescopeNo}
 use Rattle.snapshot_starts.specs.declared.pair.Pair.{Pair}
 use Rattle.snapshot_starts.specs.Pairs.{pair_of}
 use Rattle.plan_base.proofs.Equality.{requests_decide, telescopes_decide}
-use Rattle.plan_base.specs.BySpans.{HasAll}
+use Rattle.plan_base.specs.BySpans.{OneHasAll}
 use Rattle.snapshot_starts.specs.Mending.{IsSameWithin}
 use Rattle.snapshot_starts.proofs.Sets.{any_left, any_last, any_cases}
 
@@ -83,6 +83,6 @@ pub same_through : (times : Span) (xs ys parts others : List Span) → parts ≡
 same_through times xs ys parts others e left right a b some from to =
     let mine = left a b some from to in
     let theirs = right a b some from to in (
-      λ has. theirs.1 (subst (λ (zs : List Span). HasAll zs a b) e (mine.0 has)),
-      λ has. mine.1 (subst (λ (zs : List Span). HasAll zs a b) (sym e) (theirs.0 has)),
+      λ has. theirs.1 (subst (λ (zs : List Span). OneHasAll zs a b) e (mine.0 has)),
+      λ has. mine.1 (subst (λ (zs : List Span). OneHasAll zs a b) (sym e) (theirs.0 has)),
     )

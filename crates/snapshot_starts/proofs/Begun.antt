@@ -5,7 +5,7 @@ use Rattle.std.proofs.lemmas.Bool.{cases_lt}
 use Rattle.std.proofs.lemmas.Bool.Decides.{nat_tests}
 use Rattle.std.proofs.lemmas.List.{get_or_default}
 use Rattle.plan_base.specs.declared.span.Span.{Span}
-use Rattle.plan_base.specs.BySpans.{HasAll}
+use Rattle.plan_base.specs.BySpans.{OneHasAll}
 use Rattle.interval_set.specs.Spans.{IsSortedApart}
 use Rattle.interval_set.specs.Steps.{IsBegunBy}
 use Rattle.interval_set.proofs.Searches.{ends_rise}
@@ -14,7 +14,7 @@ use Rattle.interval_set.proofs.Searches.{ends_rise}
 abbrev pub nothing : Span
 nothing = record { from = record { 0 = 0 }; to = record { 0 = 0 } }
 
-has_last : (spans : List Span) (a b i : ℕ) → IsBegunBy spans a i → 0 < i → b ≤ (slice_index_or spans (i - 1) nothing).to.0 → HasAll spans a b
+has_last : (spans : List Span) (a b i : ℕ) → IsBegunBy spans a i → 0 < i → b ≤ (slice_index_or spans (i - 1) nothing).to.0 → OneHasAll spans a b
 has_last spans a b i begun some h =
     let last : Span = slice_index_or spans (i - 1) nothing in
     let l : i - 1 < length spans = omega (arith, begun.within) in
@@ -29,7 +29,7 @@ is_begun spans a i k w begun l e from = elim (cases_lt k i) [
       absurd (omega arith)
 ]
 
-last_has : (spans : List Span) (a b i : ℕ) → IsSortedApart spans → IsBegunBy spans a i → HasAll spans a b → b ≤ (slice_index_or spans (i - 1) nothing).to.0
+last_has : (spans : List Span) (a b i : ℕ) → IsSortedApart spans → IsBegunBy spans a i → OneHasAll spans a b → b ≤ (slice_index_or spans (i - 1) nothing).to.0
 last_has spans a b i sorted begun (k, w, l, e, (from, to)) =
     let below : k < i = is_begun spans a i k w begun l e from in
     let within : i ≤ length spans = begun.within in
@@ -39,9 +39,9 @@ last_has spans a b i sorted begun (k, w, l, e, (from, to)) =
     omega arith
 
 pub in_last : (spans : List Span) (a b i : ℕ) → IsSortedApart spans → IsBegunBy spans a i → 0 < i
-    → IsTrue (nat_le b (slice_index_or spans (i - 1) nothing).to.0) ↔ HasAll spans a b
+    → IsTrue (nat_le b (slice_index_or spans (i - 1) nothing).to.0) ↔ OneHasAll spans a b
 in_last spans a b i sorted begun some =
     (λ yes. has_last spans a b i begun some (grind (arith, nat_tests)), λ has. let ends = last_has spans a b i sorted begun has in grind (arith, nat_tests))
 
-pub none_begun : (spans : List Span) (a b i : ℕ) → IsBegunBy spans a i → i ≤ 0 → ¬ (HasAll spans a b)
+pub none_begun : (spans : List Span) (a b i : ℕ) → IsBegunBy spans a i → i ≤ 0 → ¬ (OneHasAll spans a b)
 none_begun spans a b i begun none (k, w, l, e, (from, to)) = let below : k < i = is_begun spans a i k w begun l e from in absurd (omega arith)

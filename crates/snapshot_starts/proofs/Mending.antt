@@ -14,7 +14,7 @@ use Rattle.plan_base.specs.declared.claim.Placement.{Placement}
 use Rattle.plan_base.specs.Requests.{Listed, listed, place_of, IsKnown, seconds_of, windows_of, telescopes_of, targets_of}
 use Rattle.plan_base.specs.Snapshot.{IsOrderly}
 use Rattle.plan_base.specs.Starts.{slices_for, site_of, IsPossibleStart}
-use Rattle.plan_base.specs.BySpans.{HasAll, usable_of, IsVisibleThrough, IsPossibleBySpans}
+use Rattle.plan_base.specs.BySpans.{OneHasAll, usable_of, IsVisibleThrough, IsPossibleBySpans}
 use Rattle.plan_base.specs.Skies.{IsSkyOf}
 use Rattle.plan_base.proofs.Known.{IsListedAs, known_or_is}
 use Rattle.plan_base.proofs.Members.{listed_known, listed_as}
@@ -59,8 +59,8 @@ record IsAlike (was s : Parts) (p : Placement) : Type 0 where
   windows : windows_of was p.request.0 ≡ windows_of s p.request.0
   telescopes : telescopes_of was p.request.0 ≡ telescopes_of s p.request.0
   targets : targets_of was p.request.0 ≡ targets_of s p.request.0
-  usable : HasAll (usable_of was p.telescope.0) (p.slice.0 * s.len) (p.slice.0 * s.len + seconds_of s p.request.0)
-      → HasAll (usable_of s p.telescope.0) (p.slice.0 * s.len) (p.slice.0 * s.len + seconds_of s p.request.0)
+  usable : OneHasAll (usable_of was p.telescope.0) (p.slice.0 * s.len) (p.slice.0 * s.len + seconds_of s p.request.0)
+      → OneHasAll (usable_of s p.telescope.0) (p.slice.0 * s.len) (p.slice.0 * s.len + seconds_of s p.request.0)
   visible : All (λ target. IsVisibleThrough was target.0 (site_of was p.telescope.0) (p.slice.0 * s.len) (p.slice.0 * s.len + seconds_of s p.request.0)
       → IsVisibleThrough s target.0 (site_of s p.telescope.0) (p.slice.0 * s.len) (p.slice.0 * s.len + seconds_of s p.request.0)) (targets_of s p.request.0)
 
@@ -79,8 +79,8 @@ moved was s p o known (begins, ends) alike possible =
       able = subst (λ (ts : List TelescopeNo). Contains ts p.telescope) alike.telescopes spans.able;
       begins = begins;
       ends = ends;
-      window = subst (λ (ws : List Span). HasAll ws (k * s.len) (k * s.len + d)) alike.windows (at (HasAll (windows_of was p.request.0)) spans.window);
-      usable = alike.usable (at (HasAll (usable_of was p.telescope.0)) spans.usable);
+      window = subst (λ (ws : List Span). OneHasAll ws (k * s.len) (k * s.len + d)) alike.windows (at (OneHasAll (windows_of was p.request.0)) spans.window);
+      usable = alike.usable (at (OneHasAll (usable_of was p.telescope.0)) spans.usable);
       visible = λ i t l. alike.visible i t l (at (λ a b. IsVisibleThrough was (slice_index_or (targets_of s p.request.0) i t).0 (site_of was p.telescope.0) a b) (seen i t l));
     })
 
@@ -184,8 +184,8 @@ steady_telescope was s t times before now shared l at m here site same =
       usable = λ a b first second.
           let within = shared a b first second in
           let each = same a b first.some within.0 within.1 in (
-            λ has. subst (λ (xs : List Span). HasAll xs a b) (sym theirs) (each.0 (subst (λ (xs : List Span). HasAll xs a b) mine has)),
-            λ has. subst (λ (xs : List Span). HasAll xs a b) (sym mine) (each.1 (subst (λ (xs : List Span). HasAll xs a b) theirs has)),
+            λ has. subst (λ (xs : List Span). OneHasAll xs a b) (sym theirs) (each.0 (subst (λ (xs : List Span). OneHasAll xs a b) mine has)),
+            λ has. subst (λ (xs : List Span). OneHasAll xs a b) (sym mine) (each.1 (subst (λ (xs : List Span). OneHasAll xs a b) theirs has)),
           );
     }
 

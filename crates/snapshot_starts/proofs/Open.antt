@@ -9,7 +9,7 @@ use Rattle.plan_base.specs.declared.number.TelescopeNo.{TelescopeNo}
 use Rattle.plan_base.specs.declared.span.Span.{Span}
 use Rattle.plan_base.specs.Snapshot.{IsSortedApart, IsOrderly}
 use Rattle.plan_base.specs.Starts.{site_of}
-use Rattle.plan_base.specs.BySpans.{HasAll, usable_of, IsVisibleThrough}
+use Rattle.plan_base.specs.BySpans.{OneHasAll, usable_of, IsVisibleThrough}
 use Rattle.snapshot_starts.specs.Pairs.{IsTimely, IsOpen, CanStart}
 
 pub usable_is : (s : Parts) (t : ℕ) (part : TelescopePart) → t < length s.telescopes → HoldsAt (λ x. x ≡ part) s.telescopes t → usable_of s t ≡ part.usable
@@ -26,7 +26,7 @@ pub no_telescope : (s : Parts) (q : RequestPart) (t : TelescopeNo) (k : ℕ) →
 no_telescope s q t k past can =
     let count : length (map (λ y. y.usable) s.telescopes) ≡ length s.telescopes = length-map s.telescopes (λ y. y.usable) in
     let none : usable_of s t.0 ≡ [] = get_or_past (map (λ y. y.usable) s.telescopes) t.0 [] (omega arith) in
-    let has : HasAll [] (k * s.len) (k * s.len + q.seconds) = subst (λ (spans : List Span). HasAll spans (k * s.len) (k * s.len + q.seconds)) none can.usable in
+    let has : OneHasAll [] (k * s.len) (k * s.len + q.seconds) = subst (λ (spans : List Span). OneHasAll spans (k * s.len) (k * s.len + q.seconds)) none can.usable in
     let bad : has.0 < 0 = has.2 in
     absurd (omega arith)
 
@@ -35,14 +35,14 @@ pub open_can : (s : Parts) (q : RequestPart) (t : TelescopeNo) (k : ℕ) (part :
 open_can s q t k part l at able timely is_open = record {
   able = able;
   timely = timely;
-  usable = subst (λ (spans : List Span). HasAll spans (k * s.len) (k * s.len + q.seconds)) (sym (usable_is s t.0 part l at)) is_open.usable;
+  usable = subst (λ (spans : List Span). OneHasAll spans (k * s.len) (k * s.len + q.seconds)) (sym (usable_is s t.0 part l at)) is_open.usable;
   visible = subst (λ (site : ℕ). All (λ target. IsVisibleThrough s target.0 site (k * s.len) (k * s.len + q.seconds)) q.targets) (sym (site_is s t.0 part l at)) is_open.visible;
 }
 
 pub can_open : (s : Parts) (q : RequestPart) (t : TelescopeNo) (k : ℕ) (part : TelescopePart) → t.0 < length s.telescopes → HoldsAt (λ x. x ≡ part) s.telescopes t.0
     → CanStart s q t k → IsOpen s part q.targets (k * s.len) (k * s.len + q.seconds)
 can_open s q t k part l at can = record {
-  usable = subst (λ (spans : List Span). HasAll spans (k * s.len) (k * s.len + q.seconds)) (usable_is s t.0 part l at) can.usable;
+  usable = subst (λ (spans : List Span). OneHasAll spans (k * s.len) (k * s.len + q.seconds)) (usable_is s t.0 part l at) can.usable;
   visible = subst (λ (site : ℕ). All (λ target. IsVisibleThrough s target.0 site (k * s.len) (k * s.len + q.seconds)) q.targets) (site_is s t.0 part l at) can.visible;
 }
 

@@ -10,7 +10,7 @@ use Rattle.plan_base.specs.declared.claim.Placement.{Placement}
 use Rattle.plan_base.specs.Requests.{Listed, listed, place_of, IsKnown, seconds_of, windows_of, telescopes_of, targets_of}
 use Rattle.plan_base.specs.Snapshot.{IsOrderly}
 use Rattle.plan_base.specs.Starts.{slices_for, site_of, IsPossibleStart}
-use Rattle.plan_base.specs.BySpans.{HasAll, usable_of, IsVisibleThrough, IsPossibleBySpans}
+use Rattle.plan_base.specs.BySpans.{OneHasAll, usable_of, IsVisibleThrough, IsPossibleBySpans}
 use Rattle.plan_base.proofs.Known.{known_as, known_or_is}
 use Rattle.plan_base.proofs.SpanStarts.{by_spans_from_possible, possible_from_by_spans}
 use Rattle.snapshot_starts.specs.Pairs.{CanStart}
@@ -40,8 +40,8 @@ record Fits (s : Parts) (d : ℕ) (windows : List Span) (telescopes : List Teles
   able : Contains telescopes t
   begins : s.first.0 ≤ k
   ends : k + slices_for s.len d ≤ s.first.0 + s.slices
-  window : HasAll windows (k * s.len) (k * s.len + d)
-  usable : HasAll (usable_of s t.0) (k * s.len) (k * s.len + d)
+  window : OneHasAll windows (k * s.len) (k * s.len + d)
+  usable : OneHasAll (usable_of s t.0) (k * s.len) (k * s.len + d)
   visible : All (λ target. IsVisibleThrough s target.0 (site_of s t.0) (k * s.len) (k * s.len + d)) targets
 
 fits_can : (s : Parts) (q : RequestPart) (t : TelescopeNo) (k : ℕ) → Fits s q.seconds q.windows q.telescopes q.targets t k → CanStart s q t k

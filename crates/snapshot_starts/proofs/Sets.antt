@@ -9,7 +9,7 @@ use Rattle.std.proofs.lemmas.List.{take_more}
 use Rattle.std.proofs.lemmas.List.Elements.{Contains-append_left, Contains-push, Contains-push_cases}
 use Rattle.std.proofs.lemmas.List.Folds.{list_any-append}
 use Rattle.plan_base.specs.declared.span.Span.{Span}
-use Rattle.plan_base.specs.BySpans.{HasAll}
+use Rattle.plan_base.specs.BySpans.{OneHasAll}
 use Rattle.interval_set.specs.Spans.{span_has, has, IsSetOf, IsMeet, IsSortedApart}
 use Rattle.snapshot_starts.specs.Slices.{AreSlices, AreSlicesIn, LiesIn}
 
@@ -46,7 +46,7 @@ any_cases P xs x (k, y, l, e, p) = elim (Contains-push_cases xs x y (k, l, e)) [
 
 -- the slices of the spans so far
 pub record AreSlicesOf (len d : ℕ) (spans slices : List Span) : Type 0 where
-  pub each : (k : ℕ) → IsTrue (has slices k) ↔ HasAll spans (k * len) (k * len + d)
+  pub each : (k : ℕ) → IsTrue (has slices k) ↔ OneHasAll spans (k * len) (k * len + d)
 
 pub no_slices_yet : (len d : ℕ) → AreSlicesOf len d [] []
 no_slices_yet len d = record { each = λ k. (λ yes. absurd (false≢true yes), λ has. absurd (omega (arith, has.2))) }

@@ -27,6 +27,7 @@ pub record IsRunSpan (w : Span) : Type 0 where
   pub some : w.from.0 < w.to.0
   pub below : w.to.0 < 2 ^ 32
 
+-- all spans of all pairs are so
 abbrev pub AreRunSpans : List PairSlices → Type 0
 AreRunSpans found = All (λ x. All IsRunSpan x.slices) found
 

@@ -10,7 +10,7 @@ use Rattle.plan_base.specs.declared.number.TargetNo.{TargetNo}
 use Rattle.plan_base.specs.declared.number.SiteNo.{SiteNo}
 use Rattle.plan_base.specs.Requests.{listed, place_of, IsKnown, seconds_of, windows_of, telescopes_of, targets_of}
 use Rattle.plan_base.specs.Starts.{slices_for, site_of}
-use Rattle.plan_base.specs.BySpans.{HasAll, usable_of, IsVisibleThrough}
+use Rattle.plan_base.specs.BySpans.{OneHasAll, usable_of, IsVisibleThrough}
 use Rattle.snapshot_starts.specs.declared.steady.SkyKey.{SkyKey}
 use Rattle.snapshot_starts.specs.declared.steady.Steady.{Steady}
 use Rattle.snapshot_starts.specs.Runs.{AreAllStarts}
@@ -41,7 +41,7 @@ AreShared was s times = (a b : ℕ) → IsInHorizon was a b → IsInHorizon s a 
 
 -- within the times, whatever lies inside one of the spans of xs lies inside one of ys, and the other way round
 abbrev pub IsSameWithin : Span → List Span → List Span → Type 0
-IsSameWithin times xs ys = (a b : ℕ) → a < b → times.from.0 ≤ a → b ≤ times.to.0 → HasAll xs a b ↔ HasAll ys a b
+IsSameWithin times xs ys = (a b : ℕ) → a < b → times.from.0 ≤ a → b ≤ times.to.0 → OneHasAll xs a b ↔ OneHasAll ys a b
 
 -- the snapshot had the request of this number with the same times, telescopes and targets
 pub record IsAskedAlike (was : Parts) (q : RequestPart) : Type 0 where
@@ -53,7 +53,7 @@ pub record IsAskedAlike (was : Parts) (q : RequestPart) : Type 0 where
 
 -- within the times, the target was visible from the site when it is
 pub record IsSeenAlike (was : Parts) (sky : Sky) (times : Span) : Type 0 where
-  pub each : (a b : ℕ) → a < b → times.from.0 ≤ a → b ≤ times.to.0 → IsVisibleThrough was sky.target.0 sky.site.0 a b ↔ HasAll sky.spans a b
+  pub each : (a b : ℕ) → a < b → times.from.0 ≤ a → b ≤ times.to.0 → IsVisibleThrough was sky.target.0 sky.site.0 a b ↔ OneHasAll sky.spans a b
 
 -- both snapshots ask for the request alike, in slices that are as long
 pub record IsSteadyRequest (was s : Parts) (r : ℕ) : Type 0 where
@@ -67,12 +67,13 @@ pub record IsSteadyRequest (was s : Parts) (r : ℕ) : Type 0 where
 -- the telescope stands where it stood, and can observe when it could
 pub record IsSteadyTelescope (was s : Parts) (t : ℕ) : Type 0 where
   pub site : site_of was t ≡ site_of s t
-  pub usable : AgreeIn was s (HasAll (usable_of was t)) (HasAll (usable_of s t))
+  pub usable : AgreeIn was s (OneHasAll (usable_of was t)) (OneHasAll (usable_of s t))
 
 -- the target is visible from the site when it was
 abbrev pub IsSteadySky : Parts → Parts → SkyKey → Type 0
 IsSteadySky was s key = AgreeIn was s (IsVisibleThrough was key.target.0 key.site.0) (IsVisibleThrough s key.target.0 key.site.0)
 
+-- the key of the sky of a target at a site
 abbrev pub sky_key : TargetNo → SiteNo → SkyKey
 sky_key target site = record { target = target; site = site }
 

@@ -9,7 +9,7 @@ use Rattle.plan_base.specs.declared.number.TargetNo.{TargetNo}
 use Rattle.plan_base.specs.declared.claim.Placement.{Placement}
 use Rattle.plan_base.specs.Requests.{listed}
 use Rattle.plan_base.specs.Starts.{slices_for, site_of, IsPossibleStart}
-use Rattle.plan_base.specs.BySpans.{HasAll, usable_of, IsVisibleThrough}
+use Rattle.plan_base.specs.BySpans.{OneHasAll, usable_of, IsVisibleThrough}
 use Rattle.interval_set.specs.Spans.{has, IsSortedApart}
 use Rattle.snapshot_starts.specs.declared.pair.Pair.{Pair}
 use Rattle.snapshot_starts.specs.declared.pair.PairSlices.{PairSlices}
@@ -18,18 +18,18 @@ use Rattle.snapshot_starts.specs.declared.pair.PairSlices.{PairSlices}
 pub record IsTimely (s : Parts) (q : RequestPart) (k : ℕ) : Type 0 where
   pub begins : s.first.0 ≤ k
   pub ends : k + slices_for s.len q.seconds ≤ s.first.0 + s.slices
-  pub window : HasAll q.windows (k * s.len) (k * s.len + q.seconds)
+  pub window : OneHasAll q.windows (k * s.len) (k * s.len + q.seconds)
 
 -- all seconds from a to the one before b the telescope is usable, and sees all targets
 pub record IsOpen (s : Parts) (telescope : TelescopePart) (targets : List TargetNo) (a b : ℕ) : Type 0 where
-  pub usable : HasAll telescope.usable a b
+  pub usable : OneHasAll telescope.usable a b
   pub visible : All (λ target. IsVisibleThrough s target.0 telescope.site.0 a b) targets
 
 -- the request may start on telescope t, which is one of its own, at slice k
 pub record CanStart (s : Parts) (q : RequestPart) (t : TelescopeNo) (k : ℕ) : Type 0 where
   pub able : Contains q.telescopes t
   pub timely : IsTimely s q k
-  pub usable : HasAll (usable_of s t.0) (k * s.len) (k * s.len + q.seconds)
+  pub usable : OneHasAll (usable_of s t.0) (k * s.len) (k * s.len + q.seconds)
   pub visible : All (λ target. IsVisibleThrough s target.0 (site_of s t.0) (k * s.len) (k * s.len + q.seconds)) q.targets
 
 -- the start of the pair's request on its telescope at slice k

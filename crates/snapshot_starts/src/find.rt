@@ -18,7 +18,8 @@ use std::thread::Threads;
 
 /// All possible starts of a snapshot, each once, in the order of request, telescope and slice. It costs each request
 /// on each of its telescopes the spans of its windows, of the telescope and of the skies of its targets, but no step
-/// for each slice.
+/// for each slice. Fails with [`StartFault::TooManyStarts`] where there are more than 1,048,576, with their exact count, and
+/// for want of memory.
 pub fn starts<R: Threads + Sync>(
     rt: &R,
     alloc: Global,

@@ -19,8 +19,8 @@ use std::alloc::{AllocError, Global};
 const MOST_TRIED: u64 = 16;
 
 /// The slices at which the request may start on the telescope, where all that its starts depend on is as it was: those
-/// that it had and that are still within the horizon, and those that the horizon has gained. Where it has gained many, all
-/// are found anew. Fails only for want of memory.
+/// that it had and that are still within the horizon, and those that the horizon has gained. Where it begins earlier than it
+/// did, or has gained more than `MOST_TRIED`, all are found anew. Fails only for want of memory.
 pub(crate) fn mended_slices(
     alloc: Global,
     held: &Held,

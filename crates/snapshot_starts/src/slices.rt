@@ -3,7 +3,7 @@
 ghost use Rattle.std.specs.Prelude.{ℕ, ◌+◌, ◌*◌, ◌≤◌, ◌<◌, ◌↔◌, IsTrue, IfOk, All};
 ghost use Rattle.plan_base.specs.Limits.{most_seconds, least_len};
 ghost use Rattle.plan_base.specs.Snapshot.{IsOrderly, IsSortedApart};
-ghost use Rattle.plan_base.specs.BySpans.{HasAll, IsVisibleThrough};
+ghost use Rattle.plan_base.specs.BySpans.{OneHasAll, IsVisibleThrough};
 ghost use Rattle.interval_set.specs.Spans.{has};
 ghost use Rattle.snapshot_starts.specs.Slices.{AreSlices, AreSlicesIn, IsHorizonFor};
 ghost use Rattle.snapshot_starts.specs.Pairs.{IsTimely, IsOpen, CanStart};
@@ -48,7 +48,7 @@ fn end_slice(len: u32, seconds: u32, to: u64) -> u64
 /// The slices at which an observation begins that lies inside one of the spans.
 fn slices_in_any(alloc: Global, len: u32, seconds: u32, spans: &[Span]) -> Result<Spans, AllocError>
     requires { least_len ≤ len }
-    ensures { IfOk result (AreSlices (λ k. HasAll spans.now (k * len) (k * len + seconds))) }
+    ensures { IfOk result (AreSlices (λ k. OneHasAll spans.now (k * len) (k * len + seconds))) }
 {
     let mut slices = Vec::with_capacity(alloc, spans.len())?;
     for span in spans {

@@ -17,9 +17,11 @@ use Rattle.workload.specs.Requests.{requests_from}
 
 -- ---- requests and groups
 
+-- one exposure of so many milliseconds
 abbrev pub exposure_data : ℕ → Data
 exposure_data ms = object_of (given member.ExposureTimeMs (whole ms) ∷ given member.ExposureCount (whole 1) ∷ [])
 
+-- one exposure of so many milliseconds of a target, with the instrument type of a class
 abbrev pub configuration_data : Class → ℕ → ℕ → Data
 configuration_data class target ms =
     object_of
@@ -28,12 +30,15 @@ configuration_data class target ms =
     ∷ given member.InstrumentConfigs (list_of exposure_data (ms ∷ []))
     ∷ [])
 
+-- a window by its first second and the one after its last
 abbrev pub window_data : ℕ → ℕ → Data
 window_data start end = object_of (given member.Start (whole start) ∷ given member.End (whole end) ∷ [])
 
+-- any telescope of a class, at any site
 abbrev pub location_data : Class → Data
 location_data class = object_of (given member.TelescopeClass (string (class_name class)) ∷ [])
 
+-- a request with one window and one configuration, and neither a threshold nor a fade
 abbrev pub request_data : Request → Data
 request_data r =
     object_of
@@ -56,6 +61,7 @@ group_data group op priority requests =
 
 -- ---- the lines
 
+-- `[from,to]`
 abbrev pub span_data : Span → Data
 span_data span = list_of whole (span.from.0 ∷ span.to.0 ∷ [])
 
@@ -65,6 +71,7 @@ asking word members = object_of (given member.Do (string word) ∷ members)
 
 -- Each of these unfolds only where it is asked, so that proofs about one line don't see the others.
 
+-- `open`, at second 0: 144 slices of 300 seconds, a semester of 180 days, 4 lanes of 32 rounds, so many workers, and no quota
 unfoldable pub open_data : ℕ → Data
 open_data workers =
     asking (codes "open")
@@ -77,6 +84,7 @@ open_data workers =
     ∷ given member.Workers (whole workers)
     ∷ [])
 
+-- `instrument`, that of a class: 90 seconds at the front, 16 a configuration, 28 a readout, 2 a change
 unfoldable pub instrument_data : Class → Data
 instrument_data class =
     asking (codes "instrument")
@@ -87,6 +95,7 @@ instrument_data class =
     ∷ given member.ChangeMs (whole 2000)
     ∷ [])
 
+-- `telescope`, the one of a class at a site, which carries the instrument type of its class
 unfoldable pub telescope_data : ℕ → Class → Data
 telescope_data site class =
     asking (codes "telescope")
@@ -101,6 +110,7 @@ telescope_data site class =
 abbrev pub night_of : ℕ → Span
 night_of site = record { from = record { 0 = 3600 * site }; to = record { 0 = 3600 * site + 28800 } }
 
+-- `night`, at a site, of one span
 unfoldable pub night_line : ℕ → Span → Data
 night_line site night =
     asking (codes "night")
@@ -108,6 +118,7 @@ night_line site night =
     ∷ given member.Spans (list_of span_data (night ∷ []))
     ∷ [])
 
+-- `night`, at a site, of the 8 hours that begin with the hour of its number
 abbrev pub night_data : ℕ → Data
 night_data site = night_line site (night_of site)
 
@@ -115,6 +126,7 @@ night_data site = night_line site (night_of site)
 abbrev pub sky_from : ℕ → Span
 sky_from x = let from = 300 * draw x 0 96 in record { from = record { 0 = from }; to = record { 0 = from + 10800 + 300 * draw x 1 24 } }
 
+-- `visibility`, of a target at a site, of one span
 unfoldable pub sky_line : ℕ → ℕ → Span → Data
 sky_line target site sky =
     asking (codes "visibility")
@@ -123,9 +135,11 @@ sky_line target site sky =
     ∷ given member.Spans (list_of span_data (sky ∷ []))
     ∷ [])
 
+-- `visibility`, of a target at a site, of the span that is drawn from x on
 abbrev pub visibility_data : ℕ → ℕ → ℕ → Data
 visibility_data target site x = sky_line target site (sky_from x)
 
+-- `grant`, a million seconds on the standard account of a proposal for the instrument type of a class
 unfoldable pub grant_data : ℕ → Class → Data
 grant_data proposal class =
     asking (codes "grant")
@@ -135,6 +149,7 @@ grant_data proposal class =
     ∷ given member.Seconds (whole 1000000)
     ∷ [])
 
+-- `submit`, of a group of this number, with this kind, priority and requests
 unfoldable pub group_line : ℕ → Op → ℕ → List Request → Data
 group_line group op priority requests = asking (codes "submit") (given member.Group (group_data group op priority requests) ∷ [])
 
@@ -144,6 +159,7 @@ submit_data group x =
     let shape = shape_of group in
     group_line group shape.0 (1 + draw x 0 30) (requests_from (number_after x 1) shape.1)
 
+-- `plan`, which has no further member
 unfoldable pub plan_data : Data
 plan_data = asking (codes "plan") []
 

@@ -31,10 +31,11 @@ line_at number workers place = text_of (document_at number workers place)
 abbrev pub workload_lines : ℕ → ℕ → List (List ℕ)
 workload_lines number workers = map (line_at number workers) (range_with_len 0 (length subjects))
 
--- the line that a workload gives next, if there is one, and the workload after that
+-- the line that a workload gives next, if there is one
 abbrev pub line_next : WorkloadSeen → Option (List ℕ)
 line_next w = slice_get (workload_lines w.number w.workers) w.given
 
+-- the workload once it has given its next line, or as it is where none is left
 abbrev pub one_given : WorkloadSeen → WorkloadSeen
 one_given w = record w { given = min (w.given + 1) (length subjects) }
 

@@ -8,6 +8,7 @@ use Rattle.workload.specs.declared.class.Class.TheVariants.{OneMetre, FortyCenti
 use Rattle.workload.specs.declared.subject.Subject.{Subject}
 use Rattle.workload.specs.declared.subject.Subject.TheVariants.{Open, Instrument, Telescope, Night, Visibility, Grant, Submit, Plan}
 
+-- the classes of telescopes, of each of which each site has one telescope
 abbrev pub classes : List Class
 classes = OneMetre ∷ FortyCentimetres ∷ []
 
@@ -32,6 +33,7 @@ subjects =
 abbrev pub shape_at : ℕ → Op × ℕ
 shape_at rest = if nat_lt rest 4 then (Single, 1) else (if rest == 4 then (Many, 3) else (if rest == 5 then (OneOf, 3) else (And, 2)))
 
+-- the same by a group's number
 abbrev pub shape_of : ℕ → Op × ℕ
 shape_of group = shape_at (group % 7)
 

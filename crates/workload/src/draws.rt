@@ -3,7 +3,8 @@
 ghost use Rattle.std.specs.Prelude.{◌≡◌, ◌<◌};
 ghost use Rattle.workload.specs.Generator.{next_number, drawn_at};
 
-/// The generator: a number, which each draw replaces by the next.
+/// The generator, a linear congruential one modulo 2^64 with the constants of Knuth's MMIX: a number, which each draw replaces
+/// by the next, to take its upper 31 bits.
 #[derive(Drop)]
 pub(crate) struct Draws {
     pub x: u64,

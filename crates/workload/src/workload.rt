@@ -35,7 +35,8 @@ impl Model for Workload {
 }
 
 impl Workload {
-    /// The workload of a number, whose desk seeks its plan with so many workers. It takes no memory.
+    /// The workload of a number, whose desk seeks its plan with so many workers, 1 to 8; with others its `open` line is
+    /// refused. It takes no memory.
     pub fn new(number: u32, workers: u32) -> Self
         ensures { result ≡ record { number = number; workers = workers; given = 0 } }
     {

@@ -2,7 +2,7 @@ use Rattle.std.proofs.Common.{◌≡◌, ◌+◌, ◌*◌, slice_index_or, take,
 use Rattle.std.proofs.lemmas.List.{get_or_default, take_all}
 use Rattle.std.proofs.lemmas.Result.{IfOk-weaker}
 use Rattle.plan_base.specs.declared.span.Span.{Span}
-use Rattle.plan_base.specs.BySpans.{HasAll}
+use Rattle.plan_base.specs.BySpans.{OneHasAll}
 use Rattle.snapshot_starts.proofs.Begun.{nothing}
 use Rattle.snapshot_starts.proofs.Sets.{AreSlicesOf, slices_at, set_slices}
 use Rattle.snapshot_starts.proofs.slices.slices_in_any.Goals as goal
@@ -20,4 +20,4 @@ returns c =
     let d = c.args.seconds in
     let whole : take c.loop-span.span-index c.args.spans.now ≡ c.args.spans.now = take_all c.loop-span.span-index c.args.spans.now (omega (arith, c.loop-span-test.false)) in
     let all : AreSlicesOf len d c.args.spans.now c.as_slice.result.now = subst (AreSlicesOf len d c.args.spans.now) (sym c.as_slice.ensures.value) (subst (λ (spans : List Span). AreSlicesOf len d spans c.loop-span.slices.items) whole c.loop-span.invariant) in
-    IfOk-weaker c.from_list.result _ _ (λ set is. set_slices (λ k. HasAll c.args.spans.now (k * len) (k * len + d)) c.as_slice.result.now set all.each is) c.from_list.ensures
+    IfOk-weaker c.from_list.result _ _ (λ set is. set_slices (λ k. OneHasAll c.args.spans.now (k * len) (k * len + d)) c.as_slice.result.now set all.each is) c.from_list.ensures
