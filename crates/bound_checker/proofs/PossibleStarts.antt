@@ -11,12 +11,12 @@ use Rattle.plan_base.specs.declared.claim.Placement.{Placement}
 use Rattle.plan_base.specs.declared.number.TelescopeNo.{TelescopeNo}
 use Rattle.plan_base.specs.declared.number.TargetNo.{TargetNo}
 use Rattle.plan_base.specs.Requests.{IsKnown, seconds_of, windows_of, telescopes_of, targets_of}
-use Rattle.plan_base.specs.Skies.{IsSkyBelow}
+use Rattle.plan_base.specs.Skies.{IsSkyOf, IsSkyBelow}
 use Rattle.plan_base.specs.Snapshot.{IsOrderly}
 use Rattle.plan_base.specs.Starts.{size_of, slices_for, start_second, end_second, site_of, IsPossibleStart}
-use Rattle.plan_base.specs.BySpans.{HasAll, usable_of, IsVisibleThrough, IsPossibleBySpans}
+use Rattle.plan_base.specs.BySpans.{OneHasAll, usable_of, IsVisibleThrough, IsPossibleBySpans}
 use Rattle.plan_base.proofs.SpanStarts.{by_spans_from_possible, possible_from_by_spans}
-use Rattle.bound_checker.specs.Claims.{IsRequestOf, IsSkyOf, CanObserve}
+use Rattle.bound_checker.specs.Claims.{IsRequestOf, CanObserve}
 
 -- what the tests find of a placement of the request q
 pub record PassesTests (s : Parts) (p : Placement) (q : RequestPart) (a b : ℕ) : Type 0 where
@@ -38,7 +38,7 @@ module _ (s : Parts) (p : Placement) (q : RequestPart) (a b : ℕ) (known : IsKn
         able = subst (λ (ts : List TelescopeNo). Contains ts p.telescope) (sym is.telescopes) h.able;
         begins = h.begins;
         ends = subst (λ (n : ℕ). p.slice.0 + slices_for s.len n ≤ s.first.0 + s.slices) (sym is.seconds) h.ends;
-        window = subst (λ (ws : List Span). HasAll ws (start_second s p) (end_second s p)) (sym is.windows) observed.window;
+        window = subst (λ (ws : List Span). OneHasAll ws (start_second s p) (end_second s p)) (sym is.windows) observed.window;
         usable = observed.usable;
         visible = subst (λ (ts : List TargetNo). All (λ target. IsVisibleThrough s target.0 (site_of s p.telescope.0) (start_second s p) (end_second s p)) ts) (sym is.targets) observed.visible;
       }
@@ -47,7 +47,7 @@ module _ (s : Parts) (p : Placement) (q : RequestPart) (a b : ℕ) (known : IsKn
   tests_from_possible o possible =
       let h = by_spans_from_possible s p o possible in
       let observed : CanObserve s q p.telescope.0 (start_second s p) (end_second s p) = record {
-        window = subst (λ (ws : List Span). HasAll ws (start_second s p) (end_second s p)) is.windows h.window;
+        window = subst (λ (ws : List Span). OneHasAll ws (start_second s p) (end_second s p)) is.windows h.window;
         usable = h.usable;
         visible = subst (λ (ts : List TargetNo). All (λ target. IsVisibleThrough s target.0 (site_of s p.telescope.0) (start_second s p) (end_second s p)) ts) is.targets h.visible;
       } in
@@ -77,14 +77,14 @@ one_sky skies target site i j d rise l m a b = elim (below_same_above i j) [
 
 -- what is visible through a sky is so through the one at this place
 pub seen_in_sky : (skies : List Sky) (target site a b place : ℕ) (sky : Sky) → AllPairs IsSkyBelow skies → place < length skies → HoldsAt (IsSkyOf target site) skies place → sky ≡ slice_index_or skies place sky
-    → Any (λ y. (y.target.0 ≡ target) × (y.site.0 ≡ site) × HasAll y.spans a b) skies → HasAll sky.spans a b
+    → Any (λ y. (y.target.0 ≡ target) × (y.site.0 ≡ site) × OneHasAll y.spans a b) skies → OneHasAll sky.spans a b
 seen_in_sky skies target site a b place sky rise l of at (k, y, m, there, (t, st, all)) =
     let same : k ≡ place = one_sky skies target site k place y rise m l (subst (IsSkyOf target site) (sym there) (t, st)) (of y) in
     let sky_is : y ≡ sky = sym there ∙ ap (λ (i : ℕ). slice_index_or skies i y) same ∙ get_or_default skies place y sky l ∙ sym at in
-    subst (λ (z : Sky). HasAll z.spans a b) sky_is all
+    subst (λ (z : Sky). OneHasAll z.spans a b) sky_is all
 
 pub sky_has : (skies : List Sky) (target site a b place : ℕ) (sky : Sky) → place < length skies → HoldsAt (IsSkyOf target site) skies place → sky ≡ slice_index_or skies place sky
-    → HasAll sky.spans a b → Any (λ y. (y.target.0 ≡ target) × (y.site.0 ≡ site) × HasAll y.spans a b) skies
+    → OneHasAll sky.spans a b → Any (λ y. (y.target.0 ≡ target) × (y.site.0 ≡ site) × OneHasAll y.spans a b) skies
 sky_has skies target site a b place sky l of at all = let own : IsSkyOf target site sky = subst (IsSkyOf target site) (sym at) (of sky) in (place, sky, l, sym at, (own.0, own.1, all))
 
 -- what the tests look at is what the snapshot has of the request and the telescope
@@ -102,18 +102,18 @@ module _ (s : Parts) (q : RequestPart) (t : ℕ) (part : TelescopePart) (windows
   site_is : part.site.0 ≡ site_of s t
   site_is = ap (λ (y : TelescopePart). y.site.0) looks.part_is ∙ sym (get_or-map (λ y. y.site.0) s.telescopes t part 0 looks.within)
 
-  pub observe_when : HasAll windows a b → HasAll usable a b → All (λ target. IsVisibleThrough s target.0 part.site.0 a b) targets → CanObserve s q t a b
+  pub observe_when : OneHasAll windows a b → OneHasAll usable a b → All (λ target. IsVisibleThrough s target.0 part.site.0 a b) targets → CanObserve s q t a b
   observe_when w u v = record {
-    window = subst (λ (ws : List Span). HasAll ws a b) looks.windows_are w;
-    usable = subst (λ (ws : List Span). HasAll ws a b) usable_is u;
+    window = subst (λ (ws : List Span). OneHasAll ws a b) looks.windows_are w;
+    usable = subst (λ (ws : List Span). OneHasAll ws a b) usable_is u;
     visible = subst (λ (ts : List TargetNo). All (λ target. IsVisibleThrough s target.0 (site_of s t) a b) ts) looks.targets_are (subst (λ (n : ℕ). All (λ target. IsVisibleThrough s target.0 n a b) targets) site_is v);
   }
 
-  pub window_when : CanObserve s q t a b → HasAll windows a b
-  window_when h = subst (λ (ws : List Span). HasAll ws a b) (sym looks.windows_are) h.window
+  pub window_when : CanObserve s q t a b → OneHasAll windows a b
+  window_when h = subst (λ (ws : List Span). OneHasAll ws a b) (sym looks.windows_are) h.window
 
-  pub usable_when : CanObserve s q t a b → HasAll usable a b
-  usable_when h = subst (λ (ws : List Span). HasAll ws a b) (sym usable_is) h.usable
+  pub usable_when : CanObserve s q t a b → OneHasAll usable a b
+  usable_when h = subst (λ (ws : List Span). OneHasAll ws a b) (sym usable_is) h.usable
 
   pub visible_when : CanObserve s q t a b → All (λ target. IsVisibleThrough s target.0 part.site.0 a b) targets
   visible_when h =

@@ -14,7 +14,7 @@ use Rattle.plan_base.specs.declared.claim.Placement.{Placement}
 use Rattle.plan_base.specs.Requests.{IsKnown, seconds_of, windows_of, telescopes_of, targets_of}
 use Rattle.plan_base.specs.Snapshot.{IsMoment, IsSortedApart, IsOrderly}
 use Rattle.plan_base.specs.Starts.{slices_for, size_of, start_second, end_second, site_of, IsPossibleStart}
-use Rattle.plan_base.specs.BySpans.{HasAll, usable_of, IsVisibleThrough, IsPossibleBySpans}
+use Rattle.plan_base.specs.BySpans.{OneHasAll, usable_of, IsVisibleThrough, IsPossibleBySpans}
 use Rattle.plan_base.proofs.SpanStarts.{by_spans_from_possible, possible_from_by_spans}
 use Rattle.bound_checker.specs.declared.worth.Offer.{Offer}
 use Rattle.bound_checker.specs.declared.sight.Sight.{Sight}
@@ -77,9 +77,9 @@ sight_clear s t place q site x o l here sight = record {
 }
 
 -- the same spans and the same seconds
-same_fit : (ws vs : List Span) (a b c d : ℕ) → ws ≡ vs → a ≡ c → b ≡ d → HasAll ws a b → HasAll vs c d
+same_fit : (ws vs : List Span) (a b c d : ℕ) → ws ≡ vs → a ≡ c → b ≡ d → OneHasAll ws a b → OneHasAll vs c d
 same_fit ws vs a b c d e f g h =
-    let moved : HasAll vs a b = subst (λ (us : List Span). HasAll us a b) e h in
+    let moved : OneHasAll vs a b = subst (λ (us : List Span). OneHasAll us a b) e h in
     (moved.0, moved.1, moved.2, moved.3, (let from = moved.4.0 in omega arith, let to = moved.4.1 in omega arith))
 
 below_same_above : (a b : ℕ) → ((a < b) ⊎ (b < a)) ⊎ (a ≡ b)

@@ -12,9 +12,9 @@ use Rattle.plan_base.proofs.RowTables.{first_entry_best}
 use Rattle.plan_base.proofs.Sizes.{start_size_above}
 use Rattle.plan_base.proofs.Limits.{weight_between}
 use Rattle.bound_checker.specs.declared.table.Start.{Start}
-use Rattle.plan_base.specs.Tables.{entry, row}
+use Rattle.plan_base.specs.Tables.{entry, row, IsStartOn}
 use Rattle.bound_checker.specs.Tables.{IsWeight, gain, IsFitting, DoRowsFit, IsGreatestAt, IsRecursion}
-use Rattle.bound_checker.specs.Listings.{IsStartOf, IsToldBy, IsListing, IsBefore}
+use Rattle.bound_checker.specs.Listings.{IsToldBy, IsListing, IsBefore}
 use Rattle.bound_checker.proofs.StartRows.{rows_are}
 
 module _ (s : Parts) (prices : List ℤ) (t : ℕ) (rows : List (List Start)) (orderly : IsOrderly s) (range : All IsPriceInRange prices) (listing : IsListing s prices t (IsBefore s (length (listed s))) rows) where

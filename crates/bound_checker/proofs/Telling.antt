@@ -16,10 +16,10 @@ use Rattle.plan_base.proofs.Known.{known_as}
 use Rattle.bound_checker.specs.declared.table.Start.{Start}
 use Rattle.bound_checker.specs.declared.worth.Offer.{Offer}
 use Rattle.bound_checker.specs.declared.sight.Sight.{Sight}
-use Rattle.plan_base.specs.Tables.{row}
+use Rattle.plan_base.specs.Tables.{row, IsStartOn}
 use Rattle.bound_checker.specs.Offers.{IsOffer, offer_weight}
 use Rattle.bound_checker.specs.Sights.{AreViews}
-use Rattle.bound_checker.specs.Listings.{start_in, IsAdded, CanStart, IsStartOf, IsToldBy, IsListing, IsBefore}
+use Rattle.bound_checker.specs.Listings.{start_in, IsAdded, CanStart, IsToldBy, IsListing, IsBefore}
 use Rattle.plan_base.proofs.Here.{IsHere}
 use Rattle.bound_checker.proofs.Seen.{IsSightOf, hidden_never, seen_if_possible, possible_if_seen}
 

@@ -11,7 +11,7 @@ use Rattle.plan_base.specs.Requests.{IsKnown, group_of, seconds_of, request_valu
 use Rattle.plan_base.specs.Snapshot.{IsMoment}
 use Rattle.plan_base.specs.Starts.{site_of}
 use Rattle.plan_base.specs.Feasible.{requests_of, quota_seconds}
-use Rattle.plan_base.specs.BySpans.{HasAll, usable_of, IsVisibleThrough}
+use Rattle.plan_base.specs.BySpans.{OneHasAll, usable_of, IsVisibleThrough}
 
 -- each placement is of a request that the snapshot has
 abbrev pub IsEachKnown : Parts → List Placement → Type 0
@@ -35,14 +35,10 @@ pub record IsRequestInRanges (n : ℕ) (q : RequestPart) : Type 0 where
   pub moments : All (λ w. IsMoment w.from.0) q.windows
   pub telescopes : All (λ t. t.0 < n) q.telescopes
 
--- the sky is that of the target at the site
-abbrev pub IsSkyOf : ℕ → ℕ → Sky → Type 0
-IsSkyOf target site sky = (sky.target.0 ≡ target) × (sky.site.0 ≡ site)
-
 -- from second a to the one before b the request can be observed on telescope t: it lies inside a window and a usable span, and each target is visible
 pub record CanObserve (s : Parts) (q : RequestPart) (t a b : ℕ) : Type 0 where
-  pub window : HasAll q.windows a b
-  pub usable : HasAll (usable_of s t) a b
+  pub window : OneHasAll q.windows a b
+  pub usable : OneHasAll (usable_of s t) a b
   pub visible : All (λ target. IsVisibleThrough s target.0 (site_of s t) a b) q.targets
 
 -- how many placements are of requests of the group at place g

@@ -8,7 +8,7 @@ use Rattle.plan_base.specs.Bound.{weight}
 use Rattle.bound_checker.specs.declared.table.Start.{Start}
 use Rattle.bound_checker.specs.declared.worth.Offer.{Offer}
 use Rattle.bound_checker.specs.declared.sight.Sight.{Sight}
-use Rattle.plan_base.specs.Tables.{row}
+use Rattle.plan_base.specs.Tables.{row, IsStartOn}
 use Rattle.bound_checker.specs.Offers.{offer_weight}
 use Rattle.bound_checker.specs.Sights.{IsInSight}
 
@@ -29,11 +29,6 @@ pub record CanStart (s : Parts) (sight : Sight) (o : Offer) (k : ℕ) : Type 0 w
   pub ends : k + o.size ≤ s.first.0 + s.slices
   pub in_sight : IsInSight sight o.observation k
 
--- a possible start of telescope t
-pub record IsStartOf (s : Parts) (t : ℕ) (p : Placement) : Type 0 where
-  pub possible : IsPossibleStart s p
-  pub same_telescope : p.telescope.0 ≡ t
-
 -- what the row says of the possible start p
 pub record IsToldBy (s : Parts) (prices : List ℤ) (p : Placement) (x : Start) : Type 0 where
   pub gives : x.weight ≡ weight s prices p
@@ -42,8 +37,8 @@ pub record IsToldBy (s : Parts) (prices : List ℤ) (p : Placement) (x : Start) 
 -- row i has possible starts of telescope t at slice i of the horizon, and all of which P holds
 pub record IsListing (s : Parts) (prices : List ℤ) (t : ℕ) (P : Placement → Type 0) (rows : List (List Start)) : Type 0 where
   pub count : length rows ≡ s.slices
-  pub possible : (i : ℕ) (x : Start) → Contains (row rows i) x → (p : Placement) × IsStartOf s t p × (p.slice.0 ≡ s.first.0 + i) × IsToldBy s prices p x
-  pub complete : (p : Placement) → IsStartOf s t p → P p → (x : Start) × Contains (row rows (p.slice.0 - s.first.0)) x × IsToldBy s prices p x
+  pub possible : (i : ℕ) (x : Start) → Contains (row rows i) x → (p : Placement) × IsStartOn s t p × (p.slice.0 ≡ s.first.0 + i) × IsToldBy s prices p x
+  pub complete : (p : Placement) → IsStartOn s t p → P p → (x : Start) × Contains (row rows (p.slice.0 - s.first.0)) x × IsToldBy s prices p x
 
 -- the request of p stands before place n
 abbrev pub IsBefore : Parts → ℕ → Placement → Type 0

@@ -11,6 +11,7 @@ nets_at u [] cs = []
 nets_at u (q ∷ qs) [] = []
 nets_at u (q ∷ qs) (c ∷ cs) = (c -ℤ pos (u * q.seconds)) ∷ nets_at u qs cs
 
+-- the net prices that these are
 abbrev pub net_list : Nets → List ℤ
 net_list x = nets_at x.quota_price x.requests.now x.prices.now
 

@@ -2,7 +2,7 @@
 use Rattle.std.specs.Prelude.{ℕ, ◌+◌, ◌*◌, ◌≤◌, ◌<◌, ◌↔◌, IsTrue, true, if◌then◌else◌, min, List}
 use Rattle.plan_base.specs.Limits.{most_seconds, least_len, most_len}
 use Rattle.plan_base.specs.declared.span.Span.{Span}
-use Rattle.plan_base.specs.BySpans.{HasAll}
+use Rattle.plan_base.specs.BySpans.{OneHasAll}
 use Rattle.bound_checker.specs.declared.stretches.Observation.{Observation}
 use Rattle.bound_checker.specs.declared.stretches.Stretch.{Stretch}
 
@@ -19,7 +19,7 @@ DoesFitIn w o k = (w.from.0 ≤ k * o.len) × (k * o.len + o.seconds ≤ w.to.0)
 
 -- an observation that begins at slice k lies inside one of the spans
 abbrev pub DoesFit : List Span → Observation → ℕ → Type 0
-DoesFit spans o k = HasAll spans (k * o.len) (k * o.len + o.seconds)
+DoesFit spans o k = OneHasAll spans (k * o.len) (k * o.len + o.seconds)
 
 -- P holds of all slices from k to the one before the end of the stretch, or of none of them
 pub record IsStretch (P : ℕ → Type 0) (k : ℕ) (x : Stretch) : Type 0 where

@@ -4,14 +4,15 @@ ghost use Rattle.std.specs.Prelude.{◌≡◌, ◌<◌, ◌≤◌, ◌+◌, ◌*
 ghost use Rattle.plan_base.specs.Limits.{most_seconds};
 ghost use Rattle.plan_base.specs.Requests.{IsKnown};
 ghost use Rattle.plan_base.specs.Starts.{IsPossibleStart, slices_for};
-ghost use Rattle.plan_base.specs.Snapshot.{IsOrderly};
-ghost use Rattle.plan_base.specs.BySpans.{HasAll, IsVisibleThrough};
+ghost use Rattle.plan_base.specs.Snapshot.{IsOrderly, IsSortedApart};
+ghost use Rattle.plan_base.specs.BySpans.{OneHasAll, IsVisibleThrough};
 ghost use Rattle.plan_base.specs.Feasible.{IsEachPossible};
 ghost use Rattle.plan_base.specs.Verdict.{IsFirst, IsNotPossibleAt};
 ghost use Rattle.bound_checker.specs.Claims.{IsEachKnown, CanObserve};
 
 use crate::known::request_of;
 use crate::sight::find_sky;
+use crate::stretches::first_to;
 use plan_base::{
     Parts, Placement, RequestPart, Sec, SiteNo, SliceNo, Snapshot, Span, TargetNo, TelescopeNo,
     slices_for,
@@ -90,17 +91,28 @@ fn can_observe(parts: &Parts, request: &RequestPart, telescope: TelescopeNo, obs
     if !has_all(request.windows.as_slice(), observed) {
         return false;
     }
-    if !has_all(part.usable.as_slice(), observed) {
+    if !has_all_sorted(part.usable.as_slice(), observed) {
         return false;
     }
     are_visible(parts, request.targets.as_slice(), part.site, observed)
 }
 
-/// Whether one of the spans has all of these seconds.
+/// Whether one of the spans, which come in any order, has all of these seconds.
 fn has_all(spans: &[Span], observed: Span) -> bool
-    ensures { IsTrue result ↔ HasAll spans.now observed.from.0 observed.to.0 }
+    ensures { IsTrue result ↔ OneHasAll spans.now observed.from.0 observed.to.0 }
 {
     spans.iter().any(|span| span.from <= observed.from && observed.to <= span.to)
+}
+
+/// Whether one of the spans, which have gaps between them, has all of these seconds.
+fn has_all_sorted(spans: &[Span], observed: Span) -> bool
+    requires { IsSortedApart spans.now }
+    ensures { IsTrue result ↔ OneHasAll spans.now observed.from.0 observed.to.0 }
+{
+    match spans.get(first_to(spans, observed.to.0)) {
+        Some(span) => span.from <= observed.from,
+        None => false,
+    }
 }
 
 /// Whether all targets are visible from the site in these seconds.
@@ -123,7 +135,7 @@ fn is_visible(parts: &Parts, target: TargetNo, site: SiteNo, observed: Span) -> 
 {
     let skies = parts.skies.as_slice();
     match find_sky(skies, target, site) {
-        Some(place) => has_all(skies[place].spans.as_slice(), observed),
+        Some(place) => has_all_sorted(skies[place].spans.as_slice(), observed),
         None => false,
     }
 }

@@ -92,7 +92,7 @@ fn stretch_in(span: Span, observation: Observation, slice: u64) -> Stretch
 }
 
 /// The place of the first span that doesn't end before a second.
-fn first_to(spans: &[Span], end: u64) -> usize
+pub(crate) fn first_to(spans: &[Span], end: u64) -> usize
     requires { IsSortedApart spans.now }
     ensures { IsPartitionPoint (λ w. w.to.0 < end) (λ w. end ≤ w.to.0) spans.now result }
 {
