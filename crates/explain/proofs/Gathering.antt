@@ -22,6 +22,12 @@ use Rattle.openings.proofs.Numbers.{below_or_at, same_start}
 use Rattle.explain.proofs.Passing.{through_is}
 use Rattle.explain.proofs.Pieces.{pairs_append}
 
+below_next : (a b : ℕ) → a < b → a < b + 1
+below_next a b l = omega arith
+
+at_next : (a b : ℕ) → a ≡ b → a < b + 1
+at_next a b e = omega arith
+
 module _ (s : Parts) (r : ℕ) where
   pub starts_none : (P : Placement → Type 0) → ((p : Placement) → IsStartFor s r p → ¬ (P p)) → HasStartsWhere s r P 0
   starts_none P none = (
@@ -109,8 +115,8 @@ module _ (s : Parts) (prices : List ℤ) (t r : ℕ) (orderly : IsOrderly s) whe
   grown : (k : ℕ) (b g c : ℤ) → IsGreatestGain s prices t r k b → IsGainAt s prices t r k g → b ≤ℤ c → g ≤ℤ c → (c ≡ b) ⊎ (c ≡ g) → IsGreatestGain s prices t r (k + 1) c
   grown k b g c old gain first second one = record {
     reached = elim one [
-      | inl e ↦ (old.reached.0, old.reached.1, subst (IsGain s prices t old.reached.0) (sym e) old.reached.2)
-      | inr e ↦ (gain.start, gain.is_start, subst (IsGain s prices t gain.start) (sym e) gain.gain)
+      | inl e ↦ (old.reached.0, old.reached.1, below_next old.reached.0.slice.0 k old.reached.2, subst (IsGain s prices t old.reached.0) (sym e) old.reached.3)
+      | inr e ↦ (gain.start, gain.is_start, at_next gain.start.slice.0 k gain.at, subst (IsGain s prices t gain.start) (sym e) gain.gain)
     ];
     bound = λ p start l. elim (below_or_at p.slice.0 k l) [
       | inl below ↦ let d = old.bound p start below in let m : d.0 ≤ℤ b = d.2 in (d.0, d.1, omega (arith, ints))
@@ -121,7 +127,7 @@ module _ (s : Parts) (prices : List ℤ) (t r : ℕ) (orderly : IsOrderly s) whe
   -- none before, and one
   first_gain : (k : ℕ) (g : ℤ) → ((p : Placement) → IsStartAt s t r p → ¬ (p.slice.0 < k)) → IsGainAt s prices t r k g → IsGreatestGain s prices t r (k + 1) g
   first_gain k g none gain = record {
-    reached = (gain.start, gain.is_start, gain.gain);
+    reached = (gain.start, gain.is_start, at_next gain.start.slice.0 k gain.at, gain.gain);
     bound = λ p start l. elim (below_or_at p.slice.0 k l) [
       | inl below ↦ absurd (none p start below)
       | inr at ↦ (g, own k g p gain start at, omega (arith, ints))
@@ -130,7 +136,7 @@ module _ (s : Parts) (prices : List ℤ) (t r : ℕ) (orderly : IsOrderly s) whe
 
   stays : (k : ℕ) (b : ℤ) → IsGreatestGain s prices t r k b → ((p : Placement) → IsStartAt s t r p → p.slice.0 ≢ k) → IsGreatestGain s prices t r (k + 1) b
   stays k b old none = record {
-    reached = old.reached;
+    reached = (old.reached.0, old.reached.1, below_next old.reached.0.slice.0 k old.reached.2, old.reached.3);
     bound = λ p start l. elim (below_or_at p.slice.0 k l) [ inl below ↦ old.bound p start below | inr at ↦ absurd (none p start at) ];
   }
 
@@ -177,7 +183,10 @@ module _ (s : Parts) (prices : List ℤ) (t r : ℕ) (orderly : IsOrderly s) whe
   }
   gains_all k n (Some b) before gains = record {
     starts = starts_same s r (IsOnBefore t k) (IsOnBefore t (horizon_end s)) n (λ p start is. (is.0, in_horizon p start)) (λ p start is. (is.0, before p (record { start = start; same_telescope = is.0 }))) gains.starts;
-    gain = record { reached = gains.gain.reached; bound = λ p start l. gains.gain.bound p start (before p start) };
+    gain = record {
+      reached = let found = gains.gain.reached in (found.0, found.1, in_horizon found.0 found.1.start, found.3);
+      bound = λ p start l. gains.gain.bound p start (before p start);
+    };
   }
 
   -- all gains of the horizon give what the telescope gives through the request
@@ -185,7 +194,7 @@ module _ (s : Parts) (prices : List ℤ) (t r : ℕ) (orderly : IsOrderly s) whe
   through_gains n None gains = λ can. gains.gain can.0 can.1 (in_horizon can.0 can.1.start)
   through_gains n (Some b) gains =
       let found = gains.gain.reached in
-      through_is s prices t orderly r b (found.0, record { possible = found.1.start.possible; same_telescope = found.1.same_telescope }, found.1.start.same_request, found.2)
+      through_is s prices t orderly r b (found.0, record { possible = found.1.start.possible; same_telescope = found.1.same_telescope }, found.1.start.same_request, found.3)
       (λ p start is_r. gains.gain.bound p (record { start = record { possible = start.possible; same_request = is_r }; same_telescope = start.same_telescope }) (in_horizon p (record { possible = start.possible; same_request = is_r })))
 
   pub starts_on : (n : ℕ) (greatest : Option ℤ) → AreGainsTo s prices t r (horizon_end s) n greatest → HasStartsWhere s r (IsOn t) n
@@ -234,8 +243,8 @@ module _ (s : Parts) (prices : List ℤ) (r : ℕ) (orderly : IsOrderly s) where
   grown_detour : (n : ℕ) (b d c : ℤ) → IsGreatestDetourTo s prices r n b → CanTake s n r → IsDetour s prices n r d → IsDetourInRange d → b ≤ℤ c → d ≤ℤ c → (c ≡ b) ⊎ (c ≡ d) → IsGreatestDetourTo s prices r (n + 1) c
   grown_detour n b d c old can is range first second one = record {
     reached = elim one [
-      | inl e ↦ (old.reached.0, old.reached.1, subst (IsDetour s prices old.reached.0 r) (sym e) old.reached.2)
-      | inr e ↦ (n, can, subst (IsDetour s prices n r) (sym e) is)
+      | inl e ↦ (old.reached.0, below_next old.reached.0 n old.reached.1, old.reached.2, subst (IsDetour s prices old.reached.0 r) (sym e) old.reached.3)
+      | inr e ↦ (n, omega arith, can, subst (IsDetour s prices n r) (sym e) is)
     ];
     bound = λ t l take. elim (below_or_at t n l) [
       | inl below ↦ let x = old.bound t below take in let m : x.0 ≤ℤ b = x.2 in (x.0, x.1, omega (arith, ints))
@@ -246,7 +255,7 @@ module _ (s : Parts) (prices : List ℤ) (r : ℕ) (orderly : IsOrderly s) where
 
   first_detour : (n : ℕ) (d : ℤ) → ((t : ℕ) → t < n → ¬ (CanTake s t r)) → CanTake s n r → IsDetour s prices n r d → IsDetourInRange d → IsGreatestDetourTo s prices r (n + 1) d
   first_detour n d none can is range = record {
-    reached = (n, can, is);
+    reached = (n, omega arith, can, is);
     bound = λ t l take. elim (below_or_at t n l) [
       | inl below ↦ absurd (none t below take)
       | inr at ↦ (d, subst (λ (u : ℕ). IsDetour s prices u r d) (sym at) is, omega (arith, ints))
@@ -256,7 +265,7 @@ module _ (s : Parts) (prices : List ℤ) (r : ℕ) (orderly : IsOrderly s) where
 
   detour_stays : (n : ℕ) (b : ℤ) → IsGreatestDetourTo s prices r n b → ¬ (CanTake s n r) → IsGreatestDetourTo s prices r (n + 1) b
   detour_stays n b old none = record {
-    reached = old.reached;
+    reached = (old.reached.0, below_next old.reached.0 n old.reached.1, old.reached.2, old.reached.3);
     bound = λ t l take. elim (below_or_at t n l) [ inl below ↦ old.bound t below take | inr at ↦ absurd (none (subst (λ (u : ℕ). CanTake s u r) at take)) ];
     range = old.range;
   }
@@ -296,12 +305,6 @@ module _ (s : Parts) (prices : List ℤ) (r : ℕ) (orderly : IsOrderly s) where
       below_not_at : (a b : ℕ) → a < b → a ≢ b
       below_not_at a b l e = omega arith
 
-      below_next : (a b : ℕ) → a < b → a < b + 1
-      below_next a b l = omega arith
-
-      at_next : (a b : ℕ) → a ≡ b → a < b + 1
-      at_next a b e = omega arith
-
   -- all starts
   pub all_starts : (count : ℕ) → HasStartsWhere s r (IsBeforeTelescope (length s.telescopes)) count → HasStarts s r count
   all_starts count (starts, are, is) = (
@@ -316,6 +319,6 @@ module _ (s : Parts) (prices : List ℤ) (r : ℕ) (orderly : IsOrderly s) where
 
   pub greatest_detour : (b : ℤ) → IsGreatestDetourTo s prices r (length s.telescopes) b → IsGreatestDetour s prices r b
   greatest_detour b greatest = record {
-    reached = greatest.reached;
+    reached = (greatest.reached.0, greatest.reached.2, greatest.reached.3);
     bound = λ t take. greatest.bound t (subst (λ (n : ℕ). n < length s.telescopes) take.1.same_telescope (telescope_known s take.0 orderly take.1.start.possible)) take;
   }

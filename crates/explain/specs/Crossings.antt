@@ -57,7 +57,7 @@ IsGainIfAny s prices t r k gain = MatchOption gain ((p : Placement) → IsStartA
 
 -- b is the greatest gain of the starts of request r on telescope t before slice k
 pub record IsGreatestGain (s : Parts) (prices : List ℤ) (t r k : ℕ) (b : ℤ) : Type 0 where
-  pub reached : (p : Placement) × IsStartAt s t r p × IsGain s prices t p b
+  pub reached : (p : Placement) × IsStartAt s t r p × (p.slice.0 < k) × IsGain s prices t p b
   pub bound : (p : Placement) → IsStartAt s t r p → p.slice.0 < k → (d : ℤ) × IsGain s prices t p d × (d ≤ℤ b)
 
 -- how many starts request r has on telescope t before slice k, and their greatest gain
@@ -90,7 +90,7 @@ AreCharts s prices charts = AreChartsTo s prices (length s.telescopes) charts
 
 -- b is the greatest detour of the telescopes before number n that have a start of request r
 pub record IsGreatestDetourTo (s : Parts) (prices : List ℤ) (r n : ℕ) (b : ℤ) : Type 0 where
-  pub reached : (t : ℕ) × CanTake s t r × IsDetour s prices t r b
+  pub reached : (t : ℕ) × (t < n) × CanTake s t r × IsDetour s prices t r b
   pub bound : (t : ℕ) → t < n → CanTake s t r → (d : ℤ) × IsDetour s prices t r d × (d ≤ℤ b)
   pub range : IsDetourInRange b
 

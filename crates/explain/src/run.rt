@@ -1,9 +1,8 @@
 // The explanation of a claim in a document, from its words to its status.
 
-ghost use Rattle.std.specs.Prelude.{◌≡◌, ◌≢◌, ◌↔◌, codes, IfOk, IfErr, Ok, Err};
+ghost use Rattle.std.specs.Prelude.{◌≡◌, ◌↔◌, codes, IfOk, Ok};
 ghost use Rattle.plan_io.specs.Words.{IsOneWord};
 ghost use Rattle.plan_io.specs.Document.{IsDocumentRun, IsDocumentCause};
-ghost use Rattle.plan_doc.specs.declared.fault.DocFault.TheVariants as doc;
 ghost use Rattle.plan_doc.specs.Publication.{publication_of_bytes};
 ghost use Rattle.explain.specs.Run.{IsExplainText};
 
@@ -11,18 +10,9 @@ use crate::answer::ExplainAnswer;
 use crate::told::explained_answer;
 use crate::why::explain;
 use plan_base::Verdict;
-use plan_doc::{DocFault, Publication, VerdictDoc, answer_line, read_publication};
+use plan_doc::{DocFault, Publication, VerdictDoc, answer_line, read_publication_bytes};
 use plan_io::{Answer, Answers, Said, Sink, Source, Status, run_document};
-use plan_json::parse_object;
 use std::alloc::{AllocError, Global};
-
-/// The publication that the bytes are.
-fn read_bytes(alloc: Global, bytes: &[u8]) -> Result<Publication, DocFault>
-    ensures value { IfOk result (λ p. publication_of_bytes bytes.now ≡ Ok p) }
-    ensures fault { IfErr result (λ e. e ≢ doc.NoMemory → publication_of_bytes bytes.now ≡ Err e) }
-{
-    read_publication(alloc, &parse_object(alloc, bytes)?)
-}
 
 /// The answer to a publication.
 fn answer_to(alloc: Global, bytes: &[u8], publication: &Publication) -> Result<Answer, AllocError>
@@ -46,7 +36,7 @@ impl Answers for Explain {
     ghost is_answer = { IsExplainText };
 
     fn answer(&self, alloc: Global, input: &[u8]) -> Result<Answer, AllocError> {
-        match read_bytes(alloc, input) {
+        match read_publication_bytes(alloc, input) {
             Ok(publication) => answer_to(alloc, input, &publication),
             Err(DocFault::NoMemory) => Err(AllocError),
             Err(fault) => answer_line(alloc, &fault, Said::NoDocument),

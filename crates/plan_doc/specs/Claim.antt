@@ -28,9 +28,11 @@ placement_in m d = list_of_count_in m 3 d >>= placement_of m
 abbrev pub highest_price : ℤ
 highest_price = pos (10 ^ 15)
 
+-- the price of a request: a whole number from -10^15 to 10^15
 abbrev pub price_in : Member → Data → Result ℤ JsonFault
 price_in m d = whole_in m (neg_ℤ highest_price) highest_price d
 
+-- the price of a second of a quota: a whole number from 0 to 10^9
 abbrev pub quota_price_in : Member → Data → Result ℕ JsonFault
 quota_price_in m d = number_in 0 1000000000 m d
 

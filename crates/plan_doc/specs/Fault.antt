@@ -18,6 +18,7 @@ fault_of_json (json.OutOfRange m) = Json (json.OutOfRange m)
 fault_of_json (json.BadMoment m) = Json (json.BadMoment m)
 fault_of_json json.NoMemory = NoMemory
 
+-- the fault of the parts that were read, as the document's; want of memory stays what it is
 abbrev pub fault_of_snapshot : SnapshotFault → DocFault
 fault_of_snapshot (parts.OverLimit what count) = Snapshot (parts.OverLimit what count)
 fault_of_snapshot parts.EmptySpan = Snapshot parts.EmptySpan

@@ -17,6 +17,7 @@ use Rattle.plan_doc.specs.Snapshot.{most_items}
 
 -- ---- claims
 
+-- the numbers of request and slice have 32 bits, the telescope's has 16
 pub record IsPlacement (p : Placement) : Type 0 where
   pub request : p.request.0 ≤ 4294967295
   pub telescope : p.telescope.0 ≤ 65535
@@ -32,6 +33,7 @@ pub record AreUpTo {T : Type 0} (n : ℕ) (P : T → Type 0) (xs : List T) : Typ
   pub count : length xs ≤ n
   pub each : All P xs
 
+-- a claim that a document allows: at most 4,096 placements, 4,096 prices and 1,024 quota prices, and all its numbers in their ranges
 pub record IsClaim (c : Claim) : Type 0 where
   pub placements : AreUpTo 4096 IsPlacement c.placements
   pub prices : AreUpTo 4096 IsPrice c.prices.0
@@ -41,19 +43,23 @@ pub record IsClaim (c : Claim) : Type 0 where
 
 -- ---- snapshots
 
+-- both ends of the span are at most the last second that a span may name, whichever comes first
 pub record HasMoments (w : Span) : Type 0 where
   pub first : w.from.0 ≤ most_moment
   pub last : w.to.0 ≤ most_moment
 
+-- a telescope that a document allows: its site's number has 16 bits, and it has at most 65,536 usable spans
 pub record IsTelescope (t : TelescopePart) : Type 0 where
   pub site : t.site.0 ≤ 65535
   pub usable : AreUpTo most_items HasMoments t.usable
 
+-- a sky that a document allows: the numbers of target and site have 16 bits, and it has at most 65,536 spans
 pub record IsSky (y : Sky) : Type 0 where
   pub target : y.target.0 ≤ 65535
   pub site : y.site.0 ≤ 65535
   pub spans : AreUpTo most_items HasMoments y.spans
 
+-- a request that a document allows: its numbers are in their ranges, and each of its lists has at most 65,536 elements
 pub record IsRequest (q : RequestPart) : Type 0 where
   pub request : q.request.0 ≤ 4294967295
   pub seconds : IsBetween 1 most_seconds q.seconds
@@ -63,6 +69,7 @@ pub record IsRequest (q : RequestPart) : Type 0 where
   pub targets : AreUpTo most_items (λ (t : TargetNo). t.0 ≤ 65535) q.targets
   pub fade : q.fade ≤ 1000
 
+-- a group that a document allows: at most 65,536 such requests, of any operator, and its quota, if it has one, at a place of 16 bits
 pub record IsGroup (x : GroupPart) : Type 0 where
   pub group : x.group.0 ≤ 4294967295
   pub requests : AreUpTo most_items IsRequest x.requests

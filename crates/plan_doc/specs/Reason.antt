@@ -22,6 +22,7 @@ use Rattle.plan_base.specs.declared.verdict.Verdict.TheVariants.{Yes, No}
 use Rattle.plan_json.specs.Values.{whole, Named, has, may_have, object_of}
 use Rattle.plan_doc.specs.declared.reason.ReasonFields.{ReasonFields}
 
+-- the number that a reason is told by, 1 to 13
 abbrev pub number_of_reason : Reason → ℕ
 number_of_reason (UnknownRequest i) = 1
 number_of_reason (PlacedTwice i) = 2
@@ -37,6 +38,7 @@ number_of_reason (QuotaOver quota seconds most) = 11
 number_of_reason (QuotaPriceCount given wanted) = 12
 number_of_reason (QuotaPriceRange i) = 13
 
+-- the name that a reason is told by, as bytes
 abbrev pub name_of_reason : Reason → List ℕ
 name_of_reason (UnknownRequest i) = codes "UnknownRequest"
 name_of_reason (PlacedTwice i) = codes "PlacedTwice"
@@ -52,6 +54,7 @@ name_of_reason (QuotaOver quota seconds most) = codes "QuotaOver"
 name_of_reason (QuotaPriceCount given wanted) = codes "QuotaPriceCount"
 name_of_reason (QuotaPriceRange i) = codes "QuotaPriceRange"
 
+-- the fields of a reason that has none
 abbrev pub no_fields : ReasonFields
 no_fields = record {
   claimed = None;
@@ -65,15 +68,19 @@ no_fields = record {
   wanted = None;
 }
 
+-- the fields of a reason that names a place in a list of the claim, counted from 0
 abbrev pub at_index : ℕ → ReasonFields
 at_index i = record no_fields { index = Some i }
 
+-- the fields of a reason that names a group by its number
 abbrev pub of_group : ℕ → ReasonFields
 of_group n = record no_fields { group = Some n }
 
+-- the fields of a reason that tells how many prices are given and how many are wanted
 abbrev pub of_counts : ℕ → ℕ → ReasonFields
 of_counts n m = record no_fields { given = Some n; wanted = Some m }
 
+-- the fields of a reason that tells the number claimed and the one found in its place
 abbrev pub of_difference : ℕ → ℕ → ReasonFields
 of_difference n m = record no_fields { claimed = Some n; found = Some m }
 
@@ -115,6 +122,7 @@ reason_at n name f = object_of (has (codes "no") (whole n) ∷ has (codes "reaso
 abbrev pub reason_data : Reason → Data
 reason_data reason = reason_at (number_of_reason reason) (name_of_reason reason) (fields_of_reason reason)
 
+-- what is written of a claim that is certified: `ok`, which is yes, its value and its bound
 abbrev pub yes_data : ℕ → ℕ → Data
 yes_data value bound =
     object_of (has (codes "ok") (string (codes "yes")) ∷ has (codes "value") (whole value) ∷ has (codes "bound") (whole bound) ∷ [])

@@ -25,6 +25,7 @@ number_of_json (json.OutOfRange m) = 6
 number_of_json (json.BadMoment m) = 7
 number_of_json json.NoMemory = 0
 
+-- the number that a fault of the parts is told by, 41 to 50; 0 for want of memory
 abbrev pub number_of_parts : SnapshotFault → ℕ
 number_of_parts (parts.OverLimit what count) = 41
 number_of_parts parts.EmptySpan = 42
@@ -38,11 +39,13 @@ number_of_parts (parts.NoSuchQuota group) = 49
 number_of_parts (parts.QuotaRange index) = 50
 number_of_parts parts.NoMemory = 0
 
+-- the number of a document's fault: that of the reading or of the parts, and 0 for want of memory
 abbrev pub number_of_fault : DocFault → ℕ
 number_of_fault (Json fault) = number_of_json fault
 number_of_fault (Snapshot fault) = number_of_parts fault
 number_of_fault NoMemory = 0
 
+-- the name that a fault of reading is told by, as bytes
 abbrev pub name_of_json : JsonFault → List ℕ
 name_of_json json.NotJson = codes "NotJson"
 name_of_json json.NotObject = codes "NotObject"
@@ -53,6 +56,7 @@ name_of_json (json.OutOfRange m) = codes "OutOfRange"
 name_of_json (json.BadMoment m) = codes "BadMoment"
 name_of_json json.NoMemory = codes "NoMemory"
 
+-- the name that a fault of the parts is told by, as bytes
 abbrev pub name_of_parts : SnapshotFault → List ℕ
 name_of_parts (parts.OverLimit what count) = codes "OverLimit"
 name_of_parts parts.EmptySpan = codes "EmptySpan"
@@ -66,6 +70,7 @@ name_of_parts (parts.NoSuchQuota group) = codes "NoSuchQuota"
 name_of_parts (parts.QuotaRange index) = codes "QuotaRange"
 name_of_parts parts.NoMemory = codes "NoMemory"
 
+-- the name of a document's fault: that of the reading or of the parts, or else the one for want of memory
 abbrev pub name_of_fault : DocFault → List ℕ
 name_of_fault (Json fault) = name_of_json fault
 name_of_fault (Snapshot fault) = name_of_parts fault
@@ -84,18 +89,23 @@ name_of_counted counted.Targets = codes "targets"
 name_of_counted counted.Fits = codes "fits"
 name_of_counted counted.Quotas = codes "quotas"
 
+-- the fields of a fault that has none
 abbrev pub no_fields : FaultFields
 no_fields = record { count = None; group = None; index = None; member = None; request = None; telescope = None; what = None }
 
+-- the fields of a fault that names the member at which it was found
 abbrev pub of_member : Member → FaultFields
 of_member m = record no_fields { member = Some (record { 0 = m }) }
 
+-- the fields of a fault that names a group by its number
 abbrev pub of_group : ℕ → FaultFields
 of_group n = record no_fields { group = Some n }
 
+-- the fields of a fault that names a request by its number
 abbrev pub of_request : ℕ → FaultFields
 of_request n = record no_fields { request = Some n }
 
+-- the fields of a fault of reading: the member, except where the document is no JSON, no object, or memory ran out
 abbrev pub fields_of_json : JsonFault → FaultFields
 fields_of_json json.NotJson = no_fields
 fields_of_json json.NotObject = no_fields
@@ -106,6 +116,7 @@ fields_of_json (json.OutOfRange m) = of_member m
 fields_of_json (json.BadMoment m) = of_member m
 fields_of_json json.NoMemory = no_fields
 
+-- the fields of a fault of the parts: what it counts, or the group, the request, the telescope or the place that it names, if any
 abbrev pub fields_of_parts : SnapshotFault → FaultFields
 fields_of_parts (parts.OverLimit what count) = record no_fields { what = Some (record { 0 = what }); count = Some count }
 fields_of_parts parts.EmptySpan = no_fields

@@ -39,9 +39,11 @@ span_of m ds =
 abbrev pub span_in : Member → Data → Result Span JsonFault
 span_in m d = list_of_count_in m 2 d >>= span_of m
 
+-- the number of a telescope, 0 to 65,535; whether the snapshot has it is judged with the whole snapshot
 abbrev pub telescope_number_in : Member → Data → Result TelescopeNo JsonFault
 telescope_number_in m d = result_map (λ n. record { 0 = n }) (number_in 0 65535 m d)
 
+-- the number of a target, 0 to 65,535
 abbrev pub target_number_in : Member → Data → Result TargetNo JsonFault
 target_number_in m d = result_map (λ n. record { 0 = n }) (number_in 0 65535 m d)
 
@@ -52,6 +54,7 @@ telescope_of ms =
     each_of span_in 0 most_items ms key.Usable >>= λ usable.
     Ok (record { site = record { 0 = site }; usable = usable })
 
+-- the telescope that an object is, an element of the list that the member is
 abbrev pub telescope_in : Member → Data → Result TelescopePart JsonFault
 telescope_in m d = object_in m d >>= telescope_of
 
@@ -63,6 +66,7 @@ sky_of ms =
     each_of span_in 0 most_items ms key.Spans >>= λ spans.
     Ok (record { target = record { 0 = target }; site = record { 0 = site }; spans = spans })
 
+-- the sky that an object is, an element of the list that the member is
 abbrev pub sky_in : Member → Data → Result Sky JsonFault
 sky_in m d = object_in m d >>= sky_of
 
@@ -86,6 +90,7 @@ request_of ms =
       fade = fade;
     })
 
+-- the request that an object is, an element of the list that the member is
 abbrev pub request_in : Member → Data → Result RequestPart JsonFault
 request_in m d = object_in m d >>= request_of
 
@@ -98,6 +103,7 @@ group_of ms =
     if_there (number_in 0 65535) ms key.Quota >>= λ quota.
     Ok (record { group = record { 0 = group }; op = op; requests = requests; quota = quota })
 
+-- the group that an object is, an element of the list that the member is
 abbrev pub group_in : Member → Data → Result GroupPart JsonFault
 group_in m d = object_in m d >>= group_of
 

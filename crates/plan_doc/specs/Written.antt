@@ -72,16 +72,20 @@ claim_of_bytes bytes = document_of bytes >>= claim_of
 abbrev pub span_data : Span → Data
 span_data w = list_of whole (w.from.0 ∷ w.to.0 ∷ [])
 
+-- an object with `site` and `usable`, which may be an empty list
 abbrev pub telescope_data : TelescopePart → Data
 telescope_data t = object_of (given key.Site (whole t.site.0) ∷ given key.Usable (list_of span_data t.usable) ∷ [])
 
+-- an object with `target`, `site` and `spans`
 abbrev pub sky_data : Sky → Data
 sky_data y =
     object_of (given key.Target (whole y.target.0) ∷ given key.Site (whole y.site.0) ∷ given key.Spans (list_of span_data y.spans) ∷ [])
 
+-- a telescope by its number
 abbrev pub telescope_number_data : TelescopeNo → Data
 telescope_number_data t = whole t.0
 
+-- a target by its number
 abbrev pub target_number_data : TargetNo → Data
 target_number_data t = whole t.0
 
@@ -89,6 +93,7 @@ target_number_data t = whole t.0
 abbrev pub fade_above_0 : ℕ → Option ℕ
 fade_above_0 fade = if nat_lt 0 fade then Some fade else None
 
+-- an object with `request`, `seconds`, `value`, `telescopes`, `targets` and `windows`, and with `fade` where it is above 0
 abbrev pub request_data : RequestPart → Data
 request_data q =
     object_of
@@ -101,6 +106,7 @@ request_data q =
     ∷ given_if key.Fade (option_map whole (fade_above_0 q.fade))
     ∷ [])
 
+-- an object with `group`, `operator` and `requests`, and with `quota` where the group has one
 abbrev pub group_data : GroupPart → Data
 group_data x =
     object_of
@@ -123,6 +129,7 @@ snapshot_members s =
     ∷ given_if key.Quotas (numbers_given s.quotas)
     ∷ []
 
+-- a snapshot, as an object; it has `quotas` only where there are any
 abbrev pub snapshot_data : Parts → Data
 snapshot_data s = object_of (snapshot_members s)
 

@@ -1,6 +1,6 @@
 // The check of a claim in a document, from its words to its status.
 
-ghost use Rattle.std.specs.Prelude.{◌≡◌, ◌≢◌, ◌↔◌, codes, IfOk, IfErr, Ok, Err};
+ghost use Rattle.std.specs.Prelude.{◌≡◌, ◌≢◌, ◌↔◌, codes, IfOk, IfErr, Err};
 ghost use Rattle.plan_io.specs.Words.{IsOneWord};
 ghost use Rattle.plan_io.specs.Document.{IsDocumentRun, IsDocumentCause};
 ghost use Rattle.plan_doc.specs.declared.fault.DocFault.TheVariants as doc;
@@ -8,30 +8,20 @@ ghost use Rattle.plan_doc.specs.Publication.{publication_of_bytes};
 ghost use Rattle.plan_doc.specs.Check.{IsJudged, IsCheckAnswer, said_of};
 
 use crate::fault::DocFault;
-use crate::publication::Publication;
-use crate::read::read_publication;
+use crate::read::read_publication_bytes;
 use crate::reason::VerdictDoc;
 use crate::write::answer_line;
 use bound_checker::check;
 use plan_base::Verdict;
 use plan_io::{Answer, Answers, Said, Sink, Source, Status, run_document};
-use plan_json::parse_object;
 use std::alloc::{AllocError, Global};
-
-/// The publication that the bytes are.
-fn read_bytes(alloc: Global, bytes: &[u8]) -> Result<Publication, DocFault>
-    ensures value { IfOk result (λ p. publication_of_bytes bytes.now ≡ Ok p) }
-    ensures fault { IfErr result (λ e. e ≢ doc.NoMemory → publication_of_bytes bytes.now ≡ Err e) }
-{
-    read_publication(alloc, &parse_object(alloc, bytes)?)
-}
 
 /// The verdict on the publication that the bytes are.
 fn judge(alloc: Global, bytes: &[u8]) -> Result<Verdict, DocFault>
     ensures verdict { IfOk result (IsJudged bytes.now) }
     ensures fault { IfErr result (λ e. e ≢ doc.NoMemory → publication_of_bytes bytes.now ≡ Err e) }
 {
-    let publication = read_bytes(alloc, bytes)?;
+    let publication = read_publication_bytes(alloc, bytes)?;
     Ok(check(alloc, &publication.snapshot, &publication.claim)?)
 }
 

@@ -18,8 +18,8 @@ pub use laws::{
     snapshots_are_in_range, snapshots_are_read_back,
 };
 pub use publication::Publication;
-pub use read::{Element, read_claim, read_groups, read_list, read_publication, read_snapshot};
-pub use reason::{ReasonFields, VerdictDoc, reason_fields, reason_name, reason_number};
+pub use read::{read_claim, read_groups, read_publication, read_publication_bytes, read_snapshot};
+pub use reason::{ReasonFields, VerdictDoc, reason_fields, reason_name};
 pub use write::{
     ClaimDoc, InDocument, SnapshotDoc, add_line, answer_line, write_claim, write_snapshot,
 };

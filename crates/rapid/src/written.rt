@@ -3,13 +3,12 @@
 ghost use Rattle.std.specs.Prelude.{◌≡◌};
 ghost use Rattle.serde_json.specs.Data.{null};
 ghost use Rattle.plan_json.specs.Adds.{AddsNested};
-ghost use Rattle.plan_doc.specs.Written.{placement_data};
 ghost use Rattle.rapid.specs.Written.{placed_data, request_number_data, inserted_data, not_single_data, refusal_data};
 
 use crate::fault::RapidFault;
 use crate::inserted::Inserted;
-use plan_base::{Claim, GroupNo, ListOf, Placement, RequestNo};
-use plan_doc::{ClaimDoc, DocFault};
+use plan_base::{Claim, GroupNo, ListOf, RequestNo};
+use plan_doc::{ClaimDoc, DocFault, InDocument};
 use plan_json::{Each, Form, Json, object, word};
 use std::alloc::AllocError;
 
@@ -32,17 +31,6 @@ impl Form<RequestNo> for Numbers {
 #[derive(Clone, Copy)]
 struct PlacedDoc(Inserted);
 
-fn write_placement(placement: Placement, out: &mut Vec<u8>) -> Result<(), AllocError>
-    ensures { AddsNested result out.old.items out.new.items 1 (placement_data placement) }
-{
-    (
-        placement.request.0,
-        placement.telescope.0,
-        placement.slice.0,
-    )
-        .write(out)
-}
-
 fn write_null(out: &mut Vec<u8>) -> Result<(), AllocError>
     ensures { AddsNested result out.old.items out.new.items 1 null }
 {
@@ -57,7 +45,7 @@ impl Json for PlacedDoc {
 
     fn write(&self, out: &mut Vec<u8>) -> Result<(), AllocError> {
         match self.0 {
-            Inserted::Placed(placement) => write_placement(placement, out),
+            Inserted::Placed(placement) => InDocument.write_value(&placement, out),
             Inserted::NoPlace => write_null(out),
         }
     }
