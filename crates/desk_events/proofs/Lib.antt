@@ -4,5 +4,4 @@ pub mod RefusalsBack
 pub mod EntriesBack
 pub mod OneText
 pub mod InRange
-pub mod Newline
-pub mod LinesBack
+pub mod Sent

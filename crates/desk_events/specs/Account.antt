@@ -20,6 +20,7 @@ account_named word =
     else (if bytes_eq word (codes "ipp") then Some account.Ipp
     else None)))
 
+-- `account`: `standard`, `time_critical`, `rapid_response` or `ipp`; any other text is out of range
 abbrev pub account_of : Members → Result Account JsonFault
 account_of ms = member_of text_in ms member.Account >>= λ word. ok_or (account_named word) (OutOfRange member.Account)
 

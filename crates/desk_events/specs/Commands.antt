@@ -23,6 +23,7 @@ use Rattle.desk_events.specs.declared.command.Command.TheVariants as command
 use Rattle.desk_events.specs.Account.{key_of}
 use Rattle.plan_doc.specs.Claim.{claim_of}
 
+-- `now`, `slice`, `horizon`, `semester`, `lanes`, `rounds`, `workers`, and `quota` where it is there
 abbrev pub open_of : Members → Result Command JsonFault
 open_of ms =
     member_of moment_in ms member.Now >>= λ now.
@@ -35,6 +36,7 @@ open_of ms =
     if_there (number_in 1 100000000) ms member.Quota >>= λ quota.
     Ok (command.Open now slice horizon semester lanes rounds workers quota)
 
+-- `type`, and in milliseconds `front_ms`, `config_ms`, `readout_ms`, `change_ms`
 abbrev pub instrument_of : Members → Result Command JsonFault
 instrument_of ms =
     member_of text_in ms member.TypeName >>= λ name.
@@ -44,6 +46,7 @@ instrument_of ms =
     member_of (number_in 0 86400000) ms member.ChangeMs >>= λ change.
     Ok (command.Instrument name front config readout change)
 
+-- `site`, `enclosure`, `telescope`, `class`, `instruments`, a list of 1 to 16 texts
 abbrev pub telescope_of : Members → Result Command JsonFault
 telescope_of ms =
     member_of text_in ms member.Site >>= λ site.
@@ -54,12 +57,14 @@ telescope_of ms =
     read_each (text_in member.Instruments) ds >>= λ instruments.
     Ok (command.Telescope site enclosure telescope class instruments)
 
+-- `site`, `spans`
 abbrev pub night_of : Members → Result Command JsonFault
 night_of ms =
     member_of text_in ms member.Site >>= λ site.
     member_of spans_in ms member.Spans >>= λ spans.
     Ok (command.Night site spans)
 
+-- `target`, `site`, `spans`
 abbrev pub visibility_of : Members → Result Command JsonFault
 visibility_of ms =
     member_of text_in ms member.Target >>= λ target.
@@ -83,18 +88,21 @@ site_scope_of ms = member_of text_in ms member.Site >>= λ site. Ok (scope.Site 
 abbrev pub scope_of : Members → Result Scope JsonFault
 scope_of ms = if is_some (value_of ms member.Telescope) then telescope_scope_of ms else site_scope_of ms
 
+-- the telescope or the site that is closed, then `spans`
 abbrev pub close_of : Members → Result Command JsonFault
 close_of ms =
     scope_of ms >>= λ scope.
     member_of spans_in ms member.Spans >>= λ spans.
     Ok (command.Close scope spans)
 
+-- the telescope or the site that is reopened, then `spans`
 abbrev pub reopen_of : Members → Result Command JsonFault
 reopen_of ms =
     scope_of ms >>= λ scope.
     member_of spans_in ms member.Spans >>= λ spans.
     Ok (command.Reopen scope spans)
 
+-- `proposal`, `account`, `instrument_type` unless the account is `ipp`, `seconds`
 abbrev pub grant_of : Members → Result Command JsonFault
 grant_of ms =
     key_of ms >>= λ key.
@@ -105,24 +113,30 @@ grant_of ms =
 abbrev pub document_in : Members → Result GroupDoc GroupFault
 document_in ms = in_group (member_of object_in ms member.Group) >>= group_of
 
+-- `group`, whose fault may be one of the group's shape, windows or instrument types too
 abbrev pub submit_of : Members → Result Command GroupFault
 submit_of ms = document_in ms >>= λ group. Ok (command.Submit group)
 
+-- `group_number`, whether or not a group has it
 abbrev pub group_number_of : Members → Result GroupNo JsonFault
 group_number_of ms = member_of (number_in 0 4294967295) ms member.GroupNumber >>= λ n. Ok (record { 0 = n })
 
+-- `group_number`, that of the group to be replaced, then `group`, the one in its place
 abbrev pub amend_of : Members → Result Command GroupFault
 amend_of ms =
     in_group (group_number_of ms) >>= λ old.
     document_in ms >>= λ group.
     Ok (command.Amend old group)
 
+-- `group_number`
 abbrev pub withdraw_of : Members → Result Command JsonFault
 withdraw_of ms = group_number_of ms >>= λ group. Ok (command.Withdraw group)
 
+-- `at`
 abbrev pub clock_of : Members → Result Command JsonFault
 clock_of ms = member_of moment_in ms member.At >>= λ at. Ok (command.Clock at)
 
+-- `request`, by its number, `percent`, and `used` in seconds
 abbrev pub report_of : Members → Result Command JsonFault
 report_of ms =
     member_of (number_in 0 4294967295) ms member.Request >>= λ request.
@@ -130,6 +144,7 @@ report_of ms =
     member_of (number_in 0 86400) ms member.Used >>= λ used.
     Ok (command.Report (record { 0 = request }) percent used)
 
+-- `version`, `claim`
 abbrev pub publish_of : Members → Result Command JsonFault
 publish_of ms =
     member_of (number_in 0 most_version) ms member.Version >>= λ version.
@@ -137,5 +152,6 @@ publish_of ms =
     claim_of inner >>= λ claim.
     Ok (command.Publish version claim)
 
+-- `group_number`
 abbrev pub show_of : Members → Result Command JsonFault
 show_of ms = group_number_of ms >>= λ group. Ok (command.Show group)

@@ -20,6 +20,7 @@ data_with e ms = object_of (has (codes "caller") (whole e.caller) ∷ has (codes
 abbrev pub data_of_reply : EventEntry → Reply → Data
 data_of_reply e reply = data_with e (members_of_reply reply)
 
+-- an entry, with the reply that it has
 abbrev pub data_of_entry : EventEntry → Data
 data_of_entry e = data_of_reply e e.reply
 

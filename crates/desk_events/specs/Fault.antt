@@ -20,6 +20,7 @@ use Rattle.desk_events.specs.declared.refusal.FullOf.{FullOf}
 use Rattle.desk_events.specs.declared.refusal.FullOf.TheVariants as full
 use Rattle.desk_events.specs.declared.refusal.Refusal.TheVariants as refusal
 
+-- a fault of reading, as the refusal of the same name
 abbrev pub of_member : JsonFault → CommandFault
 of_member json.NotJson = Refused refusal.NotJson
 of_member json.NotObject = Refused refusal.NotObject
@@ -30,6 +31,7 @@ of_member (json.OutOfRange m) = Refused (refusal.OutOfRange m)
 of_member (json.BadMoment m) = Refused (refusal.BadMoment m)
 of_member json.NoMemory = NoMemory
 
+-- the fault of a group's document: that of reading it, or the refusal of the same name
 abbrev pub of_group : GroupFault → CommandFault
 of_group (group.Json fault) = of_member fault
 of_group (group.BadShape op count) = Refused (refusal.BadShape count op)
@@ -44,6 +46,7 @@ of_times index time.BadCadence = Refused (refusal.BadCadence index)
 of_times index (time.TooManyWindows count) = Refused (refusal.TooManyWindows count index)
 of_times index time.NoMemory = NoMemory
 
+-- what a network is full of, as what a desk is full of
 abbrev pub full_of_site : SiteFull → FullOf
 full_of_site of_site.Instruments = full.Instruments
 full_of_site of_site.Telescopes = full.Telescopes
@@ -52,6 +55,7 @@ full_of_site of_site.Targets = full.Targets
 full_of_site of_site.Visibility = full.Visibility
 full_of_site of_site.Closures = full.Closures
 
+-- a fault of the network, as the refusal of the same name
 abbrev pub of_network : SiteFault → CommandFault
 of_network site.NoSuchTelescope = Refused refusal.NoSuchTelescope
 of_network site.NoSuchSite = Refused refusal.NoSuchSite
@@ -60,9 +64,11 @@ of_network (site.Full limit what) = Refused (refusal.Full limit (full_of_site wh
 of_network (site.NoSuchInstrument index) = Refused (refusal.NoSuchInstrument index)
 of_network site.NoMemory = NoMemory
 
+-- what a ledger is full of, as what a desk is full of
 abbrev pub full_of_ledger : LedgerFull → FullOf
 full_of_ledger of_ledger.Accounts = full.Accounts
 
+-- a fault of the ledger, as the refusal of the same name
 abbrev pub of_accounts : LedgerFault → CommandFault
 of_accounts (ledger.Full limit what) = Refused (refusal.Full limit (full_of_ledger what))
 of_accounts ledger.NoSuchProposal = Refused refusal.NoSuchProposal

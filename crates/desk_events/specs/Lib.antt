@@ -3,6 +3,7 @@ pub mod Refused
 pub mod Replied
 pub mod Entry
 pub mod Laws
+pub mod Sent
 pub mod Fault
 pub mod Account
 pub mod Commands

@@ -18,6 +18,7 @@ refused n name ms = has (codes "no") (whole n) ∷ has (codes "refused") (string
 abbrev pub rejected : List ℕ → List Named → List Named
 rejected name ms = refused 32 (codes "Rejected") (has (codes "reason") (string name) ∷ ms)
 
+-- the members that tell a refusal: its number, its name, and the members, places, words and numbers that it names
 abbrev pub members_of_refusal : Refusal → List Named
 members_of_refusal refusal.NotJson = refused 1 (codes "NotJson") []
 members_of_refusal refusal.NotObject = refused 2 (codes "NotObject") []

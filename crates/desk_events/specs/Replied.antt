@@ -29,6 +29,7 @@ refund_data r = list_of whole (r.group.0 ∷ r.seconds ∷ [])
 abbrev pub refunds_data : List GroupRefund → Data
 refunds_data rs = list_of refund_data rs
 
+-- an account: its proposal, its word, its instrument type, its balance and what is available of it, in seconds
 abbrev pub balance_data : AccountBalance → Data
 balance_data b =
     object_of
@@ -39,9 +40,11 @@ balance_data b =
     ∷ has (codes "proposal") (string b.key.proposal)
     ∷ [])
 
+-- a request of a group: its number, and the word for its state
 abbrev pub member_state_data : MemberState → Data
 member_state_data m = object_of (has (codes "request") (whole m.request.0) ∷ has (codes "state") (string (state_word m.state)) ∷ [])
 
+-- the members that tell a reply: the word of acceptance and what it says, or those of the refusal
 abbrev pub members_of_reply : Reply → List Named
 members_of_reply reply.Opened = accepted (codes "opened") []
 members_of_reply reply.Instrument = accepted (codes "instrument") []

@@ -1,10 +1,16 @@
 // Laws of texts, each the contract of a function that does nothing.
 
 ghost use Rattle.desk_events.specs.Laws.{EntriesAreReadBack, OneEntry, OneHistory};
+ghost use Rattle.desk_events.specs.Sent.{ClaimsCanBeSent};
 
 /// A law: the text of an entry is read as its object, with the newline at its end.
 pub fn entries_are_read_back()
     ensures { EntriesAreReadBack }
+{}
+
+/// A law: the text of a `publish` line is read as the command that publishes its claim for its version.
+pub fn claims_can_be_sent()
+    ensures { ClaimsCanBeSent }
 {}
 
 /// A law: entries of one text have the same caller, line, version and reply.

@@ -14,7 +14,7 @@ mod write;
 pub use command::Command;
 pub use entry::{EventEntry, What};
 pub use fault::CommandFault;
-pub use laws::{entries_are_read_back, one_entry, one_history};
+pub use laws::{claims_can_be_sent, entries_are_read_back, one_entry, one_history};
 pub use read::read_command;
 pub use refusal::{FullOf, Refusal};
 pub use reply::{AccountBalance, GroupRefund, MemberState, Reply};

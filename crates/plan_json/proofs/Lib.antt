@@ -8,6 +8,8 @@ pub mod Items
 pub mod Literals
 pub mod Objects
 pub mod TextsBack
+pub mod Newline
+pub mod LinesBack
 pub mod OneLine
 pub mod Ranges
 pub mod Back

@@ -49,7 +49,7 @@ IsUtf8-number_text (float x) h = absurd h
 -- ---- the tokens
 
 mutual
-  HasNumbers-outline : (d : Data) → IsExact d → HasNumbers (outline d)
+  pub HasNumbers-outline : (d : Data) → IsExact d → HasNumbers (outline d)
   HasNumbers-outline null h = tt
   HasNumbers-outline (boolean b) h = tt
   HasNumbers-outline (number n) h = IsNumber-number_text n h

@@ -3,10 +3,11 @@ use Rattle.std.specs.Prelude.{◌≡◌, ℕ, ◌+◌, ◌*◌, ◌/◌, ◌%◌
 use Rattle.jiff_core.specs.Calendar.{days_from_civil}
 use Rattle.plan_json.specs.Moment.{is_day, is_ending, second_of}
 
--- the first of the two digits of a number below 100, and the second
+-- the first of the two digits of a number below 100
 abbrev pub tens : ℕ → ℕ
 tens n = 48 + n / 10
 
+-- the second of them
 abbrev pub units : ℕ → ℕ
 units n = 48 + n % 10
 

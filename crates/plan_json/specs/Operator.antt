@@ -7,6 +7,7 @@ use Rattle.plan_json.specs.declared.member.Member.{Member}
 use Rattle.plan_json.specs.declared.fault.JsonFault.{JsonFault}
 use Rattle.plan_json.specs.declared.fault.JsonFault.TheVariants.{WrongKind, OutOfRange}
 
+-- the name of a kind of groups
 abbrev pub operator_name : Op → List ℕ
 operator_name Single = codes "SINGLE"
 operator_name Many = codes "MANY"

@@ -1,5 +1,5 @@
 -- What a text says of the data that it is of.
-use Rattle.std.specs.Prelude.{◌≡◌, ℕ, List, ◌∷◌, ◌++◌, Ok}
+use Rattle.std.specs.Prelude.{◌≡◌, ℕ, List, [], ◌∷◌, ◌++◌, Ok}
 use Rattle.serde_json.specs.Data.{Data}
 use Rattle.serde_json.specs.Read.{max_depth}
 use Rattle.plan_json.specs.Adds.{text_of}
@@ -9,6 +9,10 @@ use Rattle.plan_json.specs.Object.{data_of}
 -- the text of what is written is read as what was written
 abbrev pub TextsAreReadBack : Type 0
 TextsAreReadBack = (d : Data) → IsWritten max_depth d → data_of (text_of d) ≡ Ok d
+
+-- and so it is where a newline follows it
+abbrev pub LinesAreReadBack : Type 0
+LinesAreReadBack = (d : Data) → IsWritten max_depth d → data_of (text_of d ++ 10 ∷ []) ≡ Ok d
 
 -- exact data with one text are the same
 abbrev pub TextsAreDistinct : Type 0

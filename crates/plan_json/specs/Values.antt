@@ -36,6 +36,7 @@ may_have name d = (name, d)
 abbrev pub given : Member → Data → Named
 given m d = has (name_of m) d
 
+-- and where it may be absent
 abbrev pub given_if : Member → Option Data → Named
 given_if m d = may_have (name_of m) d
 

@@ -19,10 +19,11 @@ pub enum JsonFault {
     /// The member, or an element of it, is of another kind.
     #[error("the member `{member}` is of another kind")]
     WrongKind { member: Member },
-    /// A number isn't whole: it has a fraction or an exponent, or doesn't fit 64 bits.
+    /// A number isn't whole: it has a fraction or an exponent, is `-0`, or doesn't fit 64 bits.
     #[error("the member `{member}` isn't a whole number")]
     NotWhole { member: Member },
-    /// A number, a text's length, a list's count or a span is outside its range.
+    /// A number, a text's length, a list's count or a span is outside its range, or a text isn't one of the words that may
+    /// stand there.
     #[error("the member `{member}` is out of range")]
     OutOfRange { member: Member },
     /// A text names no moment.

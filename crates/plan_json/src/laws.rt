@@ -1,10 +1,15 @@
 // Laws of texts, each the contract of a function that does nothing.
 
-ghost use Rattle.plan_json.specs.TextLaws.{TextsAreReadBack, TextsAreDistinct, LinesAreDistinct};
+ghost use Rattle.plan_json.specs.TextLaws.{TextsAreReadBack, LinesAreReadBack, TextsAreDistinct, LinesAreDistinct};
 
 /// A law: what is written is read as what was written.
 pub fn texts_are_read_back()
     ensures { TextsAreReadBack }
+{}
+
+/// A law: what is written is read as what was written where a newline follows it, too.
+pub fn lines_are_read_back()
+    ensures { LinesAreReadBack }
 {}
 
 /// A law: data whose numbers are whole, with one text, are the same.

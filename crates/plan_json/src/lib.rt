@@ -14,7 +14,7 @@ mod writer;
 
 pub use doc::{Doc, parse_object};
 pub use fault::JsonFault;
-pub use laws::{lines_are_distinct, texts_are_distinct, texts_are_read_back};
+pub use laws::{lines_are_distinct, lines_are_read_back, texts_are_distinct, texts_are_read_back};
 pub use list::DocList;
 pub use member::Member;
 pub use moment::moments_are_read;

@@ -1,7 +1,6 @@
 -- A check of the text of an export says Yes.
 use Rattle.std.proofs.Common.{◌≡◌, ◌≤◌, ℕ, List, [], ◌∷◌, ◌++◌, Some, None, Result, Ok, refl, sym, ap, subst, ◌∙◌}
 use Rattle.std.specs.Prelude.{ok_or}
-use Rattle.std.specs.List.{AllByRecursion}
 use Rattle.serde_json.specs.Data.{Data, Members}
 use Rattle.serde_json.specs.Find.{as_object}
 use Rattle.plan_base.specs.declared.claim.Claim.{Claim}
@@ -25,16 +24,12 @@ use Rattle.desk_events.specs.declared.entry.EventEntry.{EventEntry}
 use Rattle.desk_events.specs.declared.reply.Reply.{Reply}
 use Rattle.desk_events.specs.declared.reply.Reply.TheVariants.{Exported}
 use Rattle.desk_events.specs.Entry.{data_with, data_of_reply, data_of_entry, text_of_entry}
-use Rattle.desk_events.specs.Laws.{IsTelling}
-use Rattle.desk_events.proofs.LinesBack.{entries_are_read_back}
+use Rattle.desk_events.proofs.Sent.{document_is}
+use Rattle.plan_json.proofs.LinesBack.{lines_are_read_back}
 use Rattle.desk_core.specs.Publication.{IsCheckable}
 use Rattle.desk_book.specs.Claims.{IsBoundedClaim}
 use Rattle.desk_book.proofs.Stepping.{bounded_claim}
 use Rattle.session.specs.Laws.{ExportsAreChecked}
-
-entry_tells : (before : List EventEntry) (e : EventEntry) (after : List EventEntry) → AllByRecursion IsTelling (before ++ e ∷ after) → IsTelling e
-entry_tells [] e after h = h.0
-entry_tells (x ∷ before) e after h = entry_tells before e after h.1
 
 -- the members of the object of an export
 record HasPublication (d : Data) (c : Claim) (parts : Parts) : Type 0 where
@@ -47,20 +42,13 @@ exported : (e : EventEntry) (c : Claim) (parts : Parts) → HasPublication (data
 unfolding data_with
 exported e c parts = record { members = _; object = refl; snapshot = refl; claim = refl }
 
--- what is read of bytes whose data is this object
-document_is : (bytes : List ℕ) (d : Data) (ms : Members) → data_of bytes ≡ Ok d → as_object d ≡ Some ms → document_of bytes ≡ Ok ms
-document_is bytes d ms read object =
-    let by : Result Data JsonFault → Result Members JsonFault = λ r. result_and_then (λ x. ok_or (as_object x) NotObject) r in
-    ap by read ∙ ap (λ o. let r : Result Members JsonFault = ok_or o NotObject in r) object
-
 publication_is : (bytes : List ℕ) (ms : Members) (p : Publication) → document_of bytes ≡ Ok ms → publication_of ms ≡ Ok p → publication_of_bytes bytes ≡ Ok p
 publication_is bytes ms p document publication =
     subst (λ (r : Result Members JsonFault). (let read : Result Publication DocFault = in_document r >>= publication_of in read) ≡ Ok p) (sym document) publication
 
 pub exports_are_checked : ExportsAreChecked
-exports_are_checked scripts history before after e c parts sound telling is reply =
+exports_are_checked scripts history before after e c parts sound is reply writable =
     let bytes : List ℕ = text_of_entry e in
-    let told : IsTelling e = entry_tells before e after (subst (AllByRecursion IsTelling) is telling) in
     let checkable : IsCheckable parts c = (sound.bounded before after e is).exported c parts reply in
     let has : HasPublication (data_of_entry e) c parts = subst (λ (r : Reply). HasPublication (data_of_reply e r) c parts) (sym reply) (exported e c parts) in
     let in_range = certified_claims_are_in_range parts c checkable.snapshot checkable.ranges checkable.certified in
@@ -69,7 +57,7 @@ exports_are_checked scripts history before after e c parts sound telling is repl
     record {
       publication = p;
       read =
-          publication_is bytes has.members p (document_is bytes (data_of_entry e) has.members (entries_are_read_back e told.writable) has.object)
+          publication_is bytes has.members p (document_is bytes (data_of_entry e) has.members (lines_are_read_back (data_of_entry e) writable) has.object)
           (publications_are_read_back has.members parts c checkable.snapshot checkable.ranges in_range has.snapshot has.claim);
       is_verdict = (None, checkable.certified, refl);
       bounding = λ value bound same plan feasible.

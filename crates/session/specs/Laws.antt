@@ -1,6 +1,5 @@
 -- What holds of the texts of sessions, of their plans and exports, and of the summaries of sessions and workloads.
 use Rattle.std.specs.Prelude.{◌≡◌, ℕ, ◌+◌, ◌<◌, ◌⊎◌, List, [], ◌∷◌, ◌++◌, length, slice_index_or, Some, Ok}
-use Rattle.std.specs.List.{AllByRecursion}
 use Rattle.plan_base.specs.declared.claim.Claim.{Claim}
 use Rattle.plan_base.specs.declared.verdict.Verdict.TheVariants.{Yes}
 use Rattle.plan_base.specs.declared.parts.Parts.{Parts}
@@ -18,7 +17,7 @@ use Rattle.desk_events.specs.declared.refusal.Refusal.TheVariants.{TooManyStarts
 use Rattle.desk_events.specs.declared.reply.Reply.{Reply}
 use Rattle.desk_events.specs.declared.reply.Reply.TheVariants.{Published, Exported, Refused}
 use Rattle.desk_events.specs.Entry.{text_of_entry}
-use Rattle.desk_events.specs.Laws.{IsTelling}
+use Rattle.desk_events.specs.Laws.{IsWritableEntry}
 use Rattle.desk_events.specs.Line.{command_of_line}
 use Rattle.desk_core.specs.Desk.{StateSeen}
 use Rattle.desk_core.specs.Step.{IsSnapshotOf}
@@ -58,7 +57,7 @@ PlansArePublished =
 abbrev pub ExportsAreChecked : Type 0
 ExportsAreChecked =
     (scripts : List (List ScriptLine)) (history before after : List EventEntry) (e : EventEntry) (claim : Claim) (parts : Parts)
-    → IsSound scripts history → AllByRecursion IsTelling history → history ≡ before ++ e ∷ after → e.reply ≡ Exported claim parts
+    → IsSound scripts history → history ≡ before ++ e ∷ after → e.reply ≡ Exported claim parts → IsWritableEntry e
     → IsJudged (text_of_entry e) (Yes claim.value claim.bound)
 
 -- ---- summaries

@@ -26,10 +26,11 @@ pub record IsPlanReply (s : StateSeen) (reply : Reply) : Type 0 where
 abbrev pub step_entry : StateSeen → ℕ → Reply → EventEntry
 step_entry s n reply = record { caller = 0; line = n; what = Line; version = s.version; reply = reply }
 
--- the two entries of a plan
+-- the first entry of a plan, that of its Take
 abbrev pub take_entry : StateSeen → ℕ → EventEntry
 take_entry s n = record { caller = 0; line = n; what = Take; version = s.version; reply = Taken }
 
+-- the second entry of a plan, that of its Publish, which tells what was found
 abbrev pub publish_entry : StateSeen → ℕ → Reply → EventEntry
 publish_entry s n reply = record { caller = 0; line = n; what = Publish; version = s.version; reply = reply }
 

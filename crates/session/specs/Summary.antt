@@ -21,6 +21,7 @@ use Rattle.session.specs.Session.{IsSound, WritesPrefix}
 
 -- ---- what is counted of a history
 
+-- whether a reply is a refusal: of a line, or of the plan that was sought for one
 abbrev pub is_refused : Reply → Bool
 is_refused (Refused refusal) = true
 is_refused _ = false
@@ -30,6 +31,7 @@ abbrev pub requests_in : Reply → ℕ
 requests_in (Submitted group ipp_charged requests) = length requests
 requests_in _ = 0
 
+-- the claim that a reply publishes, if it publishes one
 abbrev pub claim_in : Reply → Option Claim
 claim_in (Published claim) = Some claim
 claim_in _ = None

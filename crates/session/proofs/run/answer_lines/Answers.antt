@@ -1,18 +1,22 @@
-use Rattle.std.proofs.Common.{◌≡◌, [], ap, sym, ◌∙◌, subst, arith}
+use Rattle.std.proofs.Common.{◌≡◌, ℕ, [], ap, sym, ◌∙◌, subst, arith}
 use Rattle.plan_io.specs.LinesSeen.{LinesSeen}
 use Rattle.plan_io.specs.declared.lines.LineAnswer.TheVariants as answer
 use Rattle.plan_io.specs.Next.{IsNext}
-use Rattle.session.proofs.Going.{going_first, going_due, going_line, later_read, later_written, next_line, few_done}
+use Rattle.session.proofs.Going.{first_reader, going_first, going_due, going_line, later_read, later_written, next_line, few_done}
 use Rattle.session.proofs.Going.{gathered_none, gathered_read, gathered_line, cut_by_due, all_answered, no_line_left, on_err}
 use Rattle.session.proofs.run.answer_lines.Goals as goal
 
 pub loop-cache-init : goal.loop-cache-init
-loop-cache-init g c = record {
-  going = going_first (g.S.Source.left c.args.source.now) (g.K.Sink.written c.args.sink.now) c.in_ok-reader.reader c.args.replies.now.items c.args.state.now c.in_ok-reader.ensures c.requires.none c.requires.start;
-  steady = ap (λ (r : LinesSeen). r.failed) c.in_ok-reader.ensures;
-  reads = omega arith;
-  writes = omega arith;
-}
+loop-cache-init g c =
+    let first = c.in_ok-reader.ensures ∙ ap (λ (n : ℕ). let r : LinesSeen = record first_reader { most_lines = n } in r) c.from.ensures in
+    record {
+      going =
+          going_first (g.S.Source.left c.args.source.now) (g.K.Sink.written c.args.sink.now) c.in_ok-reader.reader c.args.replies.now.items
+          c.args.state.now first c.requires.none c.requires.start;
+      steady = ap (λ (r : LinesSeen). r.failed) first;
+      reads = omega arith;
+      writes = omega arith;
+    }
 
 pub do_line-requires-clause-version : goal.do_line-requires-clause-version
 do_line-requires-clause-version g c κs sub =

@@ -1,16 +1,18 @@
-use Rattle.std.proofs.Common.{ap, arith}
+use Rattle.std.proofs.Common.{ℕ, ap, ◌∙◌, arith}
 use Rattle.plan_io.specs.LinesSeen.{LinesSeen}
 use Rattle.plan_io.specs.declared.lines.LineAnswer.TheVariants as answer
 use Rattle.session.proofs.Going.{later_read, on_err}
-use Rattle.session.proofs.Naming.{naming_first, next_naming, naming_callers, room_for, naming_line, no_caller, naming_ended, some_read, some_sent}
+use Rattle.session.proofs.Naming.{live_reader, naming_first, next_naming, naming_callers, room_for, naming_line, no_caller, naming_ended, some_read, some_sent}
 use Rattle.session.proofs.live.reading.read_input.Goals as goal
 
 pub loop-reader-init : goal.loop-reader-init
-loop-reader-init g c = record {
-  naming = naming_first (g.S.Source.left c.args.source.now) c.in_ok-reader.reader c.args.book.now c.in_ok-reader.ensures c.requires;
-  steady = ap (λ (r : LinesSeen). r.failed) c.in_ok-reader.ensures;
-  reads = omega arith;
-}
+loop-reader-init g c =
+    let first = c.in_ok-reader.ensures ∙ ap (λ (n : ℕ). let r : LinesSeen = record live_reader { most_lines = n } in r) c.from.ensures in
+    record {
+      naming = naming_first (g.S.Source.left c.args.source.now) c.in_ok-reader.reader c.args.book.now first c.requires;
+      steady = ap (λ (r : LinesSeen). r.failed) first;
+      reads = omega arith;
+    }
 
 pub returns-in_err-line-clause-first : goal.returns-in_err-line-clause-first
 returns-in_err-line-clause-first g c =

@@ -1,0 +1,47 @@
+-- A line that sends a claim is read as its command.
+use Rattle.std.proofs.Common.{◌≡◌, ℕ, List, Result, Ok, Some, refl, ap, ◌∙◌}
+use Rattle.std.specs.Prelude.{ok_or, codes}
+use Rattle.serde_json.specs.Data.{Data, string, Members, no_members, member}
+use Rattle.serde_json.specs.Find.{as_object}
+use Rattle.plan_base.specs.Limits.{most_version}
+use Rattle.plan_base.specs.declared.claim.Claim.{Claim}
+use Rattle.plan_json.specs.declared.fault.JsonFault.{JsonFault}
+use Rattle.plan_json.specs.declared.fault.JsonFault.TheVariants.{NotObject}
+use Rattle.plan_json.specs.declared.member.Member.TheVariants as key
+use Rattle.plan_json.specs.Adds.{text_of}
+use Rattle.plan_json.specs.Object.{data_of, document_of}
+use Rattle.plan_json.specs.Reading.{result_and_then}
+use Rattle.plan_json.specs.Values.{whole}
+use Rattle.plan_json.proofs.Back.{number_back}
+use Rattle.plan_json.proofs.TextsBack.{texts_are_read_back}
+use Rattle.plan_doc.specs.Written.{claim_data}
+use Rattle.plan_doc.proofs.BackClaim.{up_to, claims_are_read_back}
+use Rattle.desk_events.specs.declared.command.Command.{Command}
+use Rattle.desk_events.specs.declared.command.Command.TheVariants.{Publish}
+use Rattle.desk_events.specs.declared.fault.CommandFault.{CommandFault}
+use Rattle.desk_events.specs.Commands.{publish_of}
+use Rattle.desk_events.specs.Fault.{read_member}
+use Rattle.desk_events.specs.Line.{command_in}
+use Rattle.desk_events.specs.Ranges.{IsPublication}
+use Rattle.desk_events.specs.Sent.{publish_data, ClaimsCanBeSent}
+
+-- what is read of bytes whose data is an object
+pub document_is : (bytes : List ℕ) (d : Data) (ms : Members) → data_of bytes ≡ Ok d → as_object d ≡ Some ms → document_of bytes ≡ Ok ms
+document_is bytes d ms read object =
+    let by : Result Data JsonFault → Result Members JsonFault = λ r. result_and_then (λ x. ok_or (as_object x) NotObject) r in
+    ap by read ∙ ap (λ o. let r : Result Members JsonFault = ok_or o NotObject in r) object
+
+-- the members of the line
+abbrev sent : ℕ → Claim → Members
+sent version claim =
+    member (codes "claim") (claim_data claim) (member (codes "do") (string (codes "publish")) (member (codes "version") (whole version) no_members))
+
+publication_is : (version : ℕ) (claim : Claim) → IsPublication version claim → publish_of (sent version claim) ≡ Ok (Publish version claim)
+publication_is version claim is =
+    rw (number_back 0 most_version key.Version version (up_to most_version version is.newest), claims_are_read_back claim is.what) refl
+
+pub claims_can_be_sent : ClaimsCanBeSent
+claims_can_be_sent version claim is writable =
+    let document = document_is (text_of (publish_data version claim)) (publish_data version claim) (sent version claim) (texts_are_read_back (publish_data version claim) writable) refl in
+    ap (λ r. let c : Result Command CommandFault = result_and_then command_in (read_member r) in c) document
+    ∙ ap (λ r. let c : Result Command CommandFault = read_member r in c) (publication_is version claim is)
