@@ -28,7 +28,7 @@ use Rattle.desk_passes.specs.Knowing.{IsFull, IsOwn, SeesAll}
 use Rattle.desk_passes.specs.Plays.{Seated, GoesOn, GetsTurn, Counts}
 use Rattle.desk_passes.specs.Steps.{with_turn, with_entry, without_turn}
 use Rattle.desk_passes.specs.Turns.{HasOneMore, answered}
-use Rattle.desk_passes.specs.Calls.{SeesMore, Adds, IsCalled, IsForTake, line_taken, IsPublished, WritesEntry}
+use Rattle.desk_passes.specs.Calls.{SeesMore, Adds, IsCalled, IsForTake, IsPublished, WritesEntry}
 use Rattle.desk_passes.proofs.Logs.{own_mine, done_lined}
 use Rattle.desk_passes.proofs.Books.{Called, Published}
 use Rattle.desk_passes.proofs.Steps.{Closes}
@@ -153,7 +153,9 @@ pub record Open (v : PassView) (b : BookSeen) (caller : ℕ) (solved : SolvedTak
   pub low : caller < length b.scripts
   pub named : solved.taken.caller ≡ caller
   pub kept : take_of b.takes solved.taken.caller ≡ Some solved.taken
-  pub line : line_taken v.take ≡ line_next b caller
+  pub take : OpenTake
+  pub is_open : v.take ≡ Some take
+  pub line : take.line ≡ line_next b caller
 
 pub opened : (v : PassView) (b : BookSeen) (caller : ℕ) (solved : SolvedTake) → v.caller ≡ Some caller → SeesAll (with_turn b v) b → IsForTake v solved → Open v b caller solved
 opened v b caller solved mine sees is =
@@ -165,7 +167,9 @@ opened v b caller solved mine sees is =
       low = own.low;
       named = it.named;
       kept = ap (take_of b.takes) it.named ∙ taken;
-      line = ap line_taken is.1 ∙ sym found.1;
+      take = is.0;
+      is_open = is.1;
+      line = sym found.1;
     }
 
 -- what was found for the open Take is always published
@@ -179,16 +183,20 @@ pub none_else : (answer : PublishStep) (e : EventEntry) → answer ≡ publish.R
 none_else answer e is (inl other) = let clash : publish.Replied e ≡ publish.NotTaken = sym is ∙ other in absurd (cc)
 none_else answer e is (inr other) = let clash : publish.Replied e ≡ publish.OtherTake = sym is ∙ other in absurd (cc)
 
-pub is_published : (v : PassView) (b c : BookSeen) (caller place : ℕ) (solved : SolvedTake) → v.caller ≡ Some caller → GoesOn v b → SeesAll (with_turn b v) b → place ≡ length (log_of b)
-    → line_taken v.take ≡ line_next b caller → Published b caller solved c
+pub is_published : (v : PassView) (b c : BookSeen) (caller place : ℕ) (solved : SolvedTake) (t : OpenTake) → v.caller ≡ Some caller → GoesOn v b → SeesAll (with_turn b v) b → place ≡ length (log_of b)
+    → v.take ≡ Some t → t.line ≡ line_next b caller → Published b caller solved c
     → IsPublished v solved place (without_turn (with_entry c caller (with_turn b v)))
-is_published v b c caller place solved mine goes sees at line p = (
-  p.more.entry,
-  p.line_is ∙ sym line,
-  p.what,
-  (b.state, p.version, p.reply),
-  adds v b c caller place p.more mine goes sees at,
-  p.left,
+is_published v b c caller place solved t mine goes sees at is line p = (
+  t,
+  is,
+  (
+    p.more.entry,
+    p.line_is ∙ sym line,
+    p.what,
+    (b.state, p.version, p.reply),
+    adds v b c caller place p.more mine goes sees at,
+    p.left,
+  ),
 )
 
 -- ---- the text of an entry

@@ -1,7 +1,6 @@
 -- What each call of a shared desk does to what its pass knows.
 use Rattle.std.specs.Prelude.{◌≡◌, ℕ, List, [], ◌∷◌, ◌++◌, length, slice_get, Option, Some, None}
 use Rattle.plan_io.specs.declared.lines.ScriptLine.{ScriptLine}
-use Rattle.plan_io.specs.declared.lines.ScriptLine.TheVariants.{TooLong}
 use Rattle.desk_events.specs.declared.entry.EventEntry.{EventEntry}
 use Rattle.desk_events.specs.declared.entry.What.{What}
 use Rattle.desk_events.specs.declared.entry.What.TheVariants.{Line, Take, Publish}
@@ -23,24 +22,31 @@ use Rattle.desk_passes.specs.Knowing.{SeesHistory}
 
 -- ---- whose a root, a pass and a note is, and what it knows
 
+-- how many callers a shared desk has
 abbrev pub callers_of : SharedDesk → ℕ
 callers_of desk = desk.table.shared.key
 
+-- the root is of this shared desk: it has a seat at the same table
 abbrev pub IsRootOf : SharedDesk → Root → Type 0
 IsRootOf desk root = root.inner.table_id ≡ desk.table.shared.table_id
 
+-- the pass is of this shared desk: it has a seat at the same table
 abbrev pub IsPassOf : SharedDesk → Pass → Type 0
 IsPassOf desk pass = pass.inner.table_id ≡ desk.table.shared.table_id
 
+-- the note is of this shared desk: it has a seat at the same table
 abbrev pub IsNoteOf : SharedDesk → Note → Type 0
 IsNoteOf desk note = note.inner.table_id ≡ desk.table.shared.table_id
 
+-- what the root knows: of the history, and where the pass of each caller is
 abbrev pub root_view : Root → PassView
 root_view root = root.inner.me.0
 
+-- what a pass knows: of the history, of its own calls, and of its open Take
 abbrev pub view : Pass → PassView
 view pass = pass.inner.me.0
 
+-- what a note knows of the history
 abbrev pub note_view : Note → PassView
 note_view note = note.inner.me.0
 
@@ -77,11 +83,6 @@ IsCalled v line (answer.Taken taken receipt) w =
 abbrev pub IsForTake : PassView → SolvedTake → Type 0
 IsForTake v solved = (t : OpenTake) × (v.take ≡ Some t) × (solved.taken ≡ t.taken)
 
--- the line of an open Take
-abbrev pub line_taken : Option OpenTake → ScriptLine
-line_taken None = TooLong
-line_taken (Some t) = t.line
-
 -- what is replied to what was found, by an entry of this version: it is stale where that isn't the version of the Take
 abbrev pub IsFoundReply : SolvedTake → EventEntry → Type 0
 IsFoundReply solved e = (s : StateSeen) × (s.version ≡ e.version) × (e.reply ≡ publish_reply s solved)
@@ -89,7 +90,8 @@ IsFoundReply solved e = (s : StateSeen) × (s.version ≡ e.version) × (e.reply
 -- what was found for the pass's open Take is published, or told to be stale, with the line of this Take
 abbrev pub IsPublished : PassView → SolvedTake → ℕ → PassView → Type 0
 IsPublished v solved place w =
-    (x : SeenEntry) × (x.line ≡ line_taken v.take) × (x.entry.what ≡ Publish) × IsFoundReply solved x.entry × Adds v place x w × (w.take ≡ None)
+    (t : OpenTake) × (v.take ≡ Some t)
+    × ((x : SeenEntry) × (x.line ≡ t.line) × (x.entry.what ≡ Publish) × IsFoundReply solved x.entry × Adds v place x w × (w.take ≡ None))
 
 -- the text of the entry at a place of what was seen was added
 abbrev pub WritesEntry : PassView → ℕ → List ℕ → List ℕ → Type 0

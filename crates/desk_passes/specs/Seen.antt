@@ -42,6 +42,7 @@ abbrev pub open_with : ScriptLine → Option Taken → Option OpenTake
 open_with line None = None
 open_with line (Some taken) = Some record { taken = taken; line = line }
 
+-- what a caller has taken, with the line that asked for it; none where no plan is sought for it
 abbrev pub open_take : BookSeen → ℕ → Option OpenTake
 open_take b caller = open_with (line_next b caller) (take_of b.takes caller)
 

@@ -30,10 +30,11 @@ with_entry b caller v = record v { seen = log_of b; own = of_caller caller (log_
 abbrev pub without_turn : PassView → PassView
 without_turn v = record v { turn = None }
 
--- a caller's pass is made: the root's view, and the pass's
+-- the root's view once a caller's pass is made
 abbrev pub with_pass_out : ℕ → PassView → PassView
 with_pass_out caller v = record v { passes = slice_set v.passes caller Out }
 
+-- the view of a new pass of a caller, which has seen what the root has, and has made no call
 abbrev pub new_pass : ℕ → PassView → PassView
 new_pass caller v = record spent { caller = Some caller; seen = v.seen }
 

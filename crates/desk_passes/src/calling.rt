@@ -201,8 +201,8 @@ impl SharedDesk {
         }
     }
 
-    /// Adds the text of the entry at a place of what the pass has seen at the end: one JSON object and a newline. Waits for the
-    /// turn. Fails only for want of memory, and then adds nothing.
+    /// Adds, at the end of `into`, the text of the entry at a place of what the pass has seen: one JSON object and a newline.
+    /// Waits for the turn. Fails only for want of memory, and then adds nothing.
     pub fn write_entry<R: Wait>(
         &self,
         rt: &R,

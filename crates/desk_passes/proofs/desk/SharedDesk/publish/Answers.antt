@@ -41,7 +41,7 @@ returns-in-Ok-clause-ok g c =
     let left = ap (λ (me : Seated). me.0) c.count_and_give_back-place.ensures.given
     ∙ ap (λ (me : Seated). without_turn (with_entry c.publish_open-published.new.book pass.caller me.0)) took.0 in
     subst (λ (w : PassView). IsPublished v c.args.solved c.count_and_give_back-place.result w) (sym left)
-    (is_published v b c.publish_open-published.new.book pass.caller c.count_and_give_back-place.result c.args.solved pass.mine took.1 took.2 place now.line it)
+    (is_published v b c.publish_open-published.new.book pass.caller c.count_and_give_back-place.result c.args.solved now.take pass.mine took.1 took.2 place now.is_open now.line it)
 
 pub returns-in-Err-clause-err : goal.returns-in-Err-clause-err
 returns-in-Err-clause-err g c =
