@@ -45,10 +45,10 @@ IsPaidBy accounts p = account_at accounts p.1.0.number.0 ≡ Some (ipp_key p.0.d
 -- ---- one group
 
 -- the refund that is told of it, if there is one
-abbrev back_in : Submitted × (Group × Group) → Option GroupRefund
+abbrev pub back_in : Submitted × (Group × Group) → Option GroupRefund
 back_in p = cond (is_open p.1.0) (refund_in (ending_of p)) None
 
-abbrev all_of : Submitted × (Group × Group) → Bool
+abbrev pub all_of : Submitted × (Group × Group) → Bool
 all_of p = true
 
 cons_is : (o : Option GroupRefund) (rs : List GroupRefund) → cons_option o rs ≡ option_to_list o ++ rs
@@ -56,7 +56,7 @@ cons_is None rs = refl
 cons_is (Some r) rs = refl
 
 -- it is the first of those that are told
-back_more : (p : Submitted × (Group × Group)) (ps : List (Submitted × (Group × Group)))
+pub back_more : (p : Submitted × (Group × Group)) (ps : List (Submitted × (Group × Group)))
     → option_to_list (back_in p) ++ refunds_in (endings_of (filter all_of ps)) ≡ refunds_in (endings_of (filter all_of (p ∷ ps)))
 back_more p ps = elim (cases_Bool (is_open p.1.0)) [
   | inl opened ↦
@@ -81,7 +81,7 @@ one_back accounts p key later paid =
     ∙ ap (λ (n : ℕ). let t : Tally = record { granted = 0; has = false; charged = 0; back = n } in t) (sym (sum ∙ seconds))
 
 -- what is told of a charge that is given back
-abbrev refund_told : Submitted × (Group × Group) → Option Hold → Option GroupRefund
+abbrev pub refund_told : Submitted × (Group × Group) → Option Hold → Option GroupRefund
 refund_told p o = option_map (λ h. record { group = p.1.1.number; seconds = h.seconds }) o
 
 -- what the ledger's entries of one group say is what is told of it
@@ -140,6 +140,12 @@ pairs_are (w ∷ ws) [] hs n = absurd (omega arith)
 pairs_are (w ∷ ws) (g ∷ gs) [] n = refl
 pairs_are (w ∷ ws) (g ∷ gs) (x ∷ hs) n = ap (λ (l : List (Group × Group)). (g, x) ∷ l) (pairs_are ws gs hs (omega arith))
 
+-- the refunds of the groups' endings are those that are told
+pub refunds_told : (d : DeskSeen) (after : Progress) → IsDesk d → AllZip IsLater d.progress.groups after.groups → refunds_in (endings_of (filter all_of (groups_along d after))) ≡ refunds_of d after
+refunds_told d after h later =
+    refunds_all all_of 0 d.books.entries [] (groups_along d after) d.books.holds (All-nil (λ x. x.group.0 ≤ 0)) (are_along d after h later) (λ k e l no. let bad : true ≡ false = no in cc)
+    ∙ ap (filter_map (refund_of d.books)) (pairs_are d.groups d.progress.groups after.groups (as_submitted d h))
+
 -- groups that go on give back what is told
 pub progress_adds : (accounts : List (ℕ × Key)) (d : DeskSeen) (after : Progress) → IsDesk d → AllZip IsLater d.progress.groups after.groups → All (IsPaidBy accounts) (groups_along d after)
     → Adds d.books.entries (with_progress after d).books.entries (back_by accounts (refunds_of d after))
@@ -148,7 +154,5 @@ progress_adds accounts d after h later paid =
     let along : AreAlong 0 ps d.books.holds = are_along d after h later in
     let a : Adds d.books.entries (fold after_group d.books ps).entries (back_by accounts (refunds_in (endings_of (filter all_of ps)))) =
     back_all accounts 0 d.books.entries [] ps d.books.holds (All-nil (λ x. x.group.0 ≤ 0)) along paid in
-    let told : refunds_in (endings_of (filter all_of ps)) ≡ refunds_of d after =
-    refunds_all all_of 0 d.books.entries [] ps d.books.holds (All-nil (λ x. x.group.0 ≤ 0)) along (λ k e l no. let bad : true ≡ false = no in cc)
-    ∙ ap (filter_map (refund_of d.books)) (pairs_are d.groups d.progress.groups after.groups (as_submitted d h)) in
+    let told : refunds_in (endings_of (filter all_of ps)) ≡ refunds_of d after = refunds_told d after h later in
     record { more = a.more; entries = a.entries; tallies = λ key. a.tallies key ∙ ap (λ (rs : List GroupRefund). back_by accounts rs key) told }

@@ -35,7 +35,7 @@ use Rattle.desk_core.specs.Refusals.{refusal_of_ledger}
 use Rattle.desk_core.specs.Submitting.{targets_with, group_of, holds_for, charge_for, submission_refusal, with_submission}
 use Rattle.desk_core.proofs.KeptSubmitting.{booked_is}
 use Rattle.desk_core.proofs.Submissions.{groups_low, is_booked}
-use Rattle.desk_accounts.proofs.Covered.{IsCovered}
+use Rattle.desk_accounts.specs.Covered.{IsCovered}
 use Rattle.desk_accounts.proofs.Requests.{charge_if}
 use Rattle.desk_accounts.proofs.Tallies.{Tally, charge_tally}
 

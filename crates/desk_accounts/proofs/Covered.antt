@@ -18,11 +18,8 @@ use Rattle.desk_core.proofs.Along.{AreAlong}
 use Rattle.desk_core.proofs.Chargeable.{group_no_more}
 use Rattle.desk_core.proofs.ToldAlong.{AreAfter, after_all}
 use Rattle.desk_core.proofs.WentOn.{are_along}
+use Rattle.desk_accounts.specs.Covered.{IsCovered}
 use Rattle.desk_accounts.proofs.Tallies.{Tally, plus, tally_of, tally-append, Adds}
-
--- so it is of each account
-abbrev pub IsCovered : Books → Type 0
-IsCovered books = (key : Key) → held_of books.holds key + seconds_of Charge key books.entries ≤ seconds_of Grant key books.entries + seconds_of Refund key books.entries
 
 -- ---- entries are added
 
@@ -43,7 +40,7 @@ still_covered before after f a less covered key =
 
 -- ---- groups go on
 
-sum_less : {X : Type 0} (f g : X → ℕ) (xs : List X) → All (λ x. f x ≤ g x) xs → sum_by f xs ≤ sum_by g xs
+pub sum_less : {X : Type 0} (f g : X → ℕ) (xs : List X) → All (λ x. f x ≤ g x) xs → sum_by f xs ≤ sum_by g xs
 sum_less f g [] h = omega arith
 sum_less f g (x ∷ xs) h =
     let a = sum_by-cons f x xs in

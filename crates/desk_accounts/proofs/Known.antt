@@ -38,6 +38,14 @@ groups_in d = zip d.groups d.progress.groups
 abbrev pub group_account : Submitted × Group → ℕ × Key
 group_account p = (p.1.number.0, ipp_key p.0.document.proposal)
 
+-- a group's ipp charge by its number
+abbrev pub group_charge : Submitted × Group → GroupNo × ℕ
+group_charge p = (p.1.number, p.0.charged)
+
+-- as it is told
+abbrev pub charge_told : GroupTold → GroupNo × ℕ
+charge_told g = (g.number, g.charged)
+
 -- a request's account by its number
 abbrev pub member_account : GroupDoc → Request × Wanted → ℕ × Key
 member_account document m = (m.0.number.0, key_of document m.1)
@@ -45,13 +53,14 @@ member_account document m = (m.0.number.0, key_of document m.1)
 abbrev pub member_accounts : Submitted × Group → List (ℕ × Key)
 member_accounts p = map (member_account p.0.document) (zip p.1.requests p.0.requests)
 
--- the groups that are told have the accounts that the desk's have
+-- the groups that are told have the accounts and the ipp charges that the desk's have
 pub record AreKnown (told : List GroupTold) (ps : List (Submitted × Group)) : Type 0 where
   pub groups : group_accounts told ≡ map group_account ps
   pub requests : request_accounts told ≡ flat_map member_accounts ps
+  pub charges : map charge_told told ≡ map group_charge ps
 
 pub none_known : AreKnown [] []
-none_known = record { groups = refl; requests = refl }
+none_known = record { groups = refl; requests = refl; charges = refl }
 
 -- with one more
 pub known_more : (told : List GroupTold) (ps : List (Submitted × Group)) (g : GroupTold) (p : Submitted × Group) → AreKnown told ps → AreKnown (g ∷ []) (p ∷ [])
@@ -67,6 +76,11 @@ known_more told ps g p h one = record {
       ∙ ap (λ (l : List (ℕ × Key)). l ++ request_accounts (g ∷ [])) h.requests
       ∙ ap (λ (l : List (ℕ × Key)). flat_map member_accounts ps ++ l) one.requests
       ∙ sym (flat_map-append member_accounts ps (p ∷ []));
+  charges =
+      map-append charge_told told (g ∷ [])
+      ∙ ap (λ (l : List (GroupNo × ℕ)). l ++ map charge_told (g ∷ [])) h.charges
+      ∙ ap (λ (l : List (GroupNo × ℕ)). map group_charge ps ++ l) one.charges
+      ∙ sym (map-append group_charge ps (p ∷ []));
 }
 
 -- ---- groups that have gone on
@@ -79,6 +93,15 @@ same_groups (w ∷ ws) (g ∷ gs) [] z = absurd z
 same_groups (w ∷ ws) (g ∷ gs) (h ∷ hs) z =
     ap (λ (n : GroupNo). (n.0, ipp_key w.document.proposal) ∷ map group_account (zip ws gs)) (sym z.0.number)
     ∙ ap (λ (l : List (ℕ × Key)). (h.number.0, ipp_key w.document.proposal) ∷ l) (same_groups ws gs hs z.1)
+
+same_charges : (ws : List Submitted) (gs hs : List Group) → AllZip IsLater gs hs → map group_charge (zip ws gs) ≡ map group_charge (zip ws hs)
+same_charges [] gs hs z = refl
+same_charges (w ∷ ws) [] [] z = refl
+same_charges (w ∷ ws) [] (h ∷ hs) z = absurd z
+same_charges (w ∷ ws) (g ∷ gs) [] z = absurd z
+same_charges (w ∷ ws) (g ∷ gs) (h ∷ hs) z =
+    ap (λ (n : GroupNo). (n, w.charged) ∷ map group_charge (zip ws gs)) (sym z.0.number)
+    ∙ ap (λ (l : List (GroupNo × ℕ)). (h.number, w.charged) ∷ l) (same_charges ws gs hs z.1)
 
 same_members : (document : GroupDoc) (qs rs : List Request) (vs : List Wanted) → AllZip IsLaterRequest qs rs
     → map (member_account document) (zip qs vs) ≡ map (member_account document) (zip rs vs)
@@ -101,7 +124,11 @@ same_requests (w ∷ ws) (g ∷ gs) (h ∷ hs) z =
 
 -- they are known as before
 pub known_along : (told : List GroupTold) (ws : List Submitted) (gs hs : List Group) → AllZip IsLater gs hs → AreKnown told (zip ws gs) → AreKnown told (zip ws hs)
-known_along told ws gs hs z h = record { groups = h.groups ∙ same_groups ws gs hs z; requests = h.requests ∙ same_requests ws gs hs z }
+known_along told ws gs hs z h = record {
+  groups = h.groups ∙ same_groups ws gs hs z;
+  requests = h.requests ∙ same_requests ws gs hs z;
+  charges = h.charges ∙ same_charges ws gs hs z;
+}
 
 -- ---- a group by its number
 

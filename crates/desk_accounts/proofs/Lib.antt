@@ -2,15 +2,21 @@ pub mod Numbered
 pub mod Tallies
 pub mod Back
 pub mod Known
+pub mod Refunds
 pub mod Requests
 pub mod Covered
 pub mod Booked
+pub mod Completing
 pub mod Goes
+pub mod Once
 pub mod Submitting
 pub mod Reporting
 pub mod Lines
 pub mod Shows
+pub mod Grants
 pub mod Listed
 pub mod Histories
+pub mod Few
+pub mod Refunded
 pub mod Printed
 mod Examples

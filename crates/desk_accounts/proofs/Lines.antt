@@ -52,7 +52,7 @@ same_goes : (known : List GroupTold) (s : StateSeen) (c : Command) (now stepped 
     → Some now ≡ Some stepped → Goes known (told_at c stepped.reply) s stepped.state
 same_goes known s c now stepped h k quiet same is =
     subst (λ (x : Stepped). Goes known (told_at c x.reply) s x.state) (same_Some now stepped is)
-    (subst (Goes known (told_at c now.reply) s) same (quiet_goes known (told_at c now.reply) s s quiet h k refl refl))
+    (subst (Goes known (told_at c now.reply) s) same (quiet_goes known (told_at c now.reply) s s quiet h k refl refl refl))
 
 told_goes : (known : List GroupTold) (version : ℕ) (d : DeskSeen) (c : Command) (answer : Result Reply Refusal) (stepped : Stepped) → IsDesk d → AreKnown known (groups_in d)
     → IfOk answer (λ r. IsQuiet (told_at c r)) → Some (told (opened version d) answer) ≡ Some stepped → Goes known (told_at c stepped.reply) (opened version d) stepped.state
@@ -61,11 +61,11 @@ told_goes known version d c (Err refusal) stepped h k quiet is = same_goes known
 
 export_quiet : (line : Result Command CommandFault) (o : Option PublicationSeen) → IfOk (on_export o) (λ r. IsQuiet (record { line = line; reply = r }))
 export_quiet line None = tt
-export_quiet line (Some p) = record { group = refl; tally = λ groups key. refl }
+export_quiet line (Some p) = record { group = refl; tally = λ groups key. refl; back = refl; done = refl }
 
 shown_quiet : (line : Result Command CommandFault) (o : Option (Submitted × Group)) → IfOk (shown_group o) (λ r. IsQuiet (record { line = line; reply = r }))
 shown_quiet line None = tt
-shown_quiet line (Some p) = record { group = refl; tally = λ groups key. refl }
+shown_quiet line (Some p) = record { group = refl; tally = λ groups key. refl; back = refl; done = refl }
 
 -- ---- an opened desk
 
@@ -77,29 +77,29 @@ line_opened known version d (command.Open now slice horizon semester lanes round
 line_opened known version d (command.Instrument name front config readout change) stepped h k ranges s =
     decided_goes known version d (command.Instrument name front config readout change) (on_instrument d name (times front config readout change)) stepped h k s.2
     (λ none.
-    quiet_line known version d _ (command.Instrument name front config readout change) _ (record { group = refl; tally = λ groups key. refl })
-    (instrument_keeps d name (times front config readout change) h) k refl refl)
+    quiet_line known version d _ (command.Instrument name front config readout change) _ (record { group = refl; tally = λ groups key. refl; back = refl; done = refl })
+    (instrument_keeps d name (times front config readout change) h) k refl refl refl)
 line_opened known version d (command.Telescope site enclosure telescope class instruments) stepped h k ranges s =
     let code : Code = record { site = site; enclosure = enclosure; telescope = telescope } in
     decided_goes known version d (command.Telescope site enclosure telescope class instruments) (on_telescope d code class instruments) stepped h k s.2
     (λ none.
-    quiet_line known version d _ (command.Telescope site enclosure telescope class instruments) _ (record { group = refl; tally = λ groups key. refl })
-    (telescope_keeps d code class instruments h none) k refl refl)
+    quiet_line known version d _ (command.Telescope site enclosure telescope class instruments) _ (record { group = refl; tally = λ groups key. refl; back = refl; done = refl })
+    (telescope_keeps d code class instruments h none) k refl refl refl)
 line_opened known version d (command.Night site spans) stepped h k ranges s =
     decided_goes known version d (command.Night site spans) (on_night d site spans) stepped h k s.2
-    (λ none. quiet_line known version d _ (command.Night site spans) _ (record { group = refl; tally = λ groups key. refl }) (night_keeps d site spans h) k refl refl)
+    (λ none. quiet_line known version d _ (command.Night site spans) _ (record { group = refl; tally = λ groups key. refl; back = refl; done = refl }) (night_keeps d site spans h) k refl refl refl)
 line_opened known version d (command.Visibility target site spans) stepped h k ranges s =
     decided_goes known version d (command.Visibility target site spans) (on_visibility d target site spans) stepped h k s.2
-    (λ none. quiet_line known version d _ (command.Visibility target site spans) _ (record { group = refl; tally = λ groups key. refl }) (visibility_keeps d target site spans h) k refl refl)
+    (λ none. quiet_line known version d _ (command.Visibility target site spans) _ (record { group = refl; tally = λ groups key. refl; back = refl; done = refl }) (visibility_keeps d target site spans h) k refl refl refl)
 line_opened known version d (command.Close scope spans) stepped h k ranges s =
     decided_goes known version d (command.Close scope spans) (on_closure d Close scope spans reply.Closed) stepped h k s.2
-    (λ none. quiet_line known version d _ (command.Close scope spans) _ (record { group = refl; tally = λ groups key. refl }) (closure_keeps d Close scope spans reply.Closed h none) k refl refl)
+    (λ none. quiet_line known version d _ (command.Close scope spans) _ (record { group = refl; tally = λ groups key. refl; back = refl; done = refl }) (closure_keeps d Close scope spans reply.Closed h none) k refl refl refl)
 line_opened known version d (command.Reopen scope spans) stepped h k ranges s =
     decided_goes known version d (command.Reopen scope spans) (on_closure d Reopen scope spans reply.Reopened) stepped h k s.2
-    (λ none. quiet_line known version d _ (command.Reopen scope spans) _ (record { group = refl; tally = λ groups key. refl }) (closure_keeps d Reopen scope spans reply.Reopened h none) k refl refl)
+    (λ none. quiet_line known version d _ (command.Reopen scope spans) _ (record { group = refl; tally = λ groups key. refl; back = refl; done = refl }) (closure_keeps d Reopen scope spans reply.Reopened h none) k refl refl refl)
 line_opened known version d (command.Grant key seconds) stepped h k ranges s =
     decided_goes known version d (command.Grant key seconds) (on_grant d key seconds) stepped h k s.2
-    (λ none. grant_line known version d (on_grant d key seconds).desk key seconds _ (grant_keeps d key seconds h) k refl refl)
+    (λ none. grant_line known version d (on_grant d key seconds).desk key seconds _ (grant_keeps d key seconds h) k refl refl refl)
 line_opened known version d (command.Submit document) stepped h k ranges s =
     decided_goes known version d (command.Submit document) (on_submit d document) stepped h k s.2 (submit_line known version d document h ranges k)
 line_opened known version d (command.Amend old document) stepped h k ranges s =
@@ -108,23 +108,23 @@ line_opened known version d (command.Withdraw group) stepped h k ranges s =
     decided_goes known version d (command.Withdraw group) (on_withdraw d group) stepped h k s.2
     (λ none.
     progress_line known version d (withdrawn group d.progress) (command.Withdraw group) (on_withdraw d group).reply h (withdraw_keeps d group h none)
-    (withdrawal_goes_on d.progress group).later k refl (λ groups key. refl))
+    (withdrawal_goes_on d.progress group).later k refl (λ groups key. refl) refl refl)
 line_opened known version d (command.Clock at) stepped h k ranges s =
     decided_goes known version d (command.Clock at) (on_clock d at) stepped h k s.2
     (λ none.
     progress_line known version d (settle (at_moment at d.progress)) (command.Clock at) (on_clock d at).reply h (clock_keeps d at h ranges)
-    (moment_goes_on d.progress at).later k refl (λ groups key. refl))
+    (moment_goes_on d.progress at).later k refl (λ groups key. refl) refl refl)
 line_opened known version d (command.Report request percent used) stepped h k ranges s =
     decided_goes known version d (command.Report request percent used) (on_report d request percent used) stepped h k s.2 (report_line known version d request percent used h k)
 line_opened known version d command.Plan stepped h k ranges s = absurd (cc)
 line_opened known version d (command.Publish asked claim) stepped h k ranges s =
     decided_goes known version d (command.Publish asked claim) (on_publish s.0 version d asked claim) stepped h k s.2
     (λ none.
-    quiet_line known version d _ (command.Publish asked claim) _ (record { group = refl; tally = λ groups key. refl })
-    (publish_keeps s.0 version d asked claim h (λ same. s.1 same _ (d, refl, refl)) none) k refl refl)
+    quiet_line known version d _ (command.Publish asked claim) _ (record { group = refl; tally = λ groups key. refl; back = refl; done = refl })
+    (publish_keeps s.0 version d asked claim h (λ same. s.1 same _ (d, refl, refl)) none) k refl refl refl)
 line_opened known version d command.Export stepped h k ranges s = told_goes known version d command.Export (on_export d.published) stepped h k (export_quiet (Ok command.Export) d.published) s.2
 line_opened known version d command.Balances stepped h k ranges s =
-    told_goes known version d command.Balances (on_balances d.books) stepped h k (record { group = refl; tally = λ groups key. refl }) s.2
+    told_goes known version d command.Balances (on_balances d.books) stepped h k (record { group = refl; tally = λ groups key. refl; back = refl; done = refl }) s.2
 line_opened known version d (command.Show group) stepped h k ranges s = told_goes known version d (command.Show group) (on_show d group) stepped h k (shown_quiet (Ok (command.Show group)) _) s.2
 
 -- ---- before the desk is opened
@@ -136,8 +136,8 @@ open_goes : (known : List GroupTold) (version : ℕ) (opening : Opening) (now : 
 open_goes known version opening now line stepped k ranges moment is =
     let before : StateSeen = record { version = version; desk = None } in
     subst (λ (x : Stepped). Goes known (record { line = line; reply = x.reply }) before x.state) (same_Some (accepted before reply.Opened (new_desk opening now)) stepped is)
-    (quiet_goes known (record { line = line; reply = reply.Opened }) before (opened (version + 1) (new_desk opening now)) (record { group = refl; tally = λ groups key. refl })
-    (new_is_desk opening now ranges moment) k refl refl)
+    (quiet_goes known (record { line = line; reply = reply.Opened }) before (opened (version + 1) (new_desk opening now)) (record { group = refl; tally = λ groups key. refl; back = refl; done = refl })
+    (new_is_desk opening now ranges moment) k refl refl refl)
 
 -- any other command is refused
 line_unopened : (known : List GroupTold) (version : ℕ) (c : Command) (stepped : Stepped) → AreKnown known [] → IsCommand c → IsStep (record { version = version; desk = None }) c stepped

@@ -1,5 +1,5 @@
 -- The accounts of a ledger, as a list.
-use Rattle.std.proofs.Common.{◌≡◌, ◌∙◌, ap, sym, subst, refl, ℕ, ◌<◌, Bool, true, false, ◌&&◌, ◌||◌, cond, List, [], ◌∷◌, length, get_or, map, filter, fold, arith, inl, inr, Option, Some, None}
+use Rattle.std.proofs.Common.{◌≡◌, ◌∙◌, ap, sym, subst, refl, ℕ, ◌+◌, ◌<◌, Bool, true, false, ◌&&◌, ◌||◌, cond, List, [], ◌∷◌, length, get_or, map, filter, fold, arith, inl, inr, Option, Some, None}
 use Rattle.std.specs.Prelude.{IsSome, if◌then◌else◌}
 use Rattle.std.specs.List.{Contains}
 use Rattle.std.specs.BTreeSet.{insert_key}
@@ -9,12 +9,13 @@ use Rattle.allocations.specs.declared.entry.Entry.{Entry}
 use Rattle.allocations.specs.declared.entry.EntryKind.TheVariants.{Grant}
 use Rattle.allocations.specs.declared.entry.Hold.{Hold}
 use Rattle.allocations.specs.declared.key.Key.{Key}
-use Rattle.allocations.specs.Books.{Books, is_kind, has_grant, balance_of, accounts_of}
+use Rattle.allocations.specs.Books.{Books, is_kind, has_grant, held_of, balance_of, available_of, accounts_of}
 use Rattle.allocations.specs.Key.{key_cmp, is_key}
 use Rattle.allocations.specs.Rising.{Rises}
 use Rattle.desk_events.specs.declared.reply.AccountBalance.{AccountBalance}
 use Rattle.desk_core.specs.Showing.{account_balance}
 use Rattle.desk_core.proofs.KeySets.{keys_from, is_on, rises_from, on_from, from_on}
+use Rattle.desk_accounts.specs.Covered.{IsCovered}
 use Rattle.desk_accounts.specs.Laws.{IsShown}
 
 -- ---- the accounts are those with a grant
@@ -71,9 +72,14 @@ some_granted books key = by (has_grant books.entries key) (balance_of books.entr
     by true n h = refl
     by false n h = h
 
--- all accounts with a grant are listed, with their balances
-pub all_shown : (books : Books) (balance : Key → Option ℕ) → ((key : Key) → balance_at books key ≡ balance key) → IsShown balance (map (account_balance books) (accounts_of books.entries))
-all_shown books balance is =
+-- where what is held is covered, what is available is the rest of the balance
+none_cut : (books : Books) (key : Key) → IsCovered books → available_of books key + held_of books.holds key ≡ balance_of books.entries key
+none_cut books key covered = let few = covered key in omega (arith, few)
+
+-- all accounts with a grant are listed, with their balances and what is available
+pub all_shown : (books : Books) (balance : Key → Option ℕ) → IsCovered books → ((key : Key) → balance_at books key ≡ balance key)
+    → IsShown balance (held_of books.holds) (map (account_balance books) (accounts_of books.entries))
+all_shown books balance covered is =
     let ks : List Key = accounts_of books.entries in
     let of : Key → AccountBalance = account_balance books in
     record {
@@ -82,6 +88,7 @@ all_shown books balance is =
           let k : Key = get_or ks i d in
           let granted : has_grant books.entries k ≡ true = account_granted books.entries k (Contains-get_or ks i d l) in
           sym (is k) ∙ ap (λ (b : Bool). let o : Option ℕ = if b then Some (balance_of books.entries k) else None in o) granted);
+      available = All-map (λ a. a.available + held_of books.holds a.key ≡ a.balance) of ks (λ i d l. none_cut books (get_or ks i d) covered);
       all = λ key some.
           let c : Contains ks key = granted_account books.entries key (some_granted books key (subst IsSome (sym (is key)) some)) in
           let count : length (map of ks) ≡ length ks = length-map ks of in

@@ -1,11 +1,12 @@
 -- The balances that are printed are those that are told.
 use Rattle.std.proofs.Common.{◌≡◌, ◌∙◌, ap, sym, subst, ℕ, Bool, List, [], ◌∷◌, ◌++◌, map, cond, Option, Some, None, Result, Ok, Err}
 use Rattle.std.specs.Prelude.{option_and_then}
+use Rattle.std.specs.Option.{option_map_or}
 use Rattle.std.proofs.lemmas.List.{append_assoc}
 use Rattle.std.proofs.lemmas.List.Sums.{fold_push}
 use Rattle.plan_io.specs.declared.lines.ScriptLine.{ScriptLine}
 use Rattle.allocations.specs.declared.key.Key.{Key}
-use Rattle.allocations.specs.Books.{balance_of, accounts_of}
+use Rattle.allocations.specs.Books.{held_of, balance_of, accounts_of}
 use Rattle.allocations.proofs.Granted.{has_grant-last}
 use Rattle.desk_events.specs.declared.command.Command.{Command}
 use Rattle.desk_events.specs.declared.command.Command.TheVariants as command
@@ -22,7 +23,9 @@ use Rattle.desk_core.specs.Registering.{on_grant}
 use Rattle.desk_core.specs.Showing.{account_balance}
 use Rattle.desk_core.specs.Step.{balance_in}
 use Rattle.desk_accounts.specs.Balance.{GrantTold, grant_in, is_granted, grant_told, told_by, balance_after}
+use Rattle.desk_accounts.specs.Covered.{IsCovered, held_at}
 use Rattle.desk_accounts.specs.Laws.{IsShown}
+use Rattle.desk_accounts.proofs.Goes.{no_books, books_of}
 use Rattle.desk_accounts.proofs.Histories.{line_leaves, told_balance, begun_told}
 use Rattle.desk_accounts.proofs.Listed.{all_shown}
 use Rattle.desk_accounts.proofs.Shows.{Shows, step_shows}
@@ -44,15 +47,24 @@ entry_lists scripts before e Line shown r is = line_lists (replay scripts before
 entry_lists scripts before e Take shown r is = let bad : reply.Taken ≡ reply.Balances shown = sym r.1 ∙ is in absurd (cc)
 entry_lists scripts before e Publish shown r is = absurd (subst (IsPublication (replay scripts before) r.0) is r.2)
 
+-- the books of an opened desk, and what they hold
+books_are : (s : StateSeen) (d : DeskSeen) → s.desk ≡ Some d → books_of s ≡ d.books
+books_are s d is = ap (λ (o : Option DeskSeen). option_map_or (λ x. x.books) o no_books) is
+
+held_is : (s : StateSeen) (d : DeskSeen) → s.desk ≡ Some d → held_of d.books.holds ≡ held_at s
+held_is s d is = ap {B = Key → ℕ} (λ (o : Option DeskSeen) (key : Key). option_map_or (λ (x : DeskSeen). held_of x.books.holds key) o 0) (sym is)
+
 pub balances_shown : (scripts : List (List ScriptLine)) (history before after : List EventEntry) (e : EventEntry) (shown : List AccountBalance) → IsLegal scripts history
-    → history ≡ before ++ e ∷ after → e.reply ≡ reply.Balances shown → IsShown (balance_after scripts before) shown
+    → history ≡ before ++ e ∷ after → e.reply ≡ reply.Balances shown → IsShown (balance_after scripts before) (held_at (replay scripts before)) shown
 balances_shown scripts history before after e shown h is printed =
     let told = begun_told scripts history before (e ∷ after) h is in
     let entry : IsEntry scripts before e = h.each before after e is in
     let listed : AreListed (replay scripts before) shown = entry_lists scripts before e e.what shown entry.reply printed in
-    subst (IsShown (balance_after scripts before)) (sym listed.2)
-    (all_shown listed.0.books (balance_after scripts before) (λ key.
-    ap (option_and_then (λ d. balance_in d key)) (sym listed.1) ∙ told_balance scripts before key told))
+    let covered : IsCovered listed.0.books = subst IsCovered (books_are (replay scripts before) listed.0 listed.1) told.covered in
+    subst (λ (f : Key → ℕ). IsShown (balance_after scripts before) f shown) (held_is (replay scripts before) listed.0 listed.1)
+    (subst (IsShown (balance_after scripts before) (held_of listed.0.books.holds)) (sym listed.2)
+    (all_shown listed.0.books (balance_after scripts before) covered (λ key.
+    ap (option_and_then (λ d. balance_in d key)) (sym listed.1) ∙ told_balance scripts before key told)))
 
 -- ---- `grant`
 

@@ -30,9 +30,12 @@ use Rattle.desk_core.proofs.FoundAt.{not_with, found_at, must_have}
 use Rattle.desk_core.proofs.KeptReport.{report_keeps}
 use Rattle.desk_core.proofs.Reportable.{can_charge}
 use Rattle.desk_accounts.specs.Balance.{Told, GroupTold, seconds_on}
-use Rattle.desk_accounts.proofs.Covered.{IsCovered, still_covered, held_less}
+use Rattle.desk_accounts.specs.Covered.{IsCovered}
+use Rattle.desk_accounts.proofs.Completing.{report_completes}
+use Rattle.desk_accounts.proofs.Covered.{still_covered, held_less}
 use Rattle.desk_accounts.proofs.Goes.{told_at, stay_known, LineGoes, progress_line}
 use Rattle.desk_accounts.proofs.Known.{groups_in, AreKnown, known_along, request_found}
+use Rattle.desk_accounts.proofs.Refunds.{still_closed, none_back}
 use Rattle.desk_accounts.proofs.Requests.{only_charged}
 use Rattle.desk_accounts.proofs.Tallies.{Tally, tally_by, request_tally, Adds, adds_as}
 
@@ -80,10 +83,10 @@ is_charged d number used w v g h there can =
 
 -- a report that completes: the request's account is charged, and nothing is given back
 completed_at : (known : List GroupTold) (version : ℕ) (d : DeskSeen) (number : RequestNo) (percent used : ℕ) (w : Submitted) (m : Request × Wanted) (g : Group)
-    → IsDesk d → AreKnown known (groups_in d) → request_with d number ≡ Some (w, m) → group_with d.progress.groups number ≡ Some g → CanCharge d number used (key_of w.document m.1)
-    → IsDesk (on_completed d number used w m.1).desk
+    → IsDesk d → AreKnown known (groups_in d) → request_with d number ≡ Some (w, m) → group_with d.progress.groups number ≡ Some g → is_placed d.progress.running number ≡ true
+    → CanCharge d number used (key_of w.document m.1) → IsDesk (on_completed d number used w m.1).desk
     → LineGoes known version d (command.Report number percent used) (on_completed d number used w m.1).reply (on_completed d number used w m.1).desk
-completed_at known version d number percent used w m g h k is there can desk =
+completed_at known version d number percent used w m g h k is there placed can desk =
     let t : Told = told_at (command.Report number percent used) (on_completed d number used w m.1).reply in
     let e : DeskSeen = (on_completed d number used w m.1).desk in
     let account : Key = key_of w.document m.1 in
@@ -95,6 +98,8 @@ completed_at known version d number percent used w m g h k is there can desk =
       adds = λ more.
           adds_as d.books.entries e.books.entries (charge_on account used) (tally_by (known ++ more) t) books.adds
           (λ key. ap (λ (o : Option Key). only_charged (seconds_on key o used)) (sym (request_found known more d number w m k is)));
+      back = none_back (groups_in d) (groups_in e) (λ n c. still_closed d.groups d.progress.groups e.progress.groups n (report_goes_on d.progress number true).later c);
+      done = report_completes d.progress number h.sound placed;
     }
 
 completed_line : (known : List GroupTold) (version : ℕ) (d : DeskSeen) (number : RequestNo) (percent used : ℕ) (w : Submitted) (m : Request × Wanted) → IsDesk d → AreKnown known (groups_in d)
@@ -111,7 +116,7 @@ completed_line known version d number percent used w m h k is placed few desk = 
         let seconds : m.0.seconds ≡ f.request.seconds = ap (λ (o : Option (Submitted × (Request × Wanted))). option_map_or (λ p. p.1.0.seconds) o 0) pair in
         let key : key_of w.document m.1 ≡ key_of f.submitted.document f.wanted =
         ap (λ (o : Option (Submitted × (Request × Wanted))). option_map_or (λ p. key_of p.0.document p.1.1) o (key_of w.document m.1)) pair in
-        completed_at known version d number percent used w m g h k is there
+        completed_at known version d number percent used w m g h k is there placed
         (can_charge d number _ used (key_of w.document m.1) h f placed (subst (λ (n : ℕ). used ≤ n) seconds few) key) desk
 
     by_group : (o : Option Group) → group_with d.progress.groups number ≡ o
@@ -138,7 +143,7 @@ report_line known version d number percent used h k none = found (request_with d
     by p true false true is placed short f desk = completed_line known version d number percent used p.0 p.1 h k is placed (ltb-false p.1.0.seconds used short) desk
     by p true false false is placed short f desk =
         progress_line known version d (reported number false d.progress) (command.Report number percent used) (on_failed d number).reply h desk (report_goes_on d.progress number false).later k refl
-        (λ groups key. refl)
+        (λ groups key. refl) refl refl
 
     found : (o : Option (Submitted × (Request × Wanted))) → request_with d number ≡ o → (on_reported d number percent used o).refusal ≡ None → IsDesk (on_reported d number percent used o).desk
         → LineGoes known version d (command.Report number percent used) (on_reported d number percent used o).reply (on_reported d number percent used o).desk

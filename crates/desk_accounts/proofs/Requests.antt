@@ -35,6 +35,7 @@ use Rattle.desk_core.proofs.WentOn.{as_submitted}
 use Rattle.desk_accounts.specs.Balance.{GroupTold, group_accounts, asked_for, key_for, account_at, seconds_on}
 use Rattle.desk_accounts.proofs.Known.{groups_in, member_account, AreKnown, known_more, group_accounts-append, all_low}
 use Rattle.desk_accounts.proofs.Numbered.{behind, at_head}
+use Rattle.desk_accounts.proofs.Refunds.{IsClosedIn, closed_more}
 use Rattle.desk_accounts.proofs.Tallies.{Tally, tally_of, charge_tally, Adds}
 
 -- ---- what is asked for
@@ -156,7 +157,8 @@ asked_is d document made numbers g e n = asked_list d document.op document.reque
 
 -- as it is told
 abbrev pub told_group : DeskSeen → GroupDoc → List MadeSeen → GroupTold
-told_group d document made = record { document = document; number = (group_of d document made).number; requests = numbers_for d document made }
+told_group d document made =
+    record { document = document; number = (group_of d document made).number; charged = charge_for d document made; requests = numbers_for d document made }
 
 new_accounts : (document : GroupDoc) (targets : List (List ℕ)) (n : ℕ) (made : List MadeSeen)
     → zip (map (λ r. r.0) (map (λ q. q.number) (requests_from n (asks_of made)))) (map (key_for document) (asked_of made))
@@ -172,6 +174,7 @@ one_known : (d : DeskSeen) (document : GroupDoc) (made : List MadeSeen) → IsGr
     → AreKnown (told_group d document made ∷ []) ((submitted_of d document made, group_of d document made) ∷ [])
 one_known d document made g e = record {
   groups = refl;
+  charges = refl;
   requests =
       let numbers : List RequestNo = numbers_for d document made in
       ap (λ (qs : List RequestDoc). zip (map (λ r. r.0) numbers) (map (key_for document) qs) ++ []) (asked_is d document made numbers g e (new_count _ made))
@@ -192,6 +195,13 @@ submission_known told d document made h g e known =
     let group : Group = group_of d document made in
     subst (AreKnown (told ++ told_group d document made ∷ [])) (sym (zip_more d.groups d.progress.groups w group (as_submitted d h)))
     (known_more told (groups_in d) (told_group d document made) (w, group) known (one_known d document made g e))
+
+-- closed groups stay so
+pub submission_stay : (d : DeskSeen) (document : GroupDoc) (made : List MadeSeen) (n : GroupNo) → IsDesk d → IsClosedIn (groups_in d) n → IsClosedIn (groups_in (with_submission d document made)) n
+submission_stay d document made n h c =
+    let w : Submitted = submitted_of d document made in
+    let group : Group = group_of d document made in
+    subst (λ (ps : List (Submitted × Group)). IsClosedIn ps n) (sym (zip_more d.groups d.progress.groups w group (as_submitted d h))) (closed_more (groups_in d) ((w, group) ∷ []) n c)
 
 -- its ipp account is found, whatever is told later
 pub new_paid : (told later : List GroupTold) (d : DeskSeen) (document : GroupDoc) (made : List MadeSeen) → IsDesk d → AreKnown told (groups_in d)

@@ -17,7 +17,7 @@ use Rattle.desk_core.specs.Closing.{begun_member, ending_refusal, without_group,
 use Rattle.desk_core.specs.Desk.{DeskSeen}
 use Rattle.desk_core.specs.Holds.{refunds_of}
 use Rattle.desk_core.specs.Kept.{IsDesk}
-use Rattle.desk_core.specs.Submitting.{group_of, charge_for, with_submission, on_made, on_submit}
+use Rattle.desk_core.specs.Submitting.{asks_of, op_of, group_of, charge_for, with_submission, on_made, on_submit}
 use Rattle.desk_core.proofs.KeptAmending.{may_amend}
 use Rattle.desk_core.proofs.KeptSubmitting.{submission_keeps}
 use Rattle.desk_core.proofs.KeptTiming.{without_keeps}
@@ -25,10 +25,12 @@ use Rattle.desk_core.proofs.Makings.{made_are}
 use Rattle.desk_accounts.specs.Balance.{GroupTold, group_accounts}
 use Rattle.desk_accounts.proofs.Back.{back_by, progress_adds}
 use Rattle.desk_accounts.proofs.Booked.{submission_covered}
+use Rattle.desk_accounts.proofs.Completing.{none_completed, later_stay, added_stay}
 use Rattle.desk_accounts.proofs.Covered.{still_covered, held_less}
 use Rattle.desk_accounts.proofs.Goes.{LineGoes}
 use Rattle.desk_accounts.proofs.Known.{groups_in, AreKnown, known_along, all_paid}
-use Rattle.desk_accounts.proofs.Requests.{told_group, submission_known, new_paid, charge_by, submission_adds}
+use Rattle.desk_accounts.proofs.Refunds.{none_back, back_then, progress_back}
+use Rattle.desk_accounts.proofs.Requests.{told_group, submission_known, new_paid, charge_by, submission_adds, submission_stay}
 use Rattle.desk_accounts.proofs.Tallies.{Tally, plus, same_tally, Adds, adds_then, adds_as}
 
 -- ---- `submit`
@@ -43,6 +45,8 @@ submit_made known version d document made h g k is none =
       groups = submission_known known d document made h g is k;
       covers = submission_covered d document made h m none;
       adds = λ later. submission_adds (group_accounts (known ++ told_group d document made ∷ later)) d document made m (new_paid known later d document made h k);
+      back = none_back (groups_in d) (groups_in (with_submission d document made)) (λ n c. submission_stay d document made n h c);
+      done = none_completed d.progress.groups (with_submission d document made).progress.groups (λ n over. added_stay (op_of document made) (asks_of made) d.progress n over);
     }
 
 pub submit_line : (known : List GroupTold) (version : ℕ) (d : DeskSeen) (document : GroupDoc) → IsDesk d → IsGroup document → AreKnown known (groups_in d)
@@ -99,6 +103,12 @@ amend_made known version d old document made h g k keeps is none =
           (adds_then d.books.entries freed.books.entries (with_submission freed document made).books.entries (back_by accounts refunds) (charge_by accounts n c) (back all)
           (submission_adds accounts freed document made m (new_paid known more freed document made keeps known_then)))
           (both_are accounts refunds n c);
+      back =
+          back_then refunds (groups_in d) (groups_in freed) (groups_in (with_submission freed document made)) (progress_back d after h later)
+          (λ m closed. submission_stay freed document made m keeps closed);
+      done =
+          none_completed d.progress.groups (with_submission freed document made).progress.groups
+          (λ m over. added_stay (op_of document made) (asks_of made) freed.progress m (later_stay d.progress.groups after.groups m later over));
     }
 
 -- neither refuses where the first of both doesn't

@@ -1,5 +1,5 @@
 -- Balances as the lines and the printed replies of a history tell them.
-use Rattle.std.specs.Prelude.{ℕ, ◌+◌, ◌-◌, ◌==◌, Bool, true, false, if◌then◌else◌, List, [], ◌∷◌, map}
+use Rattle.std.specs.Prelude.{ℕ, ◌+◌, ◌-◌, ◌^◌, ◌==◌, Bool, true, false, if◌then◌else◌, List, [], ◌∷◌, map}
 use Rattle.std.specs.Prelude.{find, zip, filter_map, flat_map, sum_by, Option, Some, None, Result, Ok, option_and_then}
 use Rattle.std.specs.List.{list_any}
 use Rattle.std.specs.Option.{option_map, option_map_or}
@@ -26,6 +26,7 @@ pub record Told : Type 0 where
   pub line : Result Command CommandFault
   pub reply : Reply
 
+-- what an entry's line in the scripts says, and its reply
 abbrev pub told_by : List (List ScriptLine) → EventEntry → Told
 told_by scripts e = record { line = read_at scripts e; reply = e.reply }
 
@@ -41,6 +42,7 @@ abbrev pub grant_in : Result Command CommandFault → Option GrantTold
 grant_in (Ok (command.Grant key seconds)) = Some record { key = key; seconds = seconds }
 grant_in _ = None
 
+-- whether a reply accepts a `grant`
 abbrev pub is_granted : Reply → Bool
 is_granted (reply.Granted balance) = true
 is_granted _ = false
@@ -48,6 +50,14 @@ is_granted _ = false
 -- the grant of an entry, where its line was accepted
 abbrev pub grant_told : Told → Option GrantTold
 grant_told t = if is_granted t.reply then grant_in t.line else None
+
+-- the seconds that an entry grants, whichever account
+abbrev pub seconds_granted : Told → ℕ
+seconds_granted t = option_map_or (λ g. g.seconds) (grant_told t) 0
+
+-- the most seconds of one grant
+abbrev pub most_grant : ℕ
+most_grant = 10 ^ 9
 
 -- whether an entry grants an account seconds
 abbrev pub grants_to : Key → Told → Bool
@@ -59,10 +69,12 @@ granted_by key t = option_map_or (λ g. if is_key g.key key then g.seconds else 
 
 -- ---- groups and their requests
 
--- a group that was submitted: its document is told by the line, its number and those of its requests by the reply
+-- a group that was submitted: its document is told by the line, its number, its ipp charge and the numbers of its requests by the
+-- reply
 pub record GroupTold : Type 0 where
   pub document : GroupDoc
   pub number : GroupNo
+  pub charged : ℕ
   pub requests : List RequestNo
 
 -- the document in a `submit` or an `amend` line
@@ -73,9 +85,10 @@ document_in _ = None
 
 -- the group that a reply gives its numbers to
 abbrev pub group_of : Option GroupDoc → Reply → Option GroupTold
-group_of document (reply.Submitted group charged requests) = option_map (λ d. record { document = d; number = group; requests = requests }) document
+group_of document (reply.Submitted group charged requests) =
+    option_map (λ d. record { document = d; number = group; charged = charged; requests = requests }) document
 group_of document (reply.Amended group charged refunded replaces requests) =
-    option_map (λ d. record { document = d; number = group; requests = requests }) document
+    option_map (λ d. record { document = d; number = group; charged = charged; requests = requests }) document
 group_of document _ = None
 
 -- the group that an entry tells, where its line was accepted
@@ -159,6 +172,25 @@ refund_on accounts key r = seconds_on key (account_at accounts r.group.0) r.seco
 abbrev pub refunded_by : List GroupTold → Key → Told → ℕ
 refunded_by groups key t = sum_by (refund_on (group_accounts groups) key) (refunds_in t.reply)
 
+-- all refunds that entries tell
+abbrev pub all_refunds : List Told → List GroupRefund
+all_refunds entries = flat_map (λ t. refunds_in t.reply) entries
+
+-- ---- completed requests
+
+-- whether a reply is that of a `report` line that completes its request
+abbrev pub is_completion : Reply → Bool
+is_completion (reply.Completed canceled charged) = true
+is_completion _ = false
+
+-- the request that an entry completes
+abbrev pub completed_told : Told → Option RequestNo
+completed_told t = if is_completion t.reply then request_in t.line else None
+
+-- all requests that entries complete
+abbrev pub all_completed : List Told → List RequestNo
+all_completed entries = filter_map completed_told entries
+
 -- ---- balances
 
 -- the entries of a history as they are told
@@ -169,13 +201,19 @@ told_of scripts history = map (told_by scripts) history
 abbrev pub has_grant_told : List Told → Key → Bool
 has_grant_told entries key = list_any (grants_to key) entries
 
--- the seconds that it was granted, that it was charged, and that it got back
+-- the seconds that all entries grant an account
 abbrev pub granted_told : List Told → Key → ℕ
 granted_told entries key = sum_by (granted_by key) entries
 
+-- the seconds that all entries grant, whichever account
+abbrev pub all_granted : List Told → ℕ
+all_granted entries = sum_by seconds_granted entries
+
+-- the seconds that all entries charge an account, where these entries also tell whose groups and requests are charged for
 abbrev pub charged_told : List Told → Key → ℕ
 charged_told entries key = sum_by (charged_by (groups_told entries) key) entries
 
+-- the seconds that all entries give back to an account, where these entries also tell whose groups are refunded
 abbrev pub refunded_told : List Told → Key → ℕ
 refunded_told entries key = sum_by (refunded_by (groups_told entries) key) entries
 

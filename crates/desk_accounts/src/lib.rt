@@ -3,4 +3,7 @@
 
 mod laws;
 
-pub use laws::{balances_are_shown, balances_are_told, charges_are_covered, desks_are_kept};
+pub use laws::{
+    balances_are_shown, balances_are_told, charges_are_covered, desks_are_kept, grants_are_few,
+    holds_are_covered, refunds_are_told, requests_are_charged_once,
+};
