@@ -51,7 +51,7 @@ decided Reopen old spans x early was is e w s a b = ap (λ v. v && (has old x &&
     by false false true a b = refl
     by false false false a b = refl
 
-lt_test : (x : ℕ) → x < end_of_time → nat_lt x end_of_time ≡ true
+pub lt_test : (x : ℕ) → x < end_of_time → nat_lt x end_of_time ≡ true
 lt_test x lt = grind (arith, nat_tests, lt)
 
 -- a line decides the seconds of its spans, and leaves the others

@@ -1,11 +1,10 @@
--- After each legal history the telescopes and the closures of the desk are those that its entries tell.
-use Rattle.std.proofs.Common.{◌≡◌, ◌∙◌, ap, sym, subst, refl, ℕ, ◌<◌, ◌≤◌, arith, Bool, true, false, cond, not, ◌&&◌, List, [], ◌∷◌, ◌++◌, length, Option, Some, None, true≢false}
+-- After each legal history the telescopes, the sites, the closures, the nights and the skies of the desk are those that its entries tell.
+use Rattle.std.proofs.Common.{◌≡◌, ◌∙◌, ap, sym, subst, refl, ℕ, ◌<◌, ◌≤◌, arith, Bool, true, false, cond, List, [], ◌∷◌, ◌++◌, length, Option}
+use Rattle.std.proofs.Common.{Some, None, true≢false}
 use Rattle.std.specs.Prelude.{IsTrue}
-use Rattle.std.specs.List.{cons_option}
 use Rattle.std.specs.Option.{IfSome, option_to_list}
 use Rattle.std.proofs.lemmas.Bool.{and_parts}
 use Rattle.std.proofs.lemmas.List.{append-nil, append_assoc}
-use Rattle.std.proofs.lemmas.List.Elements.{filter_map-append}
 use Rattle.std.proofs.lemmas.List.Sums.{fold_push}
 use Rattle.plan_base.specs.declared.span.Span.{Span}
 use Rattle.plan_io.specs.declared.lines.ScriptLine.{ScriptLine}
@@ -18,19 +17,24 @@ use Rattle.site_model.specs.Network.{NetworkSeen, no_network}
 use Rattle.site_model.specs.Registry.{codes_of}
 use Rattle.desk_events.specs.declared.entry.EventEntry.{EventEntry}
 use Rattle.desk_core.specs.Desk.{DeskSeen, start}
-use Rattle.desk_core.specs.DeskSnapshot.{observed_on}
 use Rattle.desk_core.specs.History.{read_at, after_entry, replay, IsEntry, EachAfter, IsLegal}
 use Rattle.desk_core.specs.Seconds.{end_of_time}
-use Rattle.desk_calendar.specs.Laws.{TelescopesAreTold, NumbersAreTold, ClosuresAreTold, UsableSecondsAreTold}
-use Rattle.desk_calendar.specs.Told.{Closing, code_told, closing_told, telescopes_told, IsClosedByLatest}
+use Rattle.desk_calendar.specs.Laws.{TelescopesAreTold, SitesAreTold, NumbersAreTold, ClosuresAreTold}
+use Rattle.desk_calendar.specs.Told.{Closing, code_told, closing_told, telescopes_told, sites_told, IsClosedByLatest}
 use Rattle.desk_calendar.proofs.Closures.{IsEarly, AreEarly, after_closing, line_decides, same_places, none_closed}
-use Rattle.desk_calendar.proofs.Goes.{network_in, network_of, closures_by, Goes, what_goes}
+use Rattle.desk_calendar.proofs.Entries.{what_goes}
+use Rattle.desk_calendar.proofs.Goes.{network_in, network_of, closures_by, sites_by, Goes}
+use Rattle.desk_calendar.proofs.Nights.{AreNights}
+use Rattle.desk_calendar.proofs.NightsTold.{night_said, nights_more}
+use Rattle.desk_calendar.proofs.Skies.{AreSkies}
+use Rattle.desk_calendar.proofs.SkiesTold.{sky_said, skies_more}
+use Rattle.desk_calendar.proofs.Sites.{codes-push, sites-push}
 use Rattle.desk_calendar.proofs.Latest.{is_about, about_if, about_only, IsNoneAbout, closed_by, closes_if, still_closed, was_closed, none_at_first}
 
 -- ---- closures
 
 -- the closures of all telescopes, each second of them before the end of time, and closed exactly where the latest line says so
-record IsTold (scripts : List (List ScriptLine)) (before : List EventEntry) (closures : List (List Span)) : Type 0 where
+pub record IsTold (scripts : List (List ScriptLine)) (before : List EventEntry) (closures : List (List Span)) : Type 0 where
   pub places : length closures ≡ most_telescopes
   pub early : AreEarly closures
   pub closed : (t x : ℕ) → IsTrue (has (set_at closures t) x) → IsClosedByLatest scripts before t x
@@ -89,20 +93,14 @@ closures_more scripts before e (Some c) closures says few more h = line_more scr
 
 -- ---- networks
 
--- the telescopes and the closures of a network are those that entries tell
-record AreTold (scripts : List (List ScriptLine)) (before : List EventEntry) (n : NetworkSeen) : Type 0 where
+-- the telescopes, the sites, the closures, the nights and the skies of a network are those that entries tell
+pub record AreTold (scripts : List (List ScriptLine)) (before : List EventEntry) (n : NetworkSeen) : Type 0 where
   pub codes : codes_of n.registry ≡ telescopes_told scripts before
   pub few : length (codes_of n.registry) ≤ most_telescopes
   pub closures : IsTold scripts before n.calendar.closures
-
-one_told : (o : Option Code) → cons_option o [] ≡ option_to_list o
-one_told None = refl
-one_told (Some code) = refl
-
-codes-push : (scripts : List (List ScriptLine)) (before : List EventEntry) (e : EventEntry)
-    → telescopes_told scripts (before ++ e ∷ []) ≡ telescopes_told scripts before ++ option_to_list (code_told scripts e)
-codes-push scripts before e =
-    filter_map-append (code_told scripts) before (e ∷ []) ∙ ap (λ (l : List Code). telescopes_told scripts before ++ l) (one_told (code_told scripts e))
+  pub sites : n.registry.sites ≡ sites_told scripts before
+  pub nights : AreNights n.registry.sites n.calendar.nights (night_said scripts before)
+  pub skies : AreSkies n.registry.targets n.registry.sites n.calendar.skies (sky_said scripts before)
 
 told_more : (scripts : List (List ScriptLine)) (before : List EventEntry) (e : EventEntry) (n m : NetworkSeen) → AreTold scripts before n → Goes (read_at scripts e) e.reply n m
     → AreTold scripts (before ++ e ∷ []) m
@@ -114,6 +112,9 @@ told_more scripts before e n m h g =
       few = g.room h.few;
       closures = subst (IsTold scripts (before ++ e ∷ []))
           (ap (λ (l : List Code). closures_by (closing_told scripts e) l n.calendar.closures) (sym h.codes) ∙ sym g.closures) told;
+      sites = g.sites ∙ ap (sites_by (code_told scripts e)) h.sites ∙ sym (sites-push scripts before e);
+      nights = nights_more scripts before e n m g h.nights;
+      skies = skies_more scripts before e n m g h.skies;
     }
 
 -- before the first entry nothing is told
@@ -127,6 +128,9 @@ none_told scripts = record {
     closed = λ t x is. absurd (true≢false (sym is ∙ none_closed 32 t x));
     only = λ t x k. absurd (none_at_first scripts t x k);
   };
+  sites = refl;
+  nights = record { few = omega arith; places = refl; empty = λ k x far. none_closed 16 k x; is = λ site x. refl };
+  skies = record { empty = λ t s x far. refl; is = λ target site x. refl };
 }
 
 -- ---- histories
@@ -156,7 +160,7 @@ begun_told scripts history before after h is =
     told_after scripts before [] before (each_before (IsEntry scripts) before after (subst (EachAfter (IsEntry scripts)) is h.each)) refl (none_told scripts)
 
 -- and on the desk that all of it leaves
-desk_told : (scripts : List (List ScriptLine)) (history : List EventEntry) (d : DeskSeen) → IsLegal scripts history → (replay scripts history).desk ≡ Some d
+pub desk_told : (scripts : List (List ScriptLine)) (history : List EventEntry) (d : DeskSeen) → IsLegal scripts history → (replay scripts history).desk ≡ Some d
     → AreTold scripts history d.network
 desk_told scripts history d h is = subst (AreTold scripts history) (ap network_in is) (begun_told scripts history history [] h (sym (append-nil history)))
 
@@ -174,28 +178,14 @@ numbers_told scripts history before after e code number h is says replied =
     let told : AreTold scripts before (network_of (replay scripts before)) = begun_told scripts history before (e ∷ after) h is in
     (what_goes scripts before e e.what (h.each before after e is).reply).number code number says replied ∙ ap length told.codes
 
+pub sites_told_so : SitesAreTold
+sites_told_so scripts history h = by (replay scripts history).desk refl
+  where
+    by : (o : Option DeskSeen) → (replay scripts history).desk ≡ o → IfSome o (λ d. d.network.registry.sites ≡ sites_told scripts history)
+    by None is = tt
+    by (Some d) is = (desk_told scripts history d h is).sites
+
 pub closures_told : ClosuresAreTold
 closures_told scripts history d t x h is =
     let told : IsTold scripts history d.network.calendar.closures = (desk_told scripts history d h is).closures in
     (told.closed t x, told.only t x)
-
-pub usable_told : UsableSecondsAreTold
-usable_told scripts history d site t x h is =
-    let told : IsTold scripts history d.network.calendar.closures = (desk_told scripts history d h is).closures in (
-      λ usable.
-          let night = and_parts (has (set_at d.network.calendar.nights site) x) (not (has (set_at d.network.calendar.closures t) x) && not (has (observed_on d t) x)) usable in
-          let free = and_parts (not (has (set_at d.network.calendar.closures t) x)) (not (has (observed_on d t) x)) night.1 in
-          (night.0, λ k. no_less (has (set_at d.network.calendar.closures t) x) (told.only t x k) free.0, λ runs. no_less (has (observed_on d t) x) runs free.1),
-      λ p.
-          by (has (set_at d.network.calendar.nights site) x) (has (set_at d.network.calendar.closures t) x) (has (observed_on d t) x) p.0 (λ c. p.1 (told.closed t x c)) p.2,
-    )
-  where
-    no_less : (b : Bool) → b ≡ true → not b ≡ true → ⊥
-    no_less true is out = true≢false (sym out)
-    no_less false is out = true≢false (sym is)
-
-    by : (a b c : Bool) → a ≡ true → (b ≡ true → ⊥) → (c ≡ true → ⊥) → (a && (not b && not c)) ≡ true
-    by true true c a b' c' = absurd (b' refl)
-    by true false true a b' c' = absurd (c' refl)
-    by true false false a b' c' = refl
-    by false b c a b' c' = absurd (true≢false (sym a))

@@ -1,4 +1,13 @@
+pub mod Newest
 pub mod Latest
 pub mod Closures
+pub mod Nights
+pub mod Skies
 pub mod Goes
+pub mod Telling
+pub mod Entries
+pub mod NightsTold
+pub mod SkiesTold
+pub mod Sites
 pub mod Histories
+pub mod Usable

@@ -1,2 +1,4 @@
 pub mod Told
+pub mod Nights
+pub mod Skies
 pub mod Laws

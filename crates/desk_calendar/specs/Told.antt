@@ -1,5 +1,5 @@
 -- Telescopes and closings as the lines and the printed replies of a history tell them.
-use Rattle.std.specs.Prelude.{◌≡◌, ℕ, IsTrue, List, ◌∷◌, ◌++◌, filter_map, slice_get, Option, Some, None, Result, Ok}
+use Rattle.std.specs.Prelude.{◌≡◌, ℕ, IsTrue, List, [], ◌∷◌, ◌++◌, filter_map, fold, map, slice_get, Option, Some, None, Result, Ok}
 use Rattle.plan_base.specs.declared.span.Span.{Span}
 use Rattle.plan_io.specs.declared.lines.ScriptLine.{ScriptLine}
 use Rattle.interval_set.specs.Spans.{has}
@@ -7,6 +7,7 @@ use Rattle.site_model.specs.declared.changes.Change.{Change}
 use Rattle.site_model.specs.declared.changes.Change.TheVariants.{Close, Reopen}
 use Rattle.site_model.specs.declared.code.Code.{Code}
 use Rattle.site_model.specs.declared.code.Scope.{Scope}
+use Rattle.site_model.specs.Names.{numbered}
 use Rattle.desk_events.specs.declared.command.Command.{Command}
 use Rattle.desk_events.specs.declared.command.Command.TheVariants as command
 use Rattle.desk_events.specs.declared.entry.EventEntry.{EventEntry}
@@ -31,6 +32,10 @@ code_told scripts e = code_in (read_at scripts e) e.reply
 -- the codes that the entries of a history tell, in their order: the k-th is that of telescope k
 abbrev pub telescopes_told : List (List ScriptLine) → List EventEntry → List Code
 telescopes_told scripts history = filter_map (code_told scripts) history
+
+-- the sites of these telescopes, each once, as they first come: the k-th is that of site k
+abbrev pub sites_told : List (List ScriptLine) → List EventEntry → List (List ℕ)
+sites_told scripts history = fold numbered [] (map (λ code. code.site) (telescopes_told scripts history))
 
 -- ---- closings
 

@@ -1,5 +1,5 @@
-use Rattle.desk_calendar.proofs.Histories.{usable_told}
+use Rattle.desk_calendar.proofs.Usable.{usable_told, by_number_told}
 use Rattle.desk_calendar.proofs.laws.usable_seconds_are_told.Goals as goal
 
 pub returns : goal.returns
-returns c = usable_told
+returns c = record { told = usable_told; by_number = by_number_told }
