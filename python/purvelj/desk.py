@@ -2,9 +2,6 @@
 
 from __future__ import annotations
 
-import os
-import shlex
-import shutil
 import threading
 from contextlib import ExitStack
 from pathlib import Path
@@ -13,13 +10,13 @@ from typing import Iterable, Mapping, Sequence, TypeVar
 
 from purvelj import lines
 from purvelj.documents import compact, decoded, write_text
-from purvelj.errors import PurveljError
-from purvelj.history import Exchange, History, read_history
+from purvelj.history import Exchange, History
 from purvelj.journal import Journal
 from purvelj.lines import Line, Pairs
 from purvelj.model import Claim
 from purvelj.moments import Moment
-from purvelj.pipes import DeskEnded, DeskError, LineProgram, run_through
+from purvelj.pipes import DeskError, LineProgram
+from purvelj.programs import TIMEOUT, command_of
 from purvelj.replies import (
     Amended,
     Balance,
@@ -40,12 +37,10 @@ from purvelj.replies import (
     is_taken,
     read_reply,
 )
-from purvelj.resume import line_again, output_again, pieces
+from purvelj.resume import line_again, output_again
+from purvelj.scripts import test_lines
 
 R = TypeVar("R", bound=Reply)
-
-#: The most seconds that a reply may take, if nothing else is said: time to build a program, or to plan.
-TIMEOUT = 600.0
 
 
 class Refusal(DeskError):
@@ -75,70 +70,6 @@ class ReplyDiffers(DeskError):
         texts = [" and ".join(each[:200] for each in texts) for texts in (found, wanted)]
         super().__init__(f"line {line}: the reply differs from the journal's: {texts[0]} instead of {texts[1]}")
         self.line = line
-
-
-def default_program() -> list[str]:
-    """The command of the session program.
-
-    It is that of the environment variable ``PURVELJ_PROGRAM``, or ``bin/netsched session`` of the
-    repository that this package stands in, or ``netsched session`` of the search path.
-    """
-    chosen = os.environ.get("PURVELJ_PROGRAM")
-    if chosen:
-        return command_of(chosen)
-    own = Path(__file__).resolve().parents[2] / "bin" / "netsched"
-    found = str(own) if own.exists() else shutil.which("netsched")
-    if found is None:
-        raise DeskError("netsched isn't there: name a session program, or set PURVELJ_PROGRAM")
-    return [found, "session"]
-
-
-def command_of(program: Sequence[str] | str | None) -> list[str]:
-    """The words of a command: a text is parted as a shell does, and None is the default program."""
-    if program is None:
-        return default_program()
-    try:
-        words = shlex.split(program) if isinstance(program, str) else list(program)
-    except ValueError as fault:
-        raise DeskError(f"{program!r} is no command: {fault}") from None
-    if not words:
-        raise DeskError("the command of the session program has no words")
-    return words
-
-
-def run_script(
-    script: Iterable[str], program: Sequence[str] | str | None = None, timeout: float | None = TIMEOUT
-) -> History:
-    """Sends the lines of a script all at once to a session program, and gives what it replied.
-
-    The script is a list of lines or an open file; lines may have their newlines at the end. This serves a program,
-    too, that reads all its input before it replies. ``DeskEnded`` where it ends with a status above 0, whose
-    ``history`` has the replies until then, and ``NoReply`` where it takes longer than ``timeout`` seconds.
-    """
-    _test_lines(script)
-    sent = [line.rstrip("\n") for line in script]
-    command = command_of(program)
-    text = "".join(f"{line}\n" for line in sent)
-    output, exit_status = run_through(command, text, timeout)
-    if exit_status:
-        raise DeskEnded(command, exit_status, _history_until(output, text))
-    history = read_history(decoded(output, "output", "surrogatepass"), text)
-    if len(history.exchanges) != len(sent):
-        raise DeskError(f"{len(sent)} lines were sent, and {len(history.exchanges)} were replied to")
-    return history
-
-
-def _history_until(output: bytes, script: str) -> History:
-    """What a program had replied to a script when it ended, but for a torn reply; nothing where one can't be read."""
-    try:
-        return read_history(decoded(pieces(output)[0], "output", "surrogatepass"), script)
-    except PurveljError:
-        return History(())
-
-
-def _test_lines(script: object) -> None:
-    if isinstance(script, (str, bytes)):
-        raise TypeError("a script is a list of lines or an open file, and not one text")
 
 
 class Desk:
@@ -283,7 +214,7 @@ class Desk:
 
     def replay(self, script: Iterable[str]) -> list[tuple[Reply, ...]]:
         """Sends the lines of a script one after another and gives the replies to each, refusals among them."""
-        _test_lines(script)
+        test_lines(script)
         return [self.send(line.rstrip("\n")) for line in script]
 
     def open(

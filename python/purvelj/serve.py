@@ -19,11 +19,12 @@ from pathlib import Path
 from types import TracebackType
 from typing import BinaryIO, Callable, Iterator, Sequence
 
-from purvelj.desk import TIMEOUT, Desk
+from purvelj.desk import Desk
 from purvelj.documents import decoded
 from purvelj.errors import FileError
 from purvelj.journal import Journal
 from purvelj.lines import MOST_LINES
+from purvelj.programs import TIMEOUT
 
 #: The most bytes of a line without its newline. A session refuses a longer one, which counts among what it may read.
 LONGEST = 1 << 20

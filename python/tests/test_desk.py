@@ -3,17 +3,14 @@
 from __future__ import annotations
 
 import json
-import os
 import shlex
-import signal
 import sys
-import time
 from datetime import datetime, timezone
 from pathlib import Path
 
 import pytest
 
-from purvelj.desk import Desk, Refusal, default_program, run_script
+from purvelj.desk import Desk, Refusal
 from purvelj.documents import compact
 from purvelj.errors import DocumentError, FileError
 from purvelj.history import read_history
@@ -21,7 +18,9 @@ from purvelj.lines import night_line, submit_line, visibility_line
 from purvelj.model import Placement
 from purvelj.moments import seconds_of
 from purvelj.pipes import DeskEnded, DeskError, NoReply
+from purvelj.programs import default_program
 from purvelj.replies import Balance, Completed, Failed, Refused, Submitted
+from purvelj.scripts import run_script
 from script import LINES, REPLIES, SNAPSHOT
 
 GROUP = json.loads(LINES[6])["group"]
@@ -228,137 +227,6 @@ def test_a_closed_desk_says_so(desk: Desk) -> None:
     assert desk.close() == 0
     with pytest.raises(DeskError, match="^the desk was closed$"):
         desk.balances()
-
-
-def alive(process: int) -> bool:
-    try:
-        os.kill(process, 0)
-    except ProcessLookupError:
-        return False
-    return True
-
-
-def test_a_program_that_ends_is_told_with_its_status() -> None:
-    with Desk(program("import sys; sys.stdin.readline(); sys.exit(4)"), timeout=20) as desk:
-        with pytest.raises(
-            DeskEnded, match=r"ended with status 4 \(it ran out of memory\) before it replied to all lines"
-        ):
-            desk.plan()
-        with pytest.raises(DeskEnded, match="ended with status 4"):
-            desk.plan()
-        assert desk.close() == 4
-
-
-def test_a_program_that_was_killed_is_told() -> None:
-    with Desk(program("import os; os.kill(os.getpid(), 9)"), timeout=20) as desk:
-        with pytest.raises(DeskEnded, match="SIGKILL"):
-            desk.plan()
-
-
-def test_a_program_that_is_silent_is_left_after_the_timeout(monkeypatch: pytest.MonkeyPatch) -> None:
-    monkeypatch.setattr("purvelj.pipes.GRACE", 0.3)
-    with Desk(program("import time; time.sleep(60)"), timeout=0.3) as desk:
-        with pytest.raises(NoReply, match="within 0.3 s"):
-            desk.plan()
-        begun = time.monotonic()
-    assert desk.close() == -signal.SIGTERM
-    assert time.monotonic() - begun < 10
-
-
-def test_what_a_program_started_is_ended_with_it(monkeypatch: pytest.MonkeyPatch) -> None:
-    monkeypatch.setattr("purvelj.pipes.GRACE", 0.5)
-    text = (
-        "import signal, subprocess, time; signal.signal(signal.SIGTERM, signal.SIG_IGN);"
-        "child = subprocess.Popen(['sleep', '60']); input();"
-        'print(\'{"caller":0,"line":1,"ok":"granted","version":0,"balance":%d}\' % child.pid, flush=True);'
-        "time.sleep(60)"
-    )
-    with Desk(program(text), timeout=20) as desk:
-        child = desk.send("{}")[0].balance
-        assert alive(child)
-    assert desk.close() == -signal.SIGKILL
-    deadline = time.monotonic() + 5
-    while alive(child) and time.monotonic() < deadline:
-        time.sleep(0.05)
-    assert not alive(child) or _is_zombie(child)
-
-
-def _is_zombie(process: int) -> bool:
-    return Path(f"/proc/{process}/stat").read_text().rsplit(")", 1)[1].split()[0] == "Z"
-
-
-#: A program that leaves another running, ``sleep``, whose number is the balance that it replies with.
-LEAVES = """
-import subprocess, sys
-line = sys.stdin.readline()
-child = subprocess.Popen(["sleep", "60"], stdout=None if "hold" in line else subprocess.DEVNULL)
-print('{"caller":0,"line":1,"ok":"granted","version":0,"balance":%d}' % child.pid, flush=True)
-if "last" not in line:
-    sys.stdin.read()
-"""
-
-
-def is_ended(process: int) -> bool:
-    return not alive(process) or _is_zombie(process)
-
-
-@pytest.mark.parametrize("word", ["hold", "leave"])
-def test_what_a_program_leaves_running_is_ended(word: str, monkeypatch: pytest.MonkeyPatch) -> None:
-    monkeypatch.setattr("purvelj.pipes.GRACE", 0.5)
-    with Desk(program(LEAVES), timeout=20) as desk:
-        child = desk.send(word)[0].balance
-        assert not is_ended(child)
-    assert desk.close() == 0 and is_ended(child)
-
-
-def test_what_a_program_leaves_that_ended_by_itself_is_ended(monkeypatch: pytest.MonkeyPatch) -> None:
-    monkeypatch.setattr("purvelj.pipes.GRACE", 0.5)
-    with Desk(program(LEAVES), timeout=20) as desk:
-        child = desk.send("last")[0].balance
-        with pytest.raises(DeskEnded, match="ended with status 0"):
-            for _ in range(2000):
-                desk.test_running()
-                time.sleep(0.01)
-        assert not is_ended(child)
-    assert desk.close() == 0 and is_ended(child)
-
-
-def test_what_a_script_leaves_running_is_ended(monkeypatch: pytest.MonkeyPatch, tmp_path: Path) -> None:
-    monkeypatch.setattr("purvelj.pipes.GRACE", 0.5)
-    assert is_ended(run_script(["last"], program(LEAVES)).exchanges[0].reply.balance)
-    notes = f"open({str(tmp_path / 'child')!r}, 'w').write(str(child.pid))"
-    with pytest.raises(NoReply, match="didn't end within 2 s"):
-        run_script(["last hold"], program(f"{LEAVES}\n{notes}"), timeout=2)
-    assert is_ended(int((tmp_path / "child").read_text()))
-
-
-def test_a_program_whose_number_may_be_anothers_is_sent_no_signal(monkeypatch: pytest.MonkeyPatch) -> None:
-    sent: list[int] = []
-    monkeypatch.setattr("os.killpg", lambda group, number: sent.append(number))
-    desk = Desk(program("import sys; sys.stdin.read()"))
-    desk._program._process.stdin.close()
-    os.waitpid(desk._program._process.pid, 0)
-    assert (desk.close(), sent) == (0, [])
-
-
-def test_a_program_that_is_gone_before_its_signal_comes(monkeypatch: pytest.MonkeyPatch) -> None:
-    def gone(group: int, number: int) -> None:
-        os.kill(group, signal.SIGKILL)
-        raise ProcessLookupError
-
-    monkeypatch.setattr("purvelj.pipes.GRACE", 0.3)
-    monkeypatch.setattr("os.killpg", gone)
-    assert Desk(program("import time; time.sleep(60)")).close() == -signal.SIGKILL
-
-
-def test_a_program_that_never_stops_writing_is_ended(monkeypatch: pytest.MonkeyPatch) -> None:
-    monkeypatch.setattr("purvelj.pipes.GRACE", 0.3)
-    with Desk(["yes"], timeout=20) as desk:
-        with pytest.raises(FileError, match="reply to line 1: not JSON"):
-            desk.plan()
-    assert desk.close() == -signal.SIGTERM
-    with pytest.raises(NoReply, match="didn't end within 0.1 s"):
-        run_script(LINES, program("while True: print(flush=True)"), timeout=0.1)
 
 
 def test_a_fault_in_the_with_statement_ends_the_program(netsched: list[str]) -> None:

@@ -9,10 +9,8 @@ from decimal import Decimal
 import pytest
 
 from portal_document import DOCUMENT
-from purvelj.documents import Document, parse
-from purvelj.errors import DocumentError
-from purvelj.places import Limits, Target
-from purvelj.portal import Notes, PortalError, convert, summary, targets_of
+from purvelj.documents import parse
+from purvelj.portal import PortalError, convert, summary
 
 GROUP = {
     "name": "M 51 in r",
@@ -362,49 +360,4 @@ def test_notes_that_say_the_same_are_one_line() -> None:
         request["optimization_type"] = "AIRMASS"
     assert summary(convert(value, 12).notes) == [
         "warning: optimization: requests[0].optimization_type and 2 more: the desk doesn't heed AIRMASS"
-    ]
-
-
-def test_targets_have_the_strictest_limits() -> None:
-    value = document("", operator="MANY", requests=requests(3))
-    limits = ({"max_airmass": 2.0}, {"max_airmass": 1.5, "min_lunar_distance": 30}, None)
-    for request, constraints in zip(value["requests"], limits):
-        request["configurations"][0]["constraints"] = constraints
-    notes = Notes()
-    targets = targets_of([("a.json:", value)], Limits(20.0), notes)
-    assert targets == {Target("M51", 202.4696, 47.1952): Limits(20.0, 1.5, 30.0)}
-    assert [note.path for note in notes.all()] == [
-        f"a.json: requests[{place}].configurations[0].target" for place in (1, 2)
-    ]
-
-
-def test_a_name_for_two_places_in_the_sky() -> None:
-    value = document("", operator="MANY", requests=requests(2))
-    value["requests"][1]["configurations"][0]["target"]["ra"] = 202.5
-    with pytest.raises(DocumentError, match="M51 stands for two places in the sky"):
-        targets_of([("a.json", value)], Limits(), Notes())
-
-
-def test_a_position_is_in_degrees() -> None:
-    value = document("target", ra="00:47:33")
-    with pytest.raises(DocumentError, match=r"target.ra: a text stands where a number should be; it is in degrees$"):
-        targets_of([("a.json:", value)], Limits(), Notes())
-    with pytest.raises(DocumentError, match=r"^dec: 91 is out of -90 to 90; it is in degrees$"):
-        Target.read(Document({"name": "x", "ra": 1, "dec": 91}))
-
-
-def test_two_spellings_of_a_target_are_a_warning() -> None:
-    value = document("", operator="MANY", requests=requests(5))
-    names = ("NGC 253", "ngc  253", "NGC 253", "NGC 253 ", "ngc  253")
-    for request, name in zip(value["requests"], names):
-        request["configurations"][0]["target"]["name"] = name
-    notes = Notes()
-    targets = targets_of([("a.json:", value)], Limits(), notes)
-    assert [target.name for target in targets] == ["NGC 253", "ngc  253", "NGC 253 "]
-    path = "configurations[0].target.name"
-    assert summary(notes.all()) == [
-        f"warning: spelling: a.json: requests[1].{path} and 1 more: "
-        "`ngc  253` is spelt as `NGC 253` elsewhere, and the two are two targets",
-        f"warning: spelling: a.json: requests[3].{path}: "
-        "`NGC 253 ` is spelt as `NGC 253` elsewhere, and the two are two targets",
     ]

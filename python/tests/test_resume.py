@@ -11,12 +11,13 @@ from pathlib import Path
 import pytest
 
 from purvelj import cli
-from purvelj.desk import Desk, ReplyDiffers, run_script
+from purvelj.desk import Desk, ReplyDiffers
 from purvelj.errors import DocumentError, FileError
 from purvelj.history import Exchange
 from purvelj.pipes import DeskEnded, DeskError, NoReply
 from purvelj.replies import Balances, Shown, read_reply
 from purvelj.resume import line_again, stopped
+from purvelj.scripts import run_script
 from script import CLAIM, LINES, REPLIES
 from serving import limited
 from test_desk import program

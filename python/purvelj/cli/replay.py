@@ -37,8 +37,8 @@ def add_commands(commands: Commands) -> None:
 
 def run_replay(options: argparse.Namespace) -> int:
     """Runs ``replay``."""
-    from purvelj.desk import run_script
     from purvelj.pipes import DeskEnded
+    from purvelj.scripts import run_script
 
     text = read_text(options.script)
     if text.startswith("\ufeff"):
