@@ -22,7 +22,8 @@ use Rattle.allocations.proofs.Order.{Rises-insert}
 use Rattle.allocations.proofs.Registers.{map-insert}
 
 -- another group at a place, and sums that follow
-pub tied_set : (keys : List Key) (sums new : List Sums) (ps : List Posting) (gs : List GroupState) (j : ℕ) (g : GroupState) → Tied keys sums ps gs → j < length gs → IsOfAccounts (length keys) g → length new ≡ length sums
+pub tied_set : (keys : List Key) (sums new : List Sums) (ps : List Posting) (gs : List GroupState) (j : ℕ) (g : GroupState) → Tied keys sums ps gs
+    → j < length gs → IsOfAccounts (length keys) g → length new ≡ length sums
     → ((i : ℕ) → i < length keys → (get_or new i no_sums).balance ≡ (get_or sums i no_sums).balance)
     → ((i : ℕ) → i < length keys → (get_or new i no_sums).held + amount_at i (group_at gs j).holds ≡ (get_or sums i no_sums).held + amount_at i g.holds)
     → ((i : ℕ) → i < length keys → (get_or new i no_sums).held ≤ (get_or new i no_sums).balance)
@@ -41,7 +42,8 @@ tied_set keys sums new ps gs j g t l of_accounts lengths balance held covered = 
   covered = covered;
 }
 
-pub grouped_set : (keys : List Key) (gs : List GroupState) (j : ℕ) (g : GroupState) → IsGrouped keys gs → g.group ≡ (group_at gs j).group → Rises key_cmp (amount_keys keys g.holds) → IsGrouped keys (set gs j g)
+pub grouped_set : (keys : List Key) (gs : List GroupState) (j : ℕ) (g : GroupState) → IsGrouped keys gs → g.group ≡ (group_at gs j).group
+    → Rises key_cmp (amount_keys keys g.holds) → IsGrouped keys (set gs j g)
 grouped_set keys gs j g h same rises = record {
   rising = rw (map-set_same (λ (x : GroupState). x.group.0) gs j g no_group (ap (λ (n : GroupNo). n.0) same)) h.rising;
   ordered = All-set (λ (x : GroupState). Rises key_cmp (map (λ m. key_at keys m.account) x.holds)) gs j g rises h.ordered;
@@ -50,7 +52,8 @@ grouped_set keys gs j g h same rises = record {
 All-insert : {X : Type 0} (P : X → Type 0) (xs : List X) (i : ℕ) (x : X) → P x → All P xs → All P (insert xs i x)
 All-insert P xs i x one all = All-append P _ _ (All-take P i xs all) (All-cons P x _ one (All-drop P i xs all))
 
-pub tied_open : (keys : List Key) (sums : List Sums) (ps : List Posting) (gs : List GroupState) (j : ℕ) (n : GroupNo) → Tied keys sums ps gs → Tied keys sums ps (insert gs j (empty_group n))
+pub tied_open : (keys : List Key) (sums : List Sums) (ps : List Posting) (gs : List GroupState) (j : ℕ) (n : GroupNo) → Tied keys sums ps gs
+    → Tied keys sums ps (insert gs j (empty_group n))
 tied_open keys sums ps gs j n t = record {
   lengths = t.lengths;
   apart = t.apart;
@@ -61,10 +64,12 @@ tied_open keys sums ps gs j n t = record {
   covered = t.covered;
 }
 
-pub grouped_open : (keys : List Key) (gs : List GroupState) (j : ℕ) (n : GroupNo) → IsGrouped keys gs → IsGap nat_cmp (numbers_of gs) n.0 j → IsGrouped keys (insert gs j (empty_group n))
+pub grouped_open : (keys : List Key) (gs : List GroupState) (j : ℕ) (n : GroupNo) → IsGrouped keys gs → IsGap nat_cmp (numbers_of gs) n.0 j
+    → IsGrouped keys (insert gs j (empty_group n))
 grouped_open keys gs j n h g = record {
   rising = rw (map-insert (λ (x : GroupState). x.group.0) gs j (empty_group n)) (Rises-insert nat_cmp nat_cmp_total (numbers_of gs) n.0 j h.rising g);
-  ordered = All-insert (λ (x : GroupState). Rises key_cmp (map (λ m. key_at keys m.account) x.holds)) gs j (empty_group n) (λ a b d l m. absurd (omega arith)) h.ordered;
+  ordered = All-insert (λ (x : GroupState). Rises key_cmp (map (λ m. key_at keys m.account) x.holds)) gs j (empty_group n)
+      (λ a b d l m. absurd (omega arith)) h.ordered;
 }
 
 -- a write to all of a list
@@ -78,7 +83,8 @@ set_set {X} (z ∷ zs) (suc i) x y = ap (λ (l : List X). z ∷ l) (set_set zs i
 
 -- a group that is unbooked, and then has no charge that stands
 pub emptied : (gs : List GroupState) (j : ℕ) → j < length gs
-    → set (set gs j (record (group_at gs j) { holds = [] })) j (record (group_at (set gs j (record (group_at gs j) { holds = [] })) j) { ipp = None }) ≡ set gs j (empty_group (group_at gs j).group)
+    → set (set gs j (record (group_at gs j) { holds = [] })) j (record (group_at (set gs j (record (group_at gs j) { holds = [] })) j) { ipp = None })
+    ≡ set gs j (empty_group (group_at gs j).group)
 emptied gs j l =
     let unbooked : GroupState = record (group_at gs j) { holds = [] } in
     let at : group_at (set gs j unbooked) j ≡ unbooked = get_or-set_same gs j unbooked no_group l in

@@ -12,7 +12,8 @@ use Rattle.allocations.specs.declared.key.Key.{Key}
 use Rattle.allocations.specs.Key.{account_rank, key_cmp, is_key, is_text}
 
 pub key_cmp_total : IsTotalOrder key_cmp
-key_cmp_total = then_total (on_total (λ (k : Key). k.proposal) nat_list_cmp_total) (then_total (on_total (λ (k : Key). account_rank k.account) nat_cmp_total) (on_total (λ (k : Key). k.instrument) nat_list_cmp_total))
+key_cmp_total = then_total (on_total (λ (k : Key). k.proposal) nat_list_cmp_total)
+    (then_total (on_total (λ (k : Key). account_rank k.account) nat_cmp_total) (on_total (λ (k : Key). k.instrument) nat_list_cmp_total))
 
 pub nat_same : (x y : ℕ) → nat_cmp x y ≡ Equal → x ≡ y
 nat_same x y h = by_ranked _ _ _ (nat_cmp x y) (ranked x y (nat_cmp x y) refl) (λ l p. cc (sym l, h)) (λ _ p. p) (λ g p. cc (sym g, h))
@@ -50,7 +51,8 @@ rank_same a b h = sym (account_at-rank a) ∙ ap account_at h ∙ account_at-ran
 
 pub key_same : (a b : Key) → key_cmp a b ≡ Equal → a ≡ b
 key_same a b h =
-    let first = then_equal (slice_cmp nat_cmp a.proposal b.proposal) (ordering_then (nat_cmp (account_rank a.account) (account_rank b.account)) (slice_cmp nat_cmp a.instrument b.instrument)) h in
+    let first = then_equal (slice_cmp nat_cmp a.proposal b.proposal)
+    (ordering_then (nat_cmp (account_rank a.account) (account_rank b.account)) (slice_cmp nat_cmp a.instrument b.instrument)) h in
     let second = then_equal (nat_cmp (account_rank a.account) (account_rank b.account)) (slice_cmp nat_cmp a.instrument b.instrument) first.1 in
     let proposals : a.proposal ≡ b.proposal = texts_same a.proposal b.proposal first.0 in
     let accounts : a.account ≡ b.account = rank_same a.account b.account (nat_same _ _ second.0) in

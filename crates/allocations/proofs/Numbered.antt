@@ -38,26 +38,33 @@ module _ {X : Type 0} (number : X → ℕ) where
 
   before_test : (x : X) (xs : List X) (n j : ℕ) → Rises nat_cmp (map number (x ∷ xs)) → slice_get (map number xs) j ≡ Some n → (number x == n) ≡ false
   before_test x xs n j r at = ne_eqb (number x) n (λ e.
-      let less : nat_cmp (number x) (get_or (map number xs) j n) ≡ Less = r 0 (suc j) n (omega arith) (let w = slice_get_within (map number xs) j n at in omega (arith, w)) in
-      let tie : nat_cmp (number x) (get_or (map number xs) j n) ≡ Equal = rw (e, get_or_from_slice_get (map number xs) j n n at) (tied_itself nat_cmp_total n) in
+      let less : nat_cmp (number x) (get_or (map number xs) j n) ≡ Less =
+      r 0 (suc j) n (omega arith) (let w = slice_get_within (map number xs) j n at in omega (arith, w)) in
+      let tie : nat_cmp (number x) (get_or (map number xs) j n) ≡ Equal =
+      rw (e, get_or_from_slice_get (map number xs) j n n at) (tied_itself nat_cmp_total n) in
       cc)
 
   tail_rises : (x : X) (xs : List X) → Rises nat_cmp (map number (x ∷ xs)) → Rises nat_cmp (map number xs)
   tail_rises x xs r i j d l m = r (suc i) (suc j) d (omega arith) (omega (arith, m))
 
   -- a change of the element with the number
-  pub map_at : (xs : List X) (n j : ℕ) (f : X → X) (d : X) → Rises nat_cmp (map number xs) → slice_get (map number xs) j ≡ Some n → map (λ x. if number x == n then f x else x) xs ≡ set xs j (f (get_or xs j d))
+  pub map_at : (xs : List X) (n j : ℕ) (f : X → X) (d : X) → Rises nat_cmp (map number xs) → slice_get (map number xs) j ≡ Some n
+      → map (λ x. if number x == n then f x else x) xs ≡ set xs j (f (get_or xs j d))
   map_at [] n j f d r at = cc
   map_at (x ∷ xs) n zero f d r at =
       let e : number x ≡ n = same_Some (number x) n at in
-      ap (λ (b : Bool). (if b then f x else x) ∷ map (λ y. if number y == n then f y else y) xs) (eq-eqb (number x) n e) ∙ ap (λ (l : List X). f x ∷ l) (map_none xs n f (rest_tests x xs n r e))
+      ap (λ (b : Bool). (if b then f x else x) ∷ map (λ y. if number y == n then f y else y) xs) (eq-eqb (number x) n e)
+      ∙ ap (λ (l : List X). f x ∷ l) (map_none xs n f (rest_tests x xs n r e))
   map_at (x ∷ xs) n (suc j) f d r at =
-      ap (λ (b : Bool). (if b then f x else x) ∷ map (λ y. if number y == n then f y else y) xs) (before_test x xs n j r at) ∙ ap (λ (l : List X). x ∷ l) (map_at xs n j f d (tail_rises x xs r) at)
+      ap (λ (b : Bool). (if b then f x else x) ∷ map (λ y. if number y == n then f y else y) xs) (before_test x xs n j r at)
+      ∙ ap (λ (l : List X). x ∷ l) (map_at xs n j f d (tail_rises x xs r) at)
 
-  pub find_at : (xs : List X) (n j : ℕ) (d : X) → Rises nat_cmp (map number xs) → slice_get (map number xs) j ≡ Some n → find (λ x. number x == n) xs ≡ Some (get_or xs j d)
+  pub find_at : (xs : List X) (n j : ℕ) (d : X) → Rises nat_cmp (map number xs) → slice_get (map number xs) j ≡ Some n
+      → find (λ x. number x == n) xs ≡ Some (get_or xs j d)
   find_at [] n j d r at = cc
   find_at (x ∷ xs) n zero d r at = ap (λ (b : Bool). if b then Some x else find (λ y. number y == n) xs) (eq-eqb (number x) n (same_Some (number x) n at))
-  find_at (x ∷ xs) n (suc j) d r at = ap (λ (b : Bool). if b then Some x else find (λ y. number y == n) xs) (before_test x xs n j r at) ∙ find_at xs n j d (tail_rises x xs r) at
+  find_at (x ∷ xs) n (suc j) d r at = ap (λ (b : Bool). if b then Some x else find (λ y. number y == n) xs) (before_test x xs n j r at)
+      ∙ find_at xs n j d (tail_rises x xs r) at
 
   pub map_absent : (xs : List X) (n : ℕ) (f : X → X) → (Contains (map number xs) n → ⊥) → map (λ x. if number x == n then f x else x) xs ≡ xs
   map_absent xs n f absent = map_none xs n f (absent_tests xs n absent)

@@ -25,17 +25,20 @@ head_right (y ∷ xs) ys h = cc
 pub unknown_proposal : (b : Books) (hs : List Hold) (ipp : ℕ) → knows_proposal b.entries (proposal_of hs) ≡ false → refusal_of b hs ipp ≡ Some NoSuchProposal
 unknown_proposal b hs ipp e = ap (λ (x : Bool). if x then first_refusal b (hs ++ option_to_list (ipp_need hs ipp)) else Some NoSuchProposal) e
 
-known_proposal : (b : Books) (hs : List Hold) (ipp : ℕ) → knows_proposal b.entries (proposal_of hs) ≡ true → refusal_of b hs ipp ≡ first_refusal b (hs ++ option_to_list (ipp_need hs ipp))
+known_proposal : (b : Books) (hs : List Hold) (ipp : ℕ) → knows_proposal b.entries (proposal_of hs) ≡ true
+    → refusal_of b hs ipp ≡ first_refusal b (hs ++ option_to_list (ipp_need hs ipp))
 known_proposal b hs ipp e = ap (λ (x : Bool). if x then first_refusal b (hs ++ option_to_list (ipp_need hs ipp)) else Some NoSuchProposal) e
 
-pub refused_hold : (b : Books) (hs : List Hold) (ipp : ℕ) (f : LedgerFault) → knows_proposal b.entries (proposal_of hs) ≡ true → first_refusal b hs ≡ Some f → refusal_of b hs ipp ≡ Some f
+pub refused_hold : (b : Books) (hs : List Hold) (ipp : ℕ) (f : LedgerFault) → knows_proposal b.entries (proposal_of hs) ≡ true
+    → first_refusal b hs ≡ Some f → refusal_of b hs ipp ≡ Some f
 refused_hold b hs ipp f e h =
     known_proposal b hs ipp e
     ∙ ap (λ (l : List LedgerFault). slice_get l 0) (filter_map-append (refusal_at b) hs (option_to_list (ipp_need hs ipp)))
     ∙ head_left (filter_map (refusal_at b) hs) (filter_map (refusal_at b) (option_to_list (ipp_need hs ipp))) f h
 
 -- once no hold is refused, the ipp account decides
-then_ipp : (b : Books) (hs : List Hold) (ipp : ℕ) → knows_proposal b.entries (proposal_of hs) ≡ true → first_refusal b hs ≡ None → refusal_of b hs ipp ≡ first_refusal b (option_to_list (ipp_need hs ipp))
+then_ipp : (b : Books) (hs : List Hold) (ipp : ℕ) → knows_proposal b.entries (proposal_of hs) ≡ true → first_refusal b hs ≡ None
+    → refusal_of b hs ipp ≡ first_refusal b (option_to_list (ipp_need hs ipp))
 then_ipp b hs ipp e h =
     known_proposal b hs ipp e
     ∙ ap (λ (l : List LedgerFault). slice_get l 0) (filter_map-append (refusal_at b) hs (option_to_list (ipp_need hs ipp)))
@@ -54,13 +57,15 @@ need_above hs ipp l = ap (λ (x : Bool). if x then Some record { key = ipp_key (
 pub need_none : (hs : List Hold) (ipp : ℕ) → ipp ≤ 0 → ipp_need hs ipp ≡ None
 need_none hs ipp l = ap (λ (x : Bool). if x then Some record { key = ipp_key (proposal_of hs); seconds = ipp } else None) (le-ltb 0 ipp l)
 
-pub asked_ipp : (b : Books) (hs : List Hold) (ipp : ℕ) (o : Option LedgerFault) → knows_proposal b.entries (proposal_of hs) ≡ true → first_refusal b hs ≡ None → 0 < ipp → refusal_at b record { key = ipp_key (proposal_of hs); seconds = ipp } ≡ o → refusal_of b hs ipp ≡ o
+pub asked_ipp : (b : Books) (hs : List Hold) (ipp : ℕ) (o : Option LedgerFault) → knows_proposal b.entries (proposal_of hs) ≡ true
+    → first_refusal b hs ≡ None → 0 < ipp → refusal_at b record { key = ipp_key (proposal_of hs); seconds = ipp } ≡ o → refusal_of b hs ipp ≡ o
 asked_ipp b hs ipp o e h l r =
     then_ipp b hs ipp e h
     ∙ ap (λ (x : Option Hold). first_refusal b (option_to_list x)) (need_above hs ipp l)
     ∙ one_need b record { key = ipp_key (proposal_of hs); seconds = ipp } ∙ r
 
-pub asked_none : (b : Books) (hs : List Hold) (ipp : ℕ) → knows_proposal b.entries (proposal_of hs) ≡ true → first_refusal b hs ≡ None → ipp ≤ 0 → refusal_of b hs ipp ≡ None
+pub asked_none : (b : Books) (hs : List Hold) (ipp : ℕ) → knows_proposal b.entries (proposal_of hs) ≡ true → first_refusal b hs ≡ None → ipp ≤ 0
+    → refusal_of b hs ipp ≡ None
 asked_none b hs ipp e h l =
     then_ipp b hs ipp e h
     ∙ ap (λ (x : Option Hold). first_refusal b (option_to_list x)) (need_none hs ipp l)

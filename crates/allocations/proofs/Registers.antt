@@ -1,5 +1,6 @@
 -- What a register's list says of its keys.
-use Rattle.std.proofs.Common.{◌≡◌, ℕ, ◌+◌, ◌<◌, ◌≤◌, List, [], ◌∷◌, ◌++◌, length, get_or, take, drop, zero, suc, refl, sym, ap, ◌∙◌, inl, inr, ⊎_elim, arith, map, false}
+use Rattle.std.proofs.Common.{◌≡◌, ℕ, ◌+◌, ◌<◌, ◌≤◌, List, [], ◌∷◌, ◌++◌, length, get_or, take, drop, zero, suc, refl, sym, ap, ◌∙◌, inl, inr, ⊎_elim}
+use Rattle.std.proofs.Common.{arith, map, false}
 use Rattle.std.proofs.lemmas.Bool.{false≢true}
 use Rattle.std.specs.Prelude.{OnOk, Bool, IsTrue, ◌↔◌, is_ok, Result, Ok, Err, Some, slice_get, All, Any, Contains, MatchResult}
 use Rattle.std.specs.List.{insert}
@@ -11,7 +12,8 @@ use Rattle.std.specs.Cmp.Lexicographic.{slice_cmp}
 use Rattle.std.proofs.lemmas.Cmp.{nat_list_cmp_total, tied_itself}
 use Rattle.std.proofs.lemmas.Bool.{cases_lt}
 use Rattle.std.proofs.lemmas.List.{get_or-map as get_or_map, length-map, take-append-drop, map-append, take-map, drop-map}
-use Rattle.std.proofs.lemmas.List.Elements.{All-map, All-cons, All-append, All-take, All-drop, All-contains, All-weaker, All-push, Contains-append_left, Contains-append_right, Contains-append_cases}
+use Rattle.std.proofs.lemmas.List.Elements.{All-map, All-cons, All-append, All-take, All-drop, All-contains, All-weaker, All-push}
+use Rattle.std.proofs.lemmas.List.Elements.{Contains-append_left, Contains-append_right, Contains-append_cases}
 use Rattle.std.proofs.lemmas.List.Sorted.{searchable_from_sorted}
 use Rattle.std.proofs.lemmas.Option.{slice_get_within, slice_get_cases, get_or_from_slice_get}
 use Rattle.std.proofs.Math.ListN.{get_or-map}
@@ -46,7 +48,8 @@ Contains-insert xs i x y h =
     (Contains-append_cases (take i xs) (drop i xs) y (rw take-append-drop h))
 
 -- one more account
-pub registered : (keys : List Key) (order : List Listed) (k : Key) (i : ℕ) → IsRegister keys order → IsGap key_cmp (keys_of order) k i → IsRegister (keys ++ k ∷ []) (insert order i record { key = k; place = length keys })
+pub registered : (keys : List Key) (order : List Listed) (k : Key) (i : ℕ) → IsRegister keys order → IsGap key_cmp (keys_of order) k i
+    → IsRegister (keys ++ k ∷ []) (insert order i record { key = k; place = length keys })
 registered keys order k i r g =
     let new : Listed = record { key = k; place = length keys } in
     let mapped = map-insert (λ (l : Listed). l.key) order i new in
@@ -55,7 +58,8 @@ registered keys order k i r g =
       places =
           let P : Listed → Type 0 = λ l. slice_get (keys ++ k ∷ []) l.place ≡ Some l.key in
           let old : All P order = All-weaker (λ l. slice_get keys l.place ≡ Some l.key) P (λ l h. slice_get-kept keys k l.key l.place h) order r.places in
-          All-append P (take i order) (new ∷ drop i order) (All-take P i order old) (All-cons P new (drop i order) (slice_get-push keys k) (All-drop P i order old));
+          All-append P (take i order) (new ∷ drop i order) (All-take P i order old)
+          (All-cons P new (drop i order) (slice_get-push keys k) (All-drop P i order old));
       all =
           rw mapped (All-push (Contains (insert (keys_of order) i k)) keys k
           (All-weaker (Contains (keys_of order)) (Contains (insert (keys_of order) i k)) (λ y h. Contains-insert (keys_of order) i k y h) keys r.all)
@@ -69,19 +73,26 @@ registered keys order k i r g =
 proposal_order : (a b : Key) → key_cmp a b ≡ Less → is_lt (slice_cmp nat_cmp b.proposal a.proposal) ≡ false
 proposal_order a b h = ordered (slice_cmp nat_cmp a.proposal b.proposal) refl h
   where
-    ordered : (o : Ordering) → slice_cmp nat_cmp a.proposal b.proposal ≡ o → ordering_then o (ordering_then (nat_cmp (account_rank a.account) (account_rank b.account)) (slice_cmp nat_cmp a.instrument b.instrument)) ≡ Less → is_lt (slice_cmp nat_cmp b.proposal a.proposal) ≡ false
+    ordered : (o : Ordering) → slice_cmp nat_cmp a.proposal b.proposal ≡ o
+        → ordering_then o (ordering_then (nat_cmp (account_rank a.account) (account_rank b.account)) (slice_cmp nat_cmp a.instrument b.instrument))
+        ≡ Less → is_lt (slice_cmp nat_cmp b.proposal a.proposal) ≡ false
     ordered Less e l = rw (above (slice_cmp nat_cmp) nat_list_cmp_total a.proposal b.proposal e) refl
     ordered Equal e l = rw (tied (slice_cmp nat_cmp) nat_list_cmp_total a.proposal b.proposal e) refl
     ordered Greater e l = cc
 
-by_proposal : (keys : List Key) (order : List Listed) (p : List ℕ) → IsRegister keys order → IsNonDecreasingBy (λ l. ordering_index (slice_cmp nat_cmp l.key.proposal p)) order
+by_proposal : (keys : List Key) (order : List Listed) (p : List ℕ) → IsRegister keys order
+    → IsNonDecreasingBy (λ l. ordering_index (slice_cmp nat_cmp l.key.proposal p)) order
 by_proposal keys order p g =
     searchable_from_sorted nat_list_cmp_total (λ (l : Listed). l.key.proposal) order p (λ i d _ l.
     proposal_order (get_or order i d).key (get_or order (i + 1) d).key
-    (let less : key_cmp (get_or order i d).key (get_or order (i + 1) d).key ≡ Less = rw (get_or-map (λ (x : Listed). x.key) order i d, get_or-map (λ (x : Listed). x.key) order (i + 1) d) at (g.rising i (i + 1) d.key (omega arith) (rw length-map (omega arith))) in less))
+    (let less : key_cmp (get_or order i d).key (get_or order (i + 1) d).key
+    ≡ Less = rw (get_or-map (λ (x : Listed). x.key) order i d, get_or-map (λ (x : Listed). x.key) order (i + 1) d) at
+    (g.rising i (i + 1) d.key (omega arith) (rw length-map (omega arith))) in less))
 
 -- what a binary search by a proposal finds
-pub known : (keys : List Key) (order : List Listed) (p : List ℕ) (r : Result ℕ ℕ) → IsRegister keys order → IsSearchInRange r (length order) → IsBinarySearchResult (λ l. slice_cmp nat_cmp l.key.proposal p) order r → MatchResult r (λ _. Any (λ k. k.proposal ≡ p) keys) (λ _. Any (λ k. k.proposal ≡ p) keys → ⊥)
+pub known : (keys : List Key) (order : List Listed) (p : List ℕ) (r : Result ℕ ℕ) → IsRegister keys order → IsSearchInRange r (length order)
+    → IsBinarySearchResult (λ l. slice_cmp nat_cmp l.key.proposal p) order r
+    → MatchResult r (λ _. Any (λ k. k.proposal ≡ p) keys) (λ _. Any (λ k. k.proposal ≡ p) keys → ⊥)
 known keys order p (Ok i) g b h =
     elim (slice_get_cases order i).1 [
       | inl w ↦
@@ -121,4 +132,6 @@ on_ok (Err e) p = tt
 
 -- each key that is listed is known
 pub listed_known : (keys : List Key) (order : List Listed) → IsRegister keys order → All (Contains keys) (keys_of order)
-listed_known keys order r = All-map (Contains keys) (λ (l : Listed). l.key) order (All-weaker (λ (l : Listed). slice_get keys l.place ≡ Some l.key) (λ (l : Listed). Contains keys l.key) (λ l at. (l.place, slice_get_within keys l.place l.key at, get_or_from_slice_get keys l.place l.key l.key at)) order r.places)
+listed_known keys order r = All-map (Contains keys) (λ (l : Listed). l.key) order
+    (All-weaker (λ (l : Listed). slice_get keys l.place ≡ Some l.key) (λ (l : Listed). Contains keys l.key)
+    (λ l at. (l.place, slice_get_within keys l.place l.key at, get_or_from_slice_get keys l.place l.key l.key at)) order r.places)

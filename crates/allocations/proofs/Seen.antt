@@ -39,7 +39,8 @@ key_at-apart keys i a apart li la ne e =
     (λ (l : i ≤ a). apart i a no_key (omega (arith, ne)) la (sym e))
     (cases_lt a i)
 
-pub is_key_at : (keys : List Key) (i a : ℕ) → AllPairs (λ x y. x ≢ y) keys → i < length keys → a < length keys → is_key (key_at keys a) (key_at keys i) ≡ (a == i)
+pub is_key_at : (keys : List Key) (i a : ℕ) → AllPairs (λ x y. x ≢ y) keys → i < length keys → a < length keys
+    → is_key (key_at keys a) (key_at keys i) ≡ (a == i)
 is_key_at keys i a apart li la =
     ⊎_elim
     (λ (e : a ≡ i). rw (e, is_key-refl (key_at keys i), eq-eqb i i refl) refl)
@@ -47,19 +48,26 @@ is_key_at keys i a apart li la =
     (cases_eq a i)
 
 module _ (keys : List Key) (apart : AllPairs (λ x y. x ≢ y) keys) (i : ℕ) (li : i < length keys) where
-  pub seconds_of-posted : (kind : EntryKind) (ps : List Posting) → All (λ p. p.account < length keys) ps → seconds_of kind (key_at keys i) (map (entry_of keys) ps) ≡ posted kind i ps
+  pub seconds_of-posted : (kind : EntryKind) (ps : List Posting) → All (λ p. p.account < length keys) ps
+      → seconds_of kind (key_at keys i) (map (entry_of keys) ps) ≡ posted kind i ps
   seconds_of-posted kind ps located =
-      sum_by_mapped (λ (e : Entry). if is_kind kind e.kind && is_key e.key (key_at keys i) then e.seconds else 0) (λ (p : Posting). if is_kind kind p.kind && (p.account == i) then p.seconds else 0) (entry_of keys) ps
-      (All-weaker (λ p. p.account < length keys) (λ p. (if is_kind kind p.kind && is_key (key_at keys p.account) (key_at keys i) then p.seconds else 0) ≡ (if is_kind kind p.kind && (p.account == i) then p.seconds else 0))
+      sum_by_mapped (λ (e : Entry). if is_kind kind e.kind && is_key e.key (key_at keys i) then e.seconds else 0)
+      (λ (p : Posting). if is_kind kind p.kind && (p.account == i) then p.seconds else 0) (entry_of keys) ps
+      (All-weaker (λ p. p.account < length keys)
+      (λ p. (if is_kind kind p.kind && is_key (key_at keys p.account) (key_at keys i) then p.seconds else 0)
+      ≡ (if is_kind kind p.kind && (p.account == i) then p.seconds else 0))
       (λ p l. ap (λ (b : Bool). if is_kind kind p.kind && b then p.seconds else 0) (is_key_at keys i p.account apart li l)) ps located)
 
   pub held_in-amount : (ms : List Amount) → All (λ m. m.account < length keys) ms → held_in (key_at keys i) (map (hold_of keys) ms) ≡ amount_at i ms
   held_in-amount ms located =
-      sum_by_mapped (λ (h : Hold). if is_key h.key (key_at keys i) then h.seconds else 0) (λ (m : Amount). if m.account == i then m.seconds else 0) (hold_of keys) ms
-      (All-weaker (λ m. m.account < length keys) (λ m. (if is_key (key_at keys m.account) (key_at keys i) then m.seconds else 0) ≡ (if m.account == i then m.seconds else 0))
+      sum_by_mapped (λ (h : Hold). if is_key h.key (key_at keys i) then h.seconds else 0)
+      (λ (m : Amount). if m.account == i then m.seconds else 0) (hold_of keys) ms
+      (All-weaker (λ m. m.account < length keys)
+      (λ m. (if is_key (key_at keys m.account) (key_at keys i) then m.seconds else 0) ≡ (if m.account == i then m.seconds else 0))
       (λ m l. ap (λ (b : Bool). if b then m.seconds else 0) (is_key_at keys i m.account apart li l)) ms located)
 
   pub held_of-held : (gs : List GroupState) → All (IsOfAccounts (length keys)) gs → held_of (map (group_of keys) gs) (key_at keys i) ≡ held_at i gs
   held_of-held gs of_accounts =
       sum_by_mapped (λ (g : GroupHolds). held_in (key_at keys i) g.holds) (λ (g : GroupState). amount_at i g.holds) (group_of keys) gs
-      (All-weaker (IsOfAccounts (length keys)) (λ g. held_in (key_at keys i) (map (hold_of keys) g.holds) ≡ amount_at i g.holds) (λ g p. held_in-amount g.holds p.0) gs of_accounts)
+      (All-weaker (IsOfAccounts (length keys)) (λ g. held_in (key_at keys i) (map (hold_of keys) g.holds) ≡ amount_at i g.holds)
+      (λ g p. held_in-amount g.holds p.0) gs of_accounts)

@@ -1,5 +1,6 @@
 -- What each kind of step gives and claims, over all views.
-use Rattle.std.proofs.Common.{◌≡◌, ℕ, zero, suc, ◌+◌, ◌-◌, ◌≤◌, ◌<◌, inl, inr, List, [], ◌∷◌, ◌++◌, slice_set, min, max, refl, sym, ap, ◌∙◌, arith, length, length-append, add_assoc, add_comm}
+use Rattle.std.proofs.Common.{◌≡◌, ℕ, zero, suc, ◌+◌, ◌-◌, ◌≤◌, ◌<◌, inl, inr, List, [], ◌∷◌, ◌++◌, slice_set, min, max, refl, sym, ap, ◌∙◌, arith}
+use Rattle.std.proofs.Common.{length, length-append, add_assoc, add_comm}
 use Rattle.std.proofs.Math.Nat.{min_comm}
 use mathlib.Core.Option.{some}
 use lib.ListN.{get_elem?}
@@ -31,7 +32,8 @@ total_set f vs i v w at = together_set ◌+◌ 0 add_comm add_assoc f vs i v w a
 pub total_snoc : (f : SeatView → ℕ) (vs : List SeatView) (w : SeatView) → total f (vs ++ w ∷ []) ≡ total f vs + f w
 total_snoc f vs w = together_snoc ◌+◌ 0 add_comm add_assoc f vs w
 
-least_set : (vs : List SeatView) (i : ℕ) (v w : SeatView) → get_elem? vs i ≡ some v → min (least_of (slice_set vs i w)) v.least_given ≡ min (least_of vs) w.least_given
+least_set : (vs : List SeatView) (i : ℕ) (v w : SeatView) → get_elem? vs i ≡ some v
+    → min (least_of (slice_set vs i w)) v.least_given ≡ min (least_of vs) w.least_given
 least_set vs i v w at = together_set min no_bound min_comm min_assoc (λ u. u.least_given) vs i v w at
 
 pub least_at : (vs : List SeatView) (i : ℕ) (v : SeatView) → get_elem? vs i ≡ some v → min v.least_given (least_of vs) ≡ least_of vs
@@ -88,8 +90,10 @@ changed vs i v w bound value numbers at given =
           let gave : w.greatest_given ≡ max v.greatest_given value = given.greatest in
           omega arith;
       claimed = λ number.
-          let set : all_times number new + times number v.claims ≡ all_times number vs + times number w.claims = total_set (λ u. times number u.claims) vs i v w at in
-          let more : times number w.claims ≡ times number v.claims + times number numbers = ap (λ (l : List ℕ). times number l) given.claims ∙ times_both number v.claims numbers in
+          let set : all_times number new + times number v.claims ≡ all_times number vs + times number w.claims =
+          total_set (λ u. times number u.claims) vs i v w at in
+          let more : times number w.claims ≡ times number v.claims + times number numbers = ap (λ (l : List ℕ). times number l) given.claims
+          ∙ times_both number v.claims numbers in
           omega arith;
       counted =
           let set : all_claims new + length v.claims ≡ all_claims vs + length w.claims = total_set (λ u. length u.claims) vs i v w at in
@@ -122,7 +126,8 @@ divided vs i v at ticket limit =
           let more : greatest_of new ≡ max (greatest_of left) 0 = together_snoc max 0 max_comm max_assoc (λ u. u.greatest_given) left (split_off v) in
           omega arith;
       claimed = λ number.
-          let set : all_times number left + times number v.claims ≡ all_times number vs + times number v.claims = total_set (λ u. times number u.claims) vs i v (after_split v) at in
+          let set : all_times number left + times number v.claims ≡ all_times number vs + times number v.claims =
+          total_set (λ u. times number u.claims) vs i v (after_split v) at in
           let more : all_times number new ≡ all_times number left + 0 = total_snoc (λ u. times number u.claims) left (split_off v) in
           let none : times number [] ≡ 0 = refl in
           omega arith;
@@ -131,7 +136,8 @@ divided vs i v at ticket limit =
           let more : all_claims new ≡ all_claims left + 0 = total_snoc (λ u. length u.claims) left (split_off v) in
           omega arith;
       parts =
-          let set : all_parts left + (v.seats + v.tickets) ≡ all_parts vs + (v.seats + (v.tickets - 1)) = total_set (λ u. u.seats + u.tickets) vs i v (after_split v) at in
+          let set : all_parts left + (v.seats + v.tickets) ≡ all_parts vs + (v.seats + (v.tickets - 1)) =
+          total_set (λ u. u.seats + u.tickets) vs i v (after_split v) at in
           let more : all_parts new ≡ all_parts left + 1 = total_snoc (λ u. u.seats + u.tickets) left (split_off v) in
           omega arith;
     }
@@ -161,18 +167,22 @@ merged vs i j v w at other there limit =
           let second : min w.least_given (least_of vs) ≡ least_of vs = least_at vs j w was in
           let third : min w.least_given (least_of middle) ≡ least_of middle = least_at middle j w there in
           let both : min (min v.least_given w.least_given) (least_of new) ≡ least_of new = least_at new i (joined v w) stays in
-          let half : min (min v.least_given w.least_given) (least_of middle) ≡ least_of middle = least_at middle i (joined v w) (set_there vs i v (joined v w) at) in
+          let half : min (min v.least_given w.least_given) (least_of middle) ≡ least_of middle =
+          least_at middle i (joined v w) (set_there vs i v (joined v w) at) in
           omega arith;
       greatest =
-          let set : max (greatest_of middle) v.greatest_given ≡ max (greatest_of vs) (max v.greatest_given w.greatest_given) = greatest_set vs i v (joined v w) at in
+          let set : max (greatest_of middle) v.greatest_given ≡ max (greatest_of vs) (max v.greatest_given w.greatest_given) =
+          greatest_set vs i v (joined v w) at in
           let taken : max (greatest_of new) w.greatest_given ≡ max (greatest_of middle) 0 = greatest_set middle j w spent there in
           let first : max v.greatest_given (greatest_of vs) ≡ greatest_of vs = greatest_at vs i v at in
           let second : max w.greatest_given (greatest_of vs) ≡ greatest_of vs = greatest_at vs j w was in
           let both : max (max v.greatest_given w.greatest_given) (greatest_of new) ≡ greatest_of new = greatest_at new i (joined v w) stays in
-          let half : max (max v.greatest_given w.greatest_given) (greatest_of middle) ≡ greatest_of middle = greatest_at middle i (joined v w) (set_there vs i v (joined v w) at) in
+          let half : max (max v.greatest_given w.greatest_given) (greatest_of middle) ≡ greatest_of middle =
+          greatest_at middle i (joined v w) (set_there vs i v (joined v w) at) in
           omega arith;
       claimed = λ number.
-          let kept : all_times number new ≡ all_times number vs = total_kept (λ u. times number u.claims) vs i j v w at there (times_both number v.claims w.claims) refl in
+          let kept : all_times number new ≡ all_times number vs =
+          total_kept (λ u. times number u.claims) vs i j v w at there (times_both number v.claims w.claims) refl in
           let none : times number [] ≡ 0 = refl in
           omega arith;
       counted =

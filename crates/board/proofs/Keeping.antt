@@ -31,7 +31,8 @@ each_snoc a b vs w each new j x at = elim (at_snoc vs w x j at) [
 ]
 
 -- The step: the words become what was given and claimed, and so do the views
-pub kept : (a b c a' b' c' bound value : ℕ) (numbers : List ℕ) (old new : List SeatView) → Rule a b c old → Change old new bound value numbers → Follow c c' numbers
+pub kept : (a b c a' b' c' bound value : ℕ) (numbers : List ℕ) (old new : List SeatView) → Rule a b c old
+    → Change old new bound value numbers → Follow c c' numbers
     → a' ≡ min a bound → b' ≡ max b value → EachView (IsWithin a' b') new → Rule a' b' c' new
 kept a b c a' b' c' bound value numbers old new rule change follow falls rises within = record {
   least =
@@ -80,8 +81,20 @@ split_kept a b c vs i v rule at live ticket =
     (omega arith) (omega arith)
     (each_snoc a b (slice_set vs i (after_split v)) (split_off v)
     (each_set a b a b vs i (after_split v) (omega arith) (omega arith) rule.within
-    (record { lowest_seen = before.lowest_seen; greatest_seen = before.greatest_seen; room = before.room; spent = λ z. absurd (omega arith); limit = before.limit }))
-    (record { lowest_seen = before.lowest_seen; greatest_seen = before.greatest_seen; room = omega arith; spent = λ z. absurd (omega arith); limit = omega arith }))
+    (record {
+      lowest_seen = before.lowest_seen;
+      greatest_seen = before.greatest_seen;
+      room = before.room;
+      spent = λ z. absurd (omega arith);
+      limit = before.limit;
+    }))
+    (record {
+      lowest_seen = before.lowest_seen;
+      greatest_seen = before.greatest_seen;
+      room = omega arith;
+      spent = λ z. absurd (omega arith);
+      limit = omega arith;
+    }))
 
 pub join_kept : (a b c : ℕ) (vs : List SeatView) (i j : ℕ) (v w : SeatView) → Rule a b c vs → get_elem? vs i ≡ some v → ¬ (j ≡ i)
     → get_elem? (slice_set vs i (joined v w)) j ≡ some w → 0 < v.seats → Rule a b c (slice_set (slice_set vs i (joined v w)) j spent)
@@ -103,4 +116,10 @@ join_kept a b c vs i j v w rule at other there live =
     (each_set a b a b (slice_set vs i (joined v w)) j spent (omega arith) (omega arith)
     (each_set a b a b vs i (joined v w) (omega arith) (omega arith) rule.within
     (record { lowest_seen = omega arith; greatest_seen = omega arith; room = omega arith; spent = λ z. absurd (omega arith); limit = omega arith }))
-    (record { lowest_seen = omega arith; greatest_seen = omega arith; room = omega arith; spent = λ z. record { bound = refl; value = refl; tickets = refl; claims = refl }; limit = omega arith }))
+    (record {
+      lowest_seen = omega arith;
+      greatest_seen = omega arith;
+      room = omega arith;
+      spent = λ z. record { bound = refl; value = refl; tickets = refl; claims = refl };
+      limit = omega arith;
+    }))

@@ -18,7 +18,8 @@ module _ (a b c : ℕ) (vs : List SeatView) (i : ℕ) (v : SeatView) (rule : Rul
   -- of the only seat, the sum over all views is its own
   only_total : (f : SeatView → ℕ) → ((w : SeatView) → IsIdle w → f w ≡ 0) → IsOnlySeat v → total f vs ≡ f v
   only_total f none only =
-      let whole : total f vs ≡ f v + 0 = together_whole ◌+◌ 0 add_comm add_assoc f refl vs i v (λ j w there z. none w (idle j w there z)) at (rule.parts ∙ sym only) in
+      let whole : total f vs ≡ f v + 0 = together_whole ◌+◌ 0 add_comm add_assoc f refl vs i v (λ j w there z. none w (idle j w there z)) at
+      (rule.parts ∙ sym only) in
       omega arith
 
   pub bound_known : IsBoundFor v a
@@ -31,7 +32,8 @@ module _ (a b c : ℕ) (vs : List SeatView) (i : ℕ) (v : SeatView) (rule : Rul
         seen = within.lowest_seen;
         alone = λ only.
             let whole : least_of vs ≡ min v.least_given no_bound =
-            together_whole min no_bound min_comm min_assoc (λ u. u.least_given) refl vs i v (λ j w there z. let k : IsIdle w = idle j w there z in k.bound) at (rule.parts ∙ sym only) in
+            together_whole min no_bound min_comm min_assoc (λ u. u.least_given) refl vs i v (λ j w there z. let k : IsIdle w = idle j w there z in
+            k.bound) at (rule.parts ∙ sym only) in
             let limit : v.least_given ≤ no_bound = within.limit in
             omega arith;
       }
@@ -46,7 +48,8 @@ module _ (a b c : ℕ) (vs : List SeatView) (i : ℕ) (v : SeatView) (rule : Rul
         seen = within.greatest_seen;
         alone = λ only.
             let whole : greatest_of vs ≡ max v.greatest_given 0 =
-            together_whole max 0 max_comm max_assoc (λ u. u.greatest_given) refl vs i v (λ j w there z. let k : IsIdle w = idle j w there z in k.value) at (rule.parts ∙ sym only) in
+            together_whole max 0 max_comm max_assoc (λ u. u.greatest_given) refl vs i v (λ j w there z. let k : IsIdle w = idle j w there z in
+            k.value) at (rule.parts ∙ sym only) in
             omega arith;
       }
 

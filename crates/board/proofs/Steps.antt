@@ -1,11 +1,13 @@
 -- What the table asks of each call.
-use Rattle.std.proofs.Common.{◌≡◌, ℕ, ◌+◌, ◌*◌, ◌%◌, ◌^◌, ◌≤◌, ◌<◌, List, [], ◌∷◌, ◌++◌, slice_index, slice_set, min, max, refl, sym, ap, ◌∙◌, subst, arith, length, length-append, append-nil, mod-eq_of_lt}
+use Rattle.std.proofs.Common.{◌≡◌, ℕ, ◌+◌, ◌*◌, ◌%◌, ◌^◌, ◌≤◌, ◌<◌, List, [], ◌∷◌, ◌++◌, slice_index, slice_set, min, max, refl, sym, ap, ◌∙◌, subst}
+use Rattle.std.proofs.Common.{arith, length, length-append, append-nil, mod-eq_of_lt}
 use mathlib.Core.Option.{some}
 use lib.ListN.{get_elem?}
 use Rattle.atomic_table.specs.Table.{State, Me, Act, keeps, Valid, stepped, carried_after, Final, Seen}
 use Rattle.board.specs.declared.seat.SeatView.{SeatView}
 use Rattle.board.specs.Views.{no_bound, all_seats, most_claims, times, EachOnce, IsOnlySeat}
-use Rattle.board.specs.Steps.{after_claim, after_lower, after_raise, after_look_at_bound, after_look_at_value, after_split, split_off, joined, spent, IsBoundFor, IsValueFor, IsCounterFor}
+use Rattle.board.specs.Steps.{after_claim, after_lower, after_raise, after_look_at_bound, after_look_at_value, after_split, split_off, joined, spent}
+use Rattle.board.specs.Steps.{IsBoundFor, IsValueFor, IsCounterFor}
 use Rattle.board.specs.Rule.{IsWithin, Rule, RuleHolds}
 use Rattle.board.specs.Plays.{Claims, Lowers, Raises, SeesBound, SeesValue}
 use Rattle.board.proofs.Claims.{none_follow, one_follows}

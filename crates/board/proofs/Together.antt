@@ -20,7 +20,8 @@ module _ (op : ℕ → ℕ → ℕ) (none : ℕ) (comm : (a b : ℕ) → op a b 
       let rest : ℕ = together op none f vs in
       let same : x ≡ v = cc in
       let here : f x ≡ f v = ap f same in
-      comm (op (f w) rest) (f v) ∙ (ap (λ (n : ℕ). op (f v) n) (comm (f w) rest) ∙ (sym (assoc (f v) rest (f w)) ∙ ap (λ (n : ℕ). op (op n rest) (f w)) (sym here)))
+      comm (op (f w) rest) (f v) ∙ (ap (λ (n : ℕ). op (f v) n) (comm (f w) rest)
+      ∙ (sym (assoc (f v) rest (f w)) ∙ ap (λ (n : ℕ). op (op n rest) (f w)) (sym here)))
   together_set (x ∷ vs) (suc i) v w at =
       let old : ℕ = together op none f vs in
       let new : ℕ = together op none f (slice_set vs i w) in
@@ -42,11 +43,13 @@ module _ (op : ℕ → ℕ → ℕ) (none : ℕ) (comm : (a b : ℕ) → op a b 
       ap (λ (n : ℕ). op n (op (f x) rest)) (sym here) ∙ (sym (assoc (f x) (f x) rest) ∙ ap (λ (n : ℕ). op n rest) (same (f x)))
   together_at same (x ∷ vs) (suc i) v at =
       let rest : ℕ = together op none f vs in
-      sym (assoc (f v) (f x) rest) ∙ (ap (λ (n : ℕ). op n rest) (comm (f v) (f x)) ∙ (assoc (f x) (f v) rest ∙ ap (λ (n : ℕ). op (f x) n) (together_at same vs i v at)))
+      sym (assoc (f v) (f x) rest) ∙ (ap (λ (n : ℕ). op n rest) (comm (f v) (f x))
+      ∙ (assoc (f x) (f v) rest ∙ ap (λ (n : ℕ). op (f x) n) (together_at same vs i v at)))
 
   module _ (once : op none none ≡ none) where
     -- views of no seat and no ticket have nothing to put together
-    pub together_idle : (vs : List SeatView) → ((i : ℕ) (v : SeatView) → get_elem? vs i ≡ some v → v.seats ≡ 0 → f v ≡ none) → all_parts vs ≡ 0 → together op none f vs ≡ none
+    pub together_idle : (vs : List SeatView) → ((i : ℕ) (v : SeatView) → get_elem? vs i ≡ some v → v.seats ≡ 0 → f v ≡ none) → all_parts vs ≡ 0
+        → together op none f vs ≡ none
     together_idle [] idle h = refl
     together_idle (x ∷ vs) idle h =
         let here : f x ≡ none = idle 0 x refl (omega arith) in
@@ -66,4 +69,5 @@ module _ (op : ℕ → ℕ → ℕ) (none : ℕ) (comm : (a b : ℕ) → op a b 
         let fits : v.seats + v.tickets ≤ all_parts vs = total_at (λ u. u.seats + u.tickets) vs i v at in
         let here : f x ≡ none = idle 0 x refl (omega arith) in
         let rest : together op none f vs ≡ op (f v) none = together_whole vs i v (λ j w a. idle (suc j) w a) at (omega arith) in
-        ap (λ (n : ℕ). op n (together op none f vs)) here ∙ (ap (λ (n : ℕ). op none n) rest ∙ (comm none (op (f v) none) ∙ (assoc (f v) none none ∙ ap (λ (n : ℕ). op (f v) n) once)))
+        ap (λ (n : ℕ). op n (together op none f vs)) here
+        ∙ (ap (λ (n : ℕ). op none n) rest ∙ (comm none (op (f v) none) ∙ (assoc (f v) none none ∙ ap (λ (n : ℕ). op (f v) n) once)))

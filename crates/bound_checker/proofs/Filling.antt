@@ -1,5 +1,6 @@
 -- What the loops over a table keep.
-use Rattle.std.proofs.Common.{◌≡◌, ◌≢◌, ℕ, ◌+◌, ◌-◌, ◌*◌, ◌<◌, ◌≤◌, ◌⊎◌, inl, inr, ℤ, pos, ◌+ℤ◌, ◌≤ℤ◌, List, [], length, replicate, slice_index_or, slice_set, All, Contains, refl, sym, ◌∙◌, ap, subst, below_more, get_or-set_other, get_or-set_same, length-set, arith}
+use Rattle.std.proofs.Common.{◌≡◌, ◌≢◌, ℕ, ◌+◌, ◌-◌, ◌*◌, ◌<◌, ◌≤◌, ◌⊎◌, inl, inr, ℤ, pos, ◌+ℤ◌, ◌≤ℤ◌, List, [], length, replicate, slice_index_or}
+use Rattle.std.proofs.Common.{slice_set, All, Contains, refl, sym, ◌∙◌, ap, subst, below_more, get_or-set_other, get_or-set_same, length-set, arith}
 use Rattle.std.proofs.lemmas.Int.{ints}
 use Rattle.std.proofs.lemmas.List.{get_or_default, get_or-replicate, length-replicate}
 use Rattle.std.proofs.lemmas.List.Elements.{Contains-get_or, All-contains}
@@ -25,7 +26,8 @@ most_more xs g i least most next gained x within at is up over one old = record 
   each = λ k d h. elim (below_or_at k i h) [
     | inl below ↦ let before : g (slice_index_or xs k d) ≤ℤ most = old.each k d below in omega (arith, ints)
     | inr same ↦
-        let here : g (slice_index_or xs k d) ≡ gained = ap (λ (n : ℕ). g (slice_index_or xs n d)) same ∙ ap g (get_or_default xs i d x within ∙ sym at) ∙ sym is in
+        let here : g (slice_index_or xs k d) ≡ gained = ap (λ (n : ℕ). g (slice_index_or xs n d)) same
+        ∙ ap g (get_or_default xs i d x within ∙ sym at) ∙ sym is in
         omega (arith, ints)
   ];
   reached = elim one [
@@ -44,7 +46,8 @@ pub record IsFilledFrom (rows : List (List Start)) (table : List ℤ) (k : ℕ) 
   pub each : (j : ℕ) → k ≤ j → j < length rows → IsGreatestAt rows table j
 
 -- a table of 0
-pub filled_start : (rows : List (List Start)) (table : List ℤ) (n : ℕ) → n ≡ length rows + 1 → table ≡ replicate n (pos 0) → IsFilledFrom rows table (length rows)
+pub filled_start : (rows : List (List Start)) (table : List ℤ) (n : ℕ) → n ≡ length rows + 1 → table ≡ replicate n (pos 0)
+    → IsFilledFrom rows table (length rows)
 filled_start rows table n count is = record {
   count = ap (λ (xs : List ℤ). length xs) is ∙ length-replicate n (pos 0) ∙ count;
   zero = λ j h. empty j (omega arith);
@@ -60,7 +63,8 @@ filled_start rows table n count is = record {
 below_or_from : (j k : ℕ) → (j < k) ⊎ (k ≤ j)
 below_or_from j k = grind arith
 
-pub filled_entry : (rows : List (List Start)) (table : List ℤ) (k : ℕ) → length rows ≤ 1440 → IsFilledFrom rows table k → (j : ℕ) → j < length table → IsEntry (entry table j)
+pub filled_entry : (rows : List (List Start)) (table : List ℤ) (k : ℕ) → length rows ≤ 1440 → IsFilledFrom rows table k → (j : ℕ) → j < length table
+    → IsEntry (entry table j)
 filled_entry rows table k few filled j l =
     let count : length table ≡ length rows + 1 = filled.count in
     elim (below_or_from j k) [
@@ -77,7 +81,8 @@ gain_same old new x e = ap (λ (b : ℤ). x.weight +ℤ b) e
 same_or_later : (k j : ℕ) → k ≤ j → (j ≡ k) ⊎ (k + 1 ≤ j)
 same_or_later k j h = grind arith
 
-module _ (rows : List (List Start)) (table : List ℤ) (k : ℕ) (b : ℤ) (h : k < length rows) (fit : DoRowsFit rows) (filled : IsFilledFrom rows table (k + 1)) where
+module _ (rows : List (List Start)) (table : List ℤ) (k : ℕ) (b : ℤ) (h : k < length rows) (fit : DoRowsFit rows)
+    (filled : IsFilledFrom rows table (k + 1)) where
   within : k < length table
   within = let count : length table ≡ length rows + 1 = filled.count in omega arith
 
@@ -96,7 +101,8 @@ module _ (rows : List (List Start)) (table : List ℤ) (k : ℕ) (b : ℤ) (h : 
       let next : entry (slice_set table k b) (j + 1) ≡ entry table (j + 1) = other (j + 1) (λ e. omega arith) in
       record {
         falling = let f : entry table (j + 1) ≤ℤ entry table j = g.falling in omega (arith, ints);
-        above = λ x c. let f : gain table x ≤ℤ entry table j = g.above x c in let e : gain (slice_set table k b) x ≡ gain table x = after_same j x (omega arith) c in omega (arith, ints);
+        above = λ x c. let f : gain table x ≤ℤ entry table j = g.above x c in
+            let e : gain (slice_set table k b) x ≡ gain table x = after_same j x (omega arith) c in omega (arith, ints);
         reached = elim g.reached [ inl e ↦ inl (same ∙ e ∙ sym next) | inr s ↦ inr (s.0, s.1, same ∙ s.2 ∙ sym (after_same j s.0 (omega arith) s.1)) ];
       }
 
@@ -115,7 +121,8 @@ module _ (rows : List (List Start)) (table : List ℤ) (k : ℕ) (b : ℤ) (h : 
 
   most_high : IsMostOf (row rows k) (gain table) (length (row rows k)) (entry table (k + 1)) b → b ≤ℤ pos ((length rows - k) * 1000288000000)
   most_high most = elim most.reached [
-    | inl e ↦ let f : entry table (k + 1) ≤ℤ pos ((length rows - (k + 1)) * 1000288000000) = filled.high (k + 1) (omega arith) (omega arith) in omega (arith, ints)
+    | inl e ↦ let f : entry table (k + 1) ≤ℤ pos ((length rows - (k + 1)) * 1000288000000) = filled.high (k + 1) (omega arith) (omega arith) in
+        omega (arith, ints)
     | inr s ↦
         let fits : IsFitting (length rows) k s.0 = fit k s.0 s.1 in
         let f : entry table s.0.after ≤ℤ pos ((length rows - s.0.after) * 1000288000000) = filled.high s.0.after (omega (arith, fits.after)) fits.within in
@@ -134,11 +141,14 @@ module _ (rows : List (List Start)) (table : List ℤ) (k : ℕ) (b : ℤ) (h : 
         zero = λ j l. other j (λ e. omega arith) ∙ filled.zero j (omega arith);
         low = λ j l m. elim (same_or_later k j l) [
           | inl e ↦ subst (λ (n : ℕ). pos 0 ≤ℤ entry (slice_set table k b) n) (sym e) (omega (arith, ints, here))
-          | inr later ↦ let f : pos 0 ≤ℤ entry table j = filled.low j later m in let same : entry (slice_set table k b) j ≡ entry table j = other j (λ e. omega arith) in omega (arith, ints)
+          | inr later ↦ let f : pos 0 ≤ℤ entry table j = filled.low j later m in
+              let same : entry (slice_set table k b) j ≡ entry table j = other j (λ e. omega arith) in omega (arith, ints)
         ];
         high = λ j l m. elim (same_or_later k j l) [
-          | inl e ↦ subst (λ (n : ℕ). entry (slice_set table k b) n ≤ℤ pos ((length rows - n) * 1000288000000)) (sym e) (let top : b ≤ℤ pos ((length rows - k) * 1000288000000) = most_high most in omega (arith, ints, here))
-          | inr later ↦ let f : entry table j ≤ℤ pos ((length rows - j) * 1000288000000) = filled.high j later m in let same : entry (slice_set table k b) j ≡ entry table j = other j (λ e. omega arith) in omega (arith, ints)
+          | inl e ↦ subst (λ (n : ℕ). entry (slice_set table k b) n ≤ℤ pos ((length rows - n) * 1000288000000)) (sym e)
+              (let top : b ≤ℤ pos ((length rows - k) * 1000288000000) = most_high most in omega (arith, ints, here))
+          | inr later ↦ let f : entry table j ≤ℤ pos ((length rows - j) * 1000288000000) = filled.high j later m in
+              let same : entry (slice_set table k b) j ≡ entry table j = other j (λ e. omega arith) in omega (arith, ints)
         ];
         at_end = other (length rows) (λ e. omega arith) ∙ filled.at_end;
         each = λ j l m. elim (same_or_later k j l) [

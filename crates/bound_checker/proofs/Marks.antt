@@ -1,5 +1,6 @@
 -- The requests that the first placements of a plan place, as marks at their places.
-use Rattle.std.proofs.Common.{◌≡◌, ◌≢◌, ℕ, ◌+◌, ◌<◌, ◌≤◌, ◌⊎◌, inl, inr, Bool, true, false, List, [], length, replicate, slice_get, slice_index_or, slice_set, Some, AllPairs, sym, ◌∙◌, ap, subst, refl, arith, get_or-set_other, get_or-set_same}
+use Rattle.std.proofs.Common.{◌≡◌, ◌≢◌, ℕ, ◌+◌, ◌<◌, ◌≤◌, ◌⊎◌, inl, inr, Bool, true, false, List, [], length, replicate, slice_get, slice_index_or}
+use Rattle.std.proofs.Common.{slice_set, Some, AllPairs, sym, ◌∙◌, ap, subst, refl, arith, get_or-set_other, get_or-set_same}
 use Rattle.std.proofs.lemmas.Option.{slice_get-get_or, get_or_from_slice_get}
 use Rattle.std.proofs.lemmas.List.{get_or_default, get_or_past, length-set, length-replicate, get_or-replicate}
 use Rattle.std.proofs.lemmas.Bool.Decides.{eqb_tells}
@@ -35,7 +36,8 @@ one_at_place s a b ka kb e =
     let y = known_as s b kb in
     let left : x.0.request.request.0 ≡ a = x.1.number in
     let right : y.0.request.request.0 ≡ b = y.1.number in
-    let same : x.0 ≡ y.0 = sym x.1.at_place ∙ ap (λ (k : ℕ). slice_index_or (listed s) k x.0) e ∙ get_or_default (listed s) (place_of s b) x.0 y.0 kb ∙ y.1.at_place in
+    let same : x.0 ≡ y.0 = sym x.1.at_place ∙ ap (λ (k : ℕ). slice_index_or (listed s) k x.0) e
+    ∙ get_or_default (listed s) (place_of s b) x.0 y.0 kb ∙ y.1.at_place in
     sym left ∙ ap (λ (z : Listed). z.request.request.0) same ∙ right
 
 -- a flag that was set is still set
@@ -65,7 +67,8 @@ marks_none s plan marks e = record {
 below_or_last : (i n : ℕ) → i < n + 1 → (i < n) ⊎ (i ≡ n)
 below_or_last i n l = grind arith
 
-pub marks_more : (s : Parts) (plan : List Placement) (n : ℕ) (marks : List Bool) → IsEachKnown s plan → n < length plan → AreMarks s plan n marks → slice_index_or marks (mark_of s plan n) false ≡ false
+pub marks_more : (s : Parts) (plan : List Placement) (n : ℕ) (marks : List Bool) → IsEachKnown s plan → n < length plan → AreMarks s plan n marks
+    → slice_index_or marks (mark_of s plan n) false ≡ false
     → AreMarks s plan (n + 1) (slice_set marks (mark_of s plan n) true)
 marks_more s plan n marks known l are clear =
     let k : ℕ = mark_of s plan n in
@@ -74,7 +77,8 @@ marks_more s plan n marks known l are clear =
       count = length-set marks k true ∙ are.count;
       set = λ i less. elim (below_or_last i n less) [
         | inl before ↦ still_set marks k _ within (are.set i before)
-        | inr here ↦ subst (λ (j : ℕ). slice_index_or (slice_set marks k true) (mark_of s plan j) false ≡ true) (sym here) (get_or-set_same marks k true false within)
+        | inr here ↦ subst (λ (j : ℕ). slice_index_or (slice_set marks k true) (mark_of s plan j) false ≡ true) (sym here)
+            (get_or-set_same marks k true false within)
       ];
       only = λ j h. elim (eqb_tells j k) [
         | inl same ↦ (n, omega arith, sym same.1)
@@ -90,17 +94,30 @@ marks_more s plan n marks known l are clear =
     }
 
 -- a placement whose place is marked is the first whose request stands earlier
-pub first_marked : (s : Parts) (plan : List Placement) (n : ℕ) (marks : List Bool) → IsEachKnown s plan → n < length plan → AreMarks s plan n marks → slice_index_or marks (mark_of s plan n) false ≡ true
+pub first_marked : (s : Parts) (plan : List Placement) (n : ℕ) (marks : List Bool) → IsEachKnown s plan → n < length plan → AreMarks s plan n marks
+    → slice_index_or marks (mark_of s plan n) false ≡ true
     → IsFirst (HasEarlier (λ p q. p.request ≡ q.request) plan) n
 first_marked s plan n marks known l are marked =
     let old = are.only (mark_of s plan n) marked in
-    let same : (placed_at plan old.0).request.0 ≡ (placed_at plan n).request.0 = one_at_place s _ _ (known old.0 _ (omega (arith, old.1))) (known n _ l) old.2 in (
-      (old.0, placed_at plan old.0, placed_at plan n, old.1, slice_get-get_or plan old.0 _ (omega (arith, old.1)), slice_get-get_or plan n _ l, ap (λ (x : ℕ). record { 0 = x }) same),
-      λ j less (i, p, q, before, read_p, read_q, twin). are.once i j before less (ap (λ (x : Placement). x.request.0) (get_or_from_slice_get plan i p _ read_p) ∙ ap (λ (r : RequestNo). r.0) twin ∙ ap (λ (x : Placement). x.request.0) (sym (get_or_from_slice_get plan j q _ read_q))),
+    let same : (placed_at plan old.0).request.0 ≡ (placed_at plan n).request.0 =
+    one_at_place s _ _ (known old.0 _ (omega (arith, old.1))) (known n _ l) old.2 in (
+      (
+        old.0,
+        placed_at plan old.0,
+        placed_at plan n,
+        old.1,
+        slice_get-get_or plan old.0 _ (omega (arith, old.1)),
+        slice_get-get_or plan n _ l,
+        ap (λ (x : ℕ). record { 0 = x }) same,
+      ),
+      λ j less (i, p, q, before, read_p, read_q, twin). are.once i j before less
+          (ap (λ (x : Placement). x.request.0) (get_or_from_slice_get plan i p _ read_p) ∙ ap (λ (r : RequestNo). r.0) twin
+          ∙ ap (λ (x : Placement). x.request.0) (sym (get_or_from_slice_get plan j q _ read_q))),
     )
 
 -- where all are marked, each request stands once
 pub once_marked : (s : Parts) (plan : List Placement) (n : ℕ) (marks : List Bool) → length plan ≤ n → AreMarks s plan n marks → IsEachOnce plan
 once_marked s plan n marks all are =
     AllPairs-map (λ a b. a ≢ b) (λ p. p.request.0) plan
-    (λ i j d l m same. are.once i j l (omega arith) (ap (λ (x : Placement). x.request.0) (get_or_default plan i _ d (omega arith)) ∙ same ∙ ap (λ (x : Placement). x.request.0) (get_or_default plan j d _ m)))
+    (λ i j d l m same. are.once i j l (omega arith) (ap (λ (x : Placement). x.request.0) (get_or_default plan i _ d (omega arith)) ∙ same
+    ∙ ap (λ (x : Placement). x.request.0) (get_or_default plan j d _ m)))

@@ -1,5 +1,6 @@
 -- What the snapshot has of a request that it knows.
-use Rattle.std.proofs.Common.{◌≡◌, ℕ, suc, ◌+◌, ◌<◌, ◌≤◌, List, [], ◌∷◌, ◌++◌, length, map, slice_index_or, Some, None, All, Contains, inl, inr, refl, sym, ◌∙◌, ap, subst, arith}
+use Rattle.std.proofs.Common.{◌≡◌, ℕ, suc, ◌+◌, ◌<◌, ◌≤◌, List, [], ◌∷◌, ◌++◌, length, map, slice_index_or, Some, None, All, Contains, inl, inr, refl}
+use Rattle.std.proofs.Common.{sym, ◌∙◌, ap, subst, arith}
 use Rattle.std.specs.Prelude.{HoldsAt}
 use Rattle.std.specs.List.{flat_map}
 use Rattle.std.proofs.lemmas.List.{length-append, get_or_append_left, get_or-append-add}
@@ -15,7 +16,8 @@ use Rattle.plan_base.proofs.Orders.{contains_cases}
 use Rattle.bound_checker.specs.Claims.{IsRequestOf, IsRequestInRanges}
 
 -- the request that stands at the place of r is listed as r
-listed_request : (s : Parts) (r : ℕ) (q : RequestPart) → IsKnown s r → HoldsAt (λ x. x.request ≡ q) (listed s) (place_of s r) → (x : Listed) × IsListedAs s r x × (x.request ≡ q)
+listed_request : (s : Parts) (r : ℕ) (q : RequestPart) → IsKnown s r → HoldsAt (λ x. x.request ≡ q) (listed s) (place_of s r)
+    → (x : Listed) × IsListedAs s r x × (x.request ≡ q)
 listed_request s r q known at = let x = known_as s r known in (x.0, x.1, ap (λ (y : Listed). y.request) (sym x.1.at_place) ∙ at x.0)
 
 pub request_is : (s : Parts) (r : ℕ) (q : RequestPart) → IsKnown s r → HoldsAt (λ x. x.request ≡ q) (listed s) (place_of s r) → IsRequestOf s r q
@@ -31,10 +33,12 @@ request_is s r q known at =
     }
 
 all_left : {X : Type 0} (P : X → Type 0) (xs ys : List X) → All P (xs ++ ys) → All P xs
-all_left P xs ys all i d l = let count : length (xs ++ ys) ≡ length xs + length ys = length-append xs ys in subst P (get_or_append_left xs ys d i l) (all i d (omega arith))
+all_left P xs ys all i d l = let count : length (xs ++ ys) ≡ length xs + length ys = length-append xs ys in
+    subst P (get_or_append_left xs ys d i l) (all i d (omega arith))
 
 all_right : {X : Type 0} (P : X → Type 0) (xs ys : List X) → All P (xs ++ ys) → All P ys
-all_right P xs ys all i d l = let count : length (xs ++ ys) ≡ length xs + length ys = length-append xs ys in subst P (get_or-append-add xs ys i d) (all (length xs + i) d (omega arith))
+all_right P xs ys all i d l = let count : length (xs ++ ys) ≡ length xs + length ys = length-append xs ys in
+    subst P (get_or-append-add xs ys i d) (all (length xs + i) d (omega arith))
 
 -- what holds of all that f gives holds of what it gives of one element
 all_of_one : {X Y : Type 0} (P : Y → Type 0) (f : X → List Y) (xs : List X) (x : X) → Contains xs x → All P (flat_map f xs) → All P (f x)
@@ -44,7 +48,8 @@ all_of_one P f (y ∷ xs) x c all = elim (contains_cases y x xs c) [
   | inr rest ↦ all_of_one P f xs x rest (all_right P (f y) (flat_map f xs) all)
 ]
 
-pub request_in_ranges : (s : Parts) (r : ℕ) (q : RequestPart) → IsOrderly s → IsKnown s r → HoldsAt (λ x. x.request ≡ q) (listed s) (place_of s r) → IsRequestInRanges (length s.telescopes) q
+pub request_in_ranges : (s : Parts) (r : ℕ) (q : RequestPart) → IsOrderly s → IsKnown s r → HoldsAt (λ x. x.request ≡ q) (listed s) (place_of s r)
+    → IsRequestInRanges (length s.telescopes) q
 request_in_ranges s r q o known at =
     let x = listed_request s r q known at in
     let seconds = All-contains (λ y. (1 ≤ y.request.seconds) × (y.request.seconds ≤ 86400)) (listed s) x.0 o.ranges.seconds x.1.in_list in
@@ -67,14 +72,17 @@ request_in_ranges s r q o known at =
 pub group_here : (s : Parts) (r place g : ℕ) → IsKnown s r → place ≡ place_of s r → HoldsAt (λ x. x.group ≡ g) (listed s) place → g ≡ group_of s r
 group_here s r place g known e h =
     let x = known_as s r known in
-    sym (known_or_is (λ x. x.group) 0 s r x.0 known x.1 ∙ ap (λ (y : Listed). y.group) (sym x.1.at_place) ∙ ap (λ (k : ℕ). (slice_index_or (listed s) k x.0).group) (sym e) ∙ h x.0)
+    sym (known_or_is (λ x. x.group) 0 s r x.0 known x.1 ∙ ap (λ (y : Listed). y.group) (sym x.1.at_place)
+    ∙ ap (λ (k : ℕ). (slice_index_or (listed s) k x.0).group) (sym e) ∙ h x.0)
 
 -- a listed request counts towards the quota of its group
 quotas_listed : (n : ℕ) (xs : List GroupPart) → All (λ x. (i : ℕ) × (n + i ≡ x.group) × HoldsAt (λ y. y.quota ≡ x.quota) xs i) (listed_from n xs)
 quotas_listed n [] = All-nil (λ x. (i : ℕ) × (n + i ≡ x.group) × HoldsAt (λ y. y.quota ≡ x.quota) [] i)
 quotas_listed n (y ∷ ys) =
-    All-append (λ x. (i : ℕ) × (n + i ≡ x.group) × HoldsAt (λ z. z.quota ≡ x.quota) (y ∷ ys) i) (map (λ q. record { group = n; quota = y.quota; request = q }) y.requests) (listed_from (suc n) ys)
-    (All-map (λ x. (i : ℕ) × (n + i ≡ x.group) × HoldsAt (λ z. z.quota ≡ x.quota) (y ∷ ys) i) (λ q. record { group = n; quota = y.quota; request = q }) y.requests (λ i d l. (0, omega arith, λ e. refl)))
+    All-append (λ x. (i : ℕ) × (n + i ≡ x.group) × HoldsAt (λ z. z.quota ≡ x.quota) (y ∷ ys) i)
+    (map (λ q. record { group = n; quota = y.quota; request = q }) y.requests) (listed_from (suc n) ys)
+    (All-map (λ x. (i : ℕ) × (n + i ≡ x.group) × HoldsAt (λ z. z.quota ≡ x.quota) (y ∷ ys) i)
+    (λ q. record { group = n; quota = y.quota; request = q }) y.requests (λ i d l. (0, omega arith, λ e. refl)))
     (λ i d l. let rest = quotas_listed (suc n) ys i d l in let place = rest.1 in (suc rest.0, omega arith, rest.2))
 
 -- the quota that the group of r names
@@ -83,7 +91,8 @@ quota_here s r g d known e =
     let x = known_as s r known in
     let group : group_of s r ≡ x.0.group = known_or_is (λ y. y.group) 0 s r x.0 known x.1 in
     let quota : quota_of s r ≡ x.0.quota = known_or_is (λ y. y.quota) None s r x.0 known x.1 in
-    let at = All-contains (λ y. (i : ℕ) × (0 + i ≡ y.group) × HoldsAt (λ z. z.quota ≡ y.quota) s.groups i) (listed s) x.0 (quotas_listed 0 s.groups) x.1.in_list in
+    let at = All-contains (λ y. (i : ℕ) × (0 + i ≡ y.group) × HoldsAt (λ z. z.quota ≡ y.quota) s.groups i) (listed s) x.0
+    (quotas_listed 0 s.groups) x.1.in_list in
     let place : 0 + at.0 ≡ x.0.group = at.1 in
     let same : g ≡ at.0 = omega arith in
     ap (λ (k : ℕ). (slice_index_or s.groups k d).quota) same ∙ at.2 d ∙ sym quota

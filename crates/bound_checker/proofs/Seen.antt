@@ -1,5 +1,6 @@
 -- An observation of a request is in sight exactly where a start of it is possible.
-use Rattle.std.proofs.Common.{◌≡◌, ℕ, ◌+◌, ◌*◌, ◌<◌, ◌≤◌, ◌⊎◌, inl, inr, Bool, true, false, List, [], length, map, slice_index_or, ℤ, All, AllPairs, Contains, refl, sym, ◌∙◌, ap, subst, arith}
+use Rattle.std.proofs.Common.{◌≡◌, ℕ, ◌+◌, ◌*◌, ◌<◌, ◌≤◌, ◌⊎◌, inl, inr, Bool, true, false, List, [], length, map, slice_index_or, ℤ, All, AllPairs}
+use Rattle.std.proofs.Common.{Contains, refl, sym, ◌∙◌, ap, subst, arith}
 use Rattle.std.proofs.lemmas.List.{get_or_default, get_or-map}
 use Rattle.std.proofs.lemmas.List.Elements.{Contains-get_or, All-contains}
 use Rattle.plan_base.specs.declared.parts.Parts.{Parts}
@@ -34,17 +35,24 @@ pub record IsSightOf (s : Parts) (t : ℕ) (q : RequestPart) (site : SiteNo) (x 
   pub views : AreViews s.skies site q.targets true x.views.now
 
 -- the telescope that was read at a place
-pub site_read : (s : Parts) (ts : List TelescopePart) (i t : ℕ) (y : TelescopePart) → ts ≡ s.telescopes → i ≡ t → t < length s.telescopes → y ≡ slice_index_or ts i y → y.site.0 ≡ site_of s t
+pub site_read : (s : Parts) (ts : List TelescopePart) (i t : ℕ) (y : TelescopePart) → ts ≡ s.telescopes → i ≡ t → t < length s.telescopes
+    → y ≡ slice_index_or ts i y → y.site.0 ≡ site_of s t
 site_read s ts i t y e same l is =
-    ap (λ (z : TelescopePart). z.site.0) (is ∙ ap (λ (zs : List TelescopePart). slice_index_or zs i y) e ∙ ap (λ (n : ℕ). slice_index_or s.telescopes n y) same) ∙ sym (get_or-map (λ z. z.site.0) s.telescopes t y 0 l)
+    ap (λ (z : TelescopePart). z.site.0) (is ∙ ap (λ (zs : List TelescopePart). slice_index_or zs i y) e
+    ∙ ap (λ (n : ℕ). slice_index_or s.telescopes n y) same) ∙ sym (get_or-map (λ z. z.site.0) s.telescopes t y 0 l)
 
-pub usable_read : (s : Parts) (ts : List TelescopePart) (i t : ℕ) (y : TelescopePart) (ws : List Span) → ts ≡ s.telescopes → i ≡ t → t < length s.telescopes → y ≡ slice_index_or ts i y → ws ≡ y.usable → ws ≡ usable_of s t
+pub usable_read : (s : Parts) (ts : List TelescopePart) (i t : ℕ) (y : TelescopePart) (ws : List Span) → ts ≡ s.telescopes → i ≡ t
+    → t < length s.telescopes → y ≡ slice_index_or ts i y → ws ≡ y.usable → ws ≡ usable_of s t
 usable_read s ts i t y ws e same l is read =
-    read ∙ ap (λ (z : TelescopePart). z.usable) (is ∙ ap (λ (zs : List TelescopePart). slice_index_or zs i y) e ∙ ap (λ (n : ℕ). slice_index_or s.telescopes n y) same) ∙ sym (get_or-map (λ z. z.usable) s.telescopes t y [] l)
+    read ∙ ap (λ (z : TelescopePart). z.usable) (is ∙ ap (λ (zs : List TelescopePart). slice_index_or zs i y) e
+    ∙ ap (λ (n : ℕ). slice_index_or s.telescopes n y) same) ∙ sym (get_or-map (λ z. z.usable) s.telescopes t y [] l)
 
-pub views_read : (site : SiteNo) (skies ys : List Sky) (targets us : List TargetNo) (found b : Bool) (views vs : List ℕ) → skies ≡ ys → targets ≡ us → found ≡ b → views ≡ vs → AreViews skies site targets found views → AreViews ys site us b vs
+pub views_read : (site : SiteNo) (skies ys : List Sky) (targets us : List TargetNo) (found b : Bool) (views vs : List ℕ) → skies ≡ ys → targets ≡ us
+    → found ≡ b → views ≡ vs → AreViews skies site targets found views → AreViews ys site us b vs
 views_read site skies ys targets us found b views vs e f g h are =
-    subst (AreViews ys site us b) h (subst (λ (x : Bool). AreViews ys site us x views) g (subst (λ (xs : List TargetNo). AreViews ys site xs found views) f (subst (λ (xs : List Sky). AreViews xs site targets found views) e are)))
+    subst (AreViews ys site us b) h
+    (subst (λ (x : Bool). AreViews ys site us x views) g
+    (subst (λ (xs : List TargetNo). AreViews ys site xs found views) f (subst (λ (xs : List Sky). AreViews xs site targets found views) e are)))
 
 usable_clear : (s : Parts) (t : ℕ) → IsOrderly s → t < length s.telescopes → IsClearSpans (usable_of s t)
 usable_clear s t o l =
@@ -57,12 +65,14 @@ usable_clear s t o l =
 
 skies_clear : (s : Parts) → IsOrderly s → All (λ y. IsClearSpans y.spans) s.skies
 skies_clear s o n d l = record {
-  moments = λ i e m. sky_moments s (slice_index_or s.skies n d) (slice_index_or (slice_index_or s.skies n d).spans i e) o (Contains-get_or s.skies n d l) (Contains-get_or (slice_index_or s.skies n d).spans i e m);
+  moments = λ i e m. sky_moments s (slice_index_or s.skies n d) (slice_index_or (slice_index_or s.skies n d).spans i e) o
+      (Contains-get_or s.skies n d l) (Contains-get_or (slice_index_or s.skies n d).spans i e m);
   apart = o.skies n d l;
 }
 
 -- what a sight has is in order
-pub sight_clear : (s : Parts) (t place : ℕ) (q : RequestPart) (site : SiteNo) (x : Sight) → IsOrderly s → t < length s.telescopes → IsHere s place q → IsSightOf s t q site x → IsClear x
+pub sight_clear : (s : Parts) (t place : ℕ) (q : RequestPart) (site : SiteNo) (x : Sight) → IsOrderly s → t < length s.telescopes → IsHere s place q
+    → IsSightOf s t q site x → IsClear x
 sight_clear s t place q site x o l here sight = record {
   windows = subst (All (λ w. IsMoment w.from.0 × IsMoment w.to.0)) (sym sight.windows) here.asked.moments;
   usable = subst IsClearSpans (sym sight.usable) (usable_clear s t o l);
@@ -90,27 +100,36 @@ not_both y z (inl h) target site = omega arith
 not_both y z (inr (e, h)) target site = omega arith
 
 -- a target has one sky at a site
-one_sky : (skies : List Sky) (target site v w : ℕ) (y z : Sky) → AllPairs IsSkyBelow skies → v < length skies → slice_index_or skies v y ≡ y → w < length skies → slice_index_or skies w z ≡ z
+one_sky : (skies : List Sky) (target site v w : ℕ) (y z : Sky) → AllPairs IsSkyBelow skies → v < length skies → slice_index_or skies v y ≡ y
+    → w < length skies → slice_index_or skies w z ≡ z
     → y.target.0 ≡ target → y.site.0 ≡ site → z.target.0 ≡ target → z.site.0 ≡ site → y ≡ z
 one_sky skies target site v w y z rise l e m d yt ys zt zs = elim (below_same_above v w) [
-  | inl (inl below) ↦ absurd (not_both y z (subst (IsSkyBelow y) (get_or_default skies w y z m ∙ d) (subst (λ (x : Sky). IsSkyBelow x (slice_index_or skies w y)) e (rise v w y below m))) (yt ∙ sym zt) (ys ∙ sym zs))
-  | inl (inr above) ↦ absurd (not_both z y (subst (IsSkyBelow z) (get_or_default skies v z y l ∙ e) (subst (λ (x : Sky). IsSkyBelow x (slice_index_or skies v z)) d (rise w v z above l))) (zt ∙ sym yt) (zs ∙ sym ys))
+  | inl (inl below) ↦ absurd (not_both y z
+      (subst (IsSkyBelow y) (get_or_default skies w y z m ∙ d) (subst (λ (x : Sky). IsSkyBelow x (slice_index_or skies w y)) e (rise v w y below m)))
+      (yt ∙ sym zt) (ys ∙ sym zs))
+  | inl (inr above) ↦ absurd (not_both z y
+      (subst (IsSkyBelow z) (get_or_default skies v z y l ∙ e) (subst (λ (x : Sky). IsSkyBelow x (slice_index_or skies v z)) d (rise w v z above l)))
+      (zt ∙ sym yt) (zs ∙ sym ys))
   | inr at ↦ sym e ∙ ap (λ (k : ℕ). slice_index_or skies k y) at ∙ get_or_default skies w y z m ∙ d
 ]
 
 -- a target without a sky is never seen
-pub hidden_never : (s : Parts) (t : ℕ) (q : RequestPart) (site : SiteNo) (place : ℕ) (views : List ℕ) → IsOrderly s → IsHere s place q → site.0 ≡ site_of s t → AreViews s.skies site q.targets false views
+pub hidden_never : (s : Parts) (t : ℕ) (q : RequestPart) (site : SiteNo) (place : ℕ) (views : List ℕ) → IsOrderly s → IsHere s place q
+    → site.0 ≡ site_of s t → AreViews s.skies site q.targets false views
     → (p : Placement) → p.request.0 ≡ q.request.0 → p.telescope.0 ≡ t → IsPossibleStart s p → ⊥
 hidden_never s t q site place views o here at_site are p same on possible =
     let by_spans : IsPossibleBySpans s p = by_spans_from_possible s p o possible in
     let hidden = are.hidden refl in
     let d : TargetNo = record { 0 = 0 } in
     let targets : targets_of s p.request.0 ≡ q.targets = ap (targets_of s) same ∙ here.targets in
-    let seen : All (λ target. IsVisibleThrough s target.0 (site_of s p.telescope.0) (start_second s p) (end_second s p)) q.targets = subst (All (λ target. IsVisibleThrough s target.0 (site_of s p.telescope.0) (start_second s p) (end_second s p))) targets by_spans.visible in
+    let seen : All (λ target. IsVisibleThrough s target.0 (site_of s p.telescope.0) (start_second s p) (end_second s p)) q.targets =
+    subst (All (λ target. IsVisibleThrough s target.0 (site_of s p.telescope.0) (start_second s p) (end_second s p))) targets by_spans.visible in
     let there = seen hidden.0 d hidden.1 in
     hidden.2 d there.0 (there.1, there.2, there.3, there.4.0, there.4.1 ∙ ap (site_of s) on ∙ sym at_site)
 
-module _ (s : Parts) (t place : ℕ) (q : RequestPart) (site : SiteNo) (x : Sight) (price : ℤ) (o : Offer) (orderly : IsOrderly s) (here : IsHere s place q) (sight : IsSightOf s t q site x) (offer : IsOffer s.len q price o) (p : Placement) (same : p.request.0 ≡ q.request.0) (on : p.telescope.0 ≡ t) where
+module _ (s : Parts) (t place : ℕ) (q : RequestPart) (site : SiteNo) (x : Sight) (price : ℤ) (o : Offer) (orderly : IsOrderly s)
+    (here : IsHere s place q) (sight : IsSightOf s t q site x) (offer : IsOffer s.len q price o) (p : Placement) (same : p.request.0 ≡ q.request.0)
+    (on : p.telescope.0 ≡ t) where
   begins_same : start_second s p ≡ p.slice.0 * o.observation.len
   begins_same = ap (λ (n : ℕ). p.slice.0 * n) (sym offer.len)
 
@@ -143,7 +162,9 @@ module _ (s : Parts) (t place : ℕ) (q : RequestPart) (site : SiteNo) (x : Sigh
       let by_spans : IsPossibleBySpans s p = by_spans_from_possible s p orderly possible in
       let size = size_same in
       let d : TargetNo = record { 0 = 0 } in
-      let seen : All (λ target. IsVisibleThrough s target.0 (site_of s p.telescope.0) (start_second s p) (end_second s p)) q.targets = subst (All (λ target. IsVisibleThrough s target.0 (site_of s p.telescope.0) (start_second s p) (end_second s p))) targets_same by_spans.visible in
+      let seen : All (λ target. IsVisibleThrough s target.0 (site_of s p.telescope.0) (start_second s p) (end_second s p)) q.targets =
+      subst (All (λ target. IsVisibleThrough s target.0 (site_of s p.telescope.0) (start_second s p) (end_second s p)))
+      targets_same by_spans.visible in
       record {
         begins = by_spans.begins;
         ends = let ends : p.slice.0 + size_of s p.request.0 ≤ s.first.0 + s.slices = by_spans.ends in omega arith;
@@ -155,8 +176,11 @@ module _ (s : Parts) (t place : ℕ) (q : RequestPart) (site : SiteNo) (x : Sigh
               let within : n < length q.targets = omega arith in
               let view : IsSkyAt s.skies (slice_index_or q.targets n d).0 site.0 (slice_index_or x.views.now n 0) = sight.views.each refl n d within in
               let there = seen n d within in
-              let one : there.1 ≡ view.0 = one_sky s.skies (slice_index_or q.targets n d).0 site.0 there.0 (slice_index_or x.views.now n 0) there.1 view.0 orderly.skies_rise there.2 there.3 view.1 view.2 there.4.0 (there.4.1 ∙ site_same) view.3 view.4 in
-              same_fit there.1.spans (spans_at x.skies.now (slice_index_or x.views.now n 0)) (start_second s p) (end_second s p) _ _ (ap (λ (z : Sky). z.spans) one ∙ view_spans (slice_index_or x.views.now n 0) view.0 view.1 view.2) begins_same ends_same there.4.2;
+              let one : there.1 ≡ view.0 = one_sky s.skies (slice_index_or q.targets n d).0 site.0 there.0
+              (slice_index_or x.views.now n 0) there.1 view.0 orderly.skies_rise there.2 there.3 view.1 view.2 there.4.0
+              (there.4.1 ∙ site_same) view.3 view.4 in
+              same_fit there.1.spans (spans_at x.skies.now (slice_index_or x.views.now n 0)) (start_second s p) (end_second s p) _ _
+              (ap (λ (z : Sky). z.spans) one ∙ view_spans (slice_index_or x.views.now n 0) view.0 view.1 view.2) begins_same ends_same there.4.2;
         };
       }
 
@@ -169,8 +193,10 @@ module _ (s : Parts) (t place : ℕ) (q : RequestPart) (site : SiteNo) (x : Sigh
         able = subst (λ (ts : List TelescopeNo). Contains ts p.telescope) (sym (ap (telescopes_of s) same ∙ here.telescopes)) able;
         begins = can.begins;
         ends = let ends : p.slice.0 + o.size ≤ s.first.0 + s.slices = can.ends in omega arith;
-        window = same_fit x.windows.now (windows_of s p.request.0) _ _ (start_second s p) (end_second s p) (sym windows_same) (sym begins_same) (sym ends_same) can.in_sight.window;
-        usable = same_fit x.usable.now (usable_of s p.telescope.0) _ _ (start_second s p) (end_second s p) (sym usable_same) (sym begins_same) (sym ends_same) can.in_sight.usable;
+        window = same_fit x.windows.now (windows_of s p.request.0) _ _ (start_second s p) (end_second s p) (sym windows_same) (sym begins_same)
+            (sym ends_same) can.in_sight.window;
+        usable = same_fit x.usable.now (usable_of s p.telescope.0) _ _ (start_second s p) (end_second s p) (sym usable_same) (sym begins_same)
+            (sym ends_same) can.in_sight.usable;
         visible = subst (All (λ target. IsVisibleThrough s target.0 (site_of s p.telescope.0) (start_second s p) (end_second s p))) (sym targets_same) (λ n e l.
             let count : length x.views.now ≡ length q.targets = sight.views.count refl in
             let view : IsSkyAt s.skies (slice_index_or q.targets n e).0 site.0 (slice_index_or x.views.now n 0) = sight.views.each refl n e l in (
@@ -181,7 +207,9 @@ module _ (s : Parts) (t place : ℕ) (q : RequestPart) (site : SiteNo) (x : Sigh
               (
                 view.3,
                 view.4 ∙ sym site_same,
-                same_fit (spans_at x.skies.now (slice_index_or x.views.now n 0)) view.0.spans _ _ (start_second s p) (end_second s p) (sym (view_spans (slice_index_or x.views.now n 0) view.0 view.1 view.2)) (sym begins_same) (sym ends_same) (can.in_sight.skies n (omega arith)),
+                same_fit (spans_at x.skies.now (slice_index_or x.views.now n 0)) view.0.spans _ _ (start_second s p) (end_second s p)
+                    (sym (view_spans (slice_index_or x.views.now n 0) view.0 view.1 view.2)) (sym begins_same) (sym ends_same)
+                    (can.in_sight.skies n (omega arith)),
               ),
             ));
       })

@@ -1,5 +1,6 @@
 -- Where a target's sky stands among skies that rise.
-use Rattle.std.proofs.Common.{◌≡◌, ℕ, ◌+◌, ◌<◌, ◌≤◌, ◌⊎◌, inl, inr, Bool, true, false, ◌&&◌, ◌||◌, ◌==◌, nat_lt, List, [], ◌∷◌, ◌++◌, length, length-append, slice_index_or, AllPairs, refl, sym, ◌∙◌, ap, subst, arith}
+use Rattle.std.proofs.Common.{◌≡◌, ℕ, ◌+◌, ◌<◌, ◌≤◌, ◌⊎◌, inl, inr, Bool, true, false, ◌&&◌, ◌||◌, ◌==◌, nat_lt, List, [], ◌∷◌, ◌++◌, length}
+use Rattle.std.proofs.Common.{length-append, slice_index_or, AllPairs, refl, sym, ◌∙◌, ap, subst, arith}
 use Rattle.std.specs.List.Sorted.{IsPartitionPoint, IsPartitionedBy}
 use Rattle.std.proofs.lemmas.Bool.{false≢true}
 use Rattle.std.proofs.lemmas.Bool.Decides.{nat_tests}
@@ -41,7 +42,8 @@ sky_nowhere skies target site i rise point other v (y, within, at, on_target, on
     below_same_above a b = grind arith
 
 -- of a target without a sky there are no views
-pub views_hidden : (skies : List Sky) (site : SiteNo) (targets : List TargetNo) (views : List ℕ) (i : ℕ) (t : TargetNo) → i < length targets → t ≡ slice_index_or targets i t → ((v : ℕ) → ¬ (IsSkyAt skies t.0 site.0 v)) → AreViews skies site targets false views
+pub views_hidden : (skies : List Sky) (site : SiteNo) (targets : List TargetNo) (views : List ℕ) (i : ℕ) (t : TargetNo) → i < length targets
+    → t ≡ slice_index_or targets i t → ((v : ℕ) → ¬ (IsSkyAt skies t.0 site.0 v)) → AreViews skies site targets false views
 views_hidden skies site targets views i t within at none = record {
   count = λ e. absurd (false≢true e);
   each = λ e. absurd (false≢true e);
@@ -53,7 +55,8 @@ pub record AreFirstViews (skies : List Sky) (site : SiteNo) (targets : List Targ
   pub count : length views ≡ i
   pub each : (n : ℕ) (d : TargetNo) → n < i → IsSkyAt skies (slice_index_or targets n d).0 site.0 (slice_index_or views n 0)
 
-pub views_more : (skies : List Sky) (site : SiteNo) (targets : List TargetNo) (i : ℕ) (views : List ℕ) (t : TargetNo) (v : ℕ) → i < length targets → t ≡ slice_index_or targets i t → IsSkyAt skies t.0 site.0 v
+pub views_more : (skies : List Sky) (site : SiteNo) (targets : List TargetNo) (i : ℕ) (views : List ℕ) (t : TargetNo) (v : ℕ) → i < length targets
+    → t ≡ slice_index_or targets i t → IsSkyAt skies t.0 site.0 v
     → AreFirstViews skies site targets i views → AreFirstViews skies site targets (i + 1) (views ++ v ∷ [])
 views_more skies site targets i views t v within at here before =
     let size : length (views ++ v ∷ []) ≡ length views + 1 = length-append views (v ∷ []) in
@@ -61,9 +64,12 @@ views_more skies site targets i views t v within at here before =
     record {
       count = omega arith;
       each = λ n d below. elim (below_or_at n i below) [
-        | inl less ↦ subst (IsSkyAt skies (slice_index_or targets n d).0 site.0) (sym (get_or_append_left views (v ∷ []) 0 n (omega arith))) (before.each n d less)
+        | inl less ↦ subst (IsSkyAt skies (slice_index_or targets n d).0 site.0)
+            (sym (get_or_append_left views (v ∷ []) 0 n (omega arith))) (before.each n d less)
         | inr same ↦
-            let view : slice_index_or (views ++ v ∷ []) n 0 ≡ v = ap (λ (m : ℕ). slice_index_or (views ++ v ∷ []) m 0) (same ∙ sym count ∙ plus_zero (length views)) ∙ get_or-append-add views (v ∷ []) 0 0 in
+            let view : slice_index_or (views ++ v ∷ []) n 0 ≡ v =
+            ap (λ (m : ℕ). slice_index_or (views ++ v ∷ []) m 0) (same ∙ sym count ∙ plus_zero (length views))
+            ∙ get_or-append-add views (v ∷ []) 0 0 in
             let target : slice_index_or targets n d ≡ t = ap (λ (m : ℕ). slice_index_or targets m d) same ∙ get_or_default targets i d t within ∙ sym at in
             subst (IsSkyAt skies (slice_index_or targets n d).0 site.0) (sym view) (subst (λ (x : TargetNo). IsSkyAt skies x.0 site.0 v) (sym target) here)
       ];
@@ -75,7 +81,8 @@ views_more skies site targets i views t v within at here before =
     plus_zero : (a : ℕ) → a ≡ a + 0
     plus_zero a = omega arith
 
-pub views_all : (skies : List Sky) (site : SiteNo) (targets : List TargetNo) (i : ℕ) (views : List ℕ) → i ≤ length targets → length targets ≤ i → AreFirstViews skies site targets i views → AreViews skies site targets true views
+pub views_all : (skies : List Sky) (site : SiteNo) (targets : List TargetNo) (i : ℕ) (views : List ℕ) → i ≤ length targets → length targets ≤ i
+    → AreFirstViews skies site targets i views → AreViews skies site targets true views
 views_all skies site targets i views most least before = record {
   count = λ e. let count : length views ≡ i = before.count in omega arith;
   each = λ e n d below. before.each n d (omega arith);

@@ -1,5 +1,6 @@
 -- The slots that the first placements of a plan take up, as flags.
-use Rattle.std.proofs.Common.{◌≡◌, ◌≢◌, ℕ, ◌+◌, ◌-◌, ◌*◌, ◌<◌, ◌≤◌, ◌⊎◌, inl, inr, nat_le, nat_lt, Bool, true, false, cond, ◌&&◌, List, [], length, replicate, slice_index_or, refl, sym, ◌∙◌, ap, subst, arith}
+use Rattle.std.proofs.Common.{◌≡◌, ◌≢◌, ℕ, ◌+◌, ◌-◌, ◌*◌, ◌<◌, ◌≤◌, ◌⊎◌, inl, inr, nat_le, nat_lt, Bool, true, false, cond, ◌&&◌, List, [], length}
+use Rattle.std.proofs.Common.{replicate, slice_index_or, refl, sym, ◌∙◌, ap, subst, arith}
 use Rattle.std.proofs.lemmas.Bool.Decides.{nat_tests}
 use Rattle.std.proofs.lemmas.Nat.{mul-le}
 use Rattle.std.proofs.lemmas.Option.{slice_get-get_or, get_or_from_slice_get}
@@ -52,10 +53,15 @@ share_from_slot s p q k possible_p possible_q (a, b) (c, d) =
     let same : p.telescope.0 ≡ q.telescope.0 = one_row p.telescope.0 q.telescope.0 s.slices k in_p.0 in_p.1 in_q.0 in_q.1 in
     let rows : p.telescope.0 * s.slices ≡ q.telescope.0 * s.slices = ap (λ (t : ℕ). t * s.slices) same in
     let slice : ℕ = s.first.0 + (k - p.telescope.0 * s.slices) in
-    let there : s.first.0 + (k - q.telescope.0 * s.slices) ≡ slice = ap (λ (b : ℕ). s.first.0 + (k - b)) (sym rows) in
-    (ap (λ (t : ℕ). record { 0 = t }) same, slice, (in_p.2, in_p.3), subst (λ (x : ℕ). (q.slice.0 ≤ x) × (x < q.slice.0 + size_of s q.request.0)) there (in_q.2, in_q.3))
+    let there : s.first.0 + (k - q.telescope.0 * s.slices) ≡ slice = ap (λ (b : ℕ). s.first.0 + (k - b)) (sym rows) in (
+      ap (λ (t : ℕ). record { 0 = t }) same,
+      slice,
+      (in_p.2, in_p.3),
+      subst (λ (x : ℕ). (q.slice.0 ≤ x) × (x < q.slice.0 + size_of s q.request.0)) there (in_q.2, in_q.3),
+    )
 
-slot_in : (base slice first size x : ℕ) → first ≤ slice → slice ≤ x → x < slice + size → (base + (slice - first) ≤ base + (x - first)) × (base + (x - first) < base + (slice - first) + size)
+slot_in : (base slice first size x : ℕ) → first ≤ slice → slice ≤ x → x < slice + size → (base + (slice - first) ≤ base + (x - first))
+    × (base + (x - first) < base + (slice - first) + size)
 slot_in base slice first size x l a b = (omega arith, omega arith)
 
 -- a slice that two possible starts share is a slot that both take up
@@ -70,7 +76,8 @@ slot_from_share s p q possible_p possible_q (same, x, (a, b), (c, d)) =
 
 -- ---- flags
 
-pub flags_none : (s : Parts) (plan : List Placement) (flags : List Bool) (n : ℕ) → n ≡ length s.telescopes * s.slices → flags ≡ replicate n false → AreFlags s plan 0 flags
+pub flags_none : (s : Parts) (plan : List Placement) (flags : List Bool) (n : ℕ) → n ≡ length s.telescopes * s.slices → flags ≡ replicate n false
+    → AreFlags s plan 0 flags
 flags_none s plan flags n e f = record {
   count = ap (λ (xs : List Bool). length xs) f ∙ length-replicate n false ∙ e;
   set = λ i k l. absurd (omega arith);
@@ -95,7 +102,8 @@ set_where a b k v e = grind (arith, nat_tests)
 below_or_last : (i n : ℕ) → i < n + 1 → (i < n) ⊎ (i ≡ n)
 below_or_last i n l = grind arith
 
-module _ (s : Parts) (plan : List Placement) (n : ℕ) (flags : List Bool) (slots : Slots) (possible : IsEachPossible s plan) (l : n < length plan) (are : AreFlags s plan n flags) (is : AreSlots s (placed_at plan n) slots) where
+module _ (s : Parts) (plan : List Placement) (n : ℕ) (flags : List Bool) (slots : Slots) (possible : IsEachPossible s plan) (l : n < length plan)
+    (are : AreFlags s plan n flags) (is : AreSlots s (placed_at plan n) slots) where
   taken_from : (k : ℕ) → slots.from ≤ k → k < slots.to → TakesUp s (placed_at plan n) k
   taken_from k a b = (subst (λ (x : ℕ). x ≤ k) is.from a, subst (λ (x : ℕ). k < x) is.to b)
 
@@ -106,12 +114,14 @@ module _ (s : Parts) (plan : List Placement) (n : ℕ) (flags : List Bool) (slot
   possible_at i m = possible i _ m
 
   pub flags_more : (after : List Bool) → ((k : ℕ) → slots.from ≤ k → k < slots.to → slice_index_or flags k false ≡ false) → length after ≡ length flags
-      → ((k : ℕ) → slice_index_or after k false ≡ cond (nat_le slots.from k && nat_lt k slots.to) true (slice_index_or flags k false)) → AreFlags s plan (n + 1) after
+      → ((k : ℕ) → slice_index_or after k false ≡ cond (nat_le slots.from k && nat_lt k slots.to) true (slice_index_or flags k false))
+      → AreFlags s plan (n + 1) after
   flags_more after clear count set = record {
     count = count ∙ are.count;
     set = λ i k less takes. elim (below_or_last i n less) [
       | inl before ↦ set k ∙ set_before (nat_le slots.from k && nat_lt k slots.to) _ (are.set i k before takes)
-      | inr here ↦ let inside = taken_to k (subst (λ (j : ℕ). TakesUp s (placed_at plan j) k) here takes) in set k ∙ set_inside slots.from slots.to k _ inside.0 inside.1
+      | inr here ↦ let inside = taken_to k (subst (λ (j : ℕ). TakesUp s (placed_at plan j) k) here takes) in
+          set k ∙ set_inside slots.from slots.to k _ inside.0 inside.1
     ];
     only = λ k h. elim (set_where slots.from slots.to k (slice_index_or flags k false) (sym (set k) ∙ h)) [
       | inl inside ↦ (n, omega arith, taken_from k inside.0 inside.1)
@@ -131,19 +141,30 @@ module _ (s : Parts) (plan : List Placement) (n : ℕ) (flags : List Bool) (slot
   first_sharing k a b marked =
       let old = are.only k marked in
       let within : old.0 < length plan = omega (arith, old.1) in (
-        (old.0, placed_at plan old.0, placed_at plan n, old.1, slice_get-get_or plan old.0 _ within, slice_get-get_or plan n _ l, share_from_slot s (placed_at plan old.0) (placed_at plan n) k (possible_at old.0 within) (possible_at n l) old.2 (taken_from k a b)),
+        (
+          old.0,
+          placed_at plan old.0,
+          placed_at plan n,
+          old.1,
+          slice_get-get_or plan old.0 _ within,
+          slice_get-get_or plan n _ l,
+          share_from_slot s (placed_at plan old.0) (placed_at plan n) k (possible_at old.0 within) (possible_at n l) old.2 (taken_from k a b),
+        ),
         λ j less (i, p, q, before, read_p, read_q, share).
             let at_p : placed_at plan i ≡ p = get_or_from_slice_get plan i p _ read_p in
             let at_q : placed_at plan j ≡ q = get_or_from_slice_get plan j q _ read_q in
-            let there : ShareSlice s (placed_at plan i) (placed_at plan j) = subst (λ (x : Placement). ShareSlice s x (placed_at plan j)) (sym at_p) (subst (ShareSlice s p) (sym at_q) share) in
+            let there : ShareSlice s (placed_at plan i) (placed_at plan j) =
+            subst (λ (x : Placement). ShareSlice s x (placed_at plan j)) (sym at_p) (subst (ShareSlice s p) (sym at_q) share) in
             let slot = slot_from_share s (placed_at plan i) (placed_at plan j) (possible_at i (omega arith)) (possible_at j (omega arith)) there in
             are.apart i j slot.0 before less slot.1 slot.2,
       )
 
-pub disjoint_from_flags : (s : Parts) (plan : List Placement) (n : ℕ) (flags : List Bool) → IsEachPossible s plan → length plan ≤ n → AreFlags s plan n flags → IsDisjoint s plan
+pub disjoint_from_flags : (s : Parts) (plan : List Placement) (n : ℕ) (flags : List Bool) → IsEachPossible s plan → length plan ≤ n
+    → AreFlags s plan n flags → IsDisjoint s plan
 disjoint_from_flags s plan n flags possible all are i j d l m share =
     let at_i : slice_index_or plan i d ≡ placed_at plan i = get_or_default plan i d _ (omega arith) in
     let at_j : slice_index_or plan j d ≡ placed_at plan j = get_or_default plan j d _ m in
-    let there : ShareSlice s (placed_at plan i) (placed_at plan j) = subst (λ (x : Placement). ShareSlice s x (placed_at plan j)) at_i (subst (ShareSlice s (slice_index_or plan i d)) at_j share) in
+    let there : ShareSlice s (placed_at plan i) (placed_at plan j) =
+    subst (λ (x : Placement). ShareSlice s x (placed_at plan j)) at_i (subst (ShareSlice s (slice_index_or plan i d)) at_j share) in
     let slot = slot_from_share s (placed_at plan i) (placed_at plan j) (possible i _ (omega arith)) (possible j _ m) there in
     are.apart i j slot.0 l (omega arith) slot.1 slot.2

@@ -1,5 +1,6 @@
 -- Which stretches many spans have, from those of each.
-use Rattle.std.proofs.Common.{◌≡◌, ℕ, ◌+◌, ◌*◌, ◌<◌, ◌≤◌, ◌↔◌, ◌⊎◌, inl, inr, Bool, true, false, min, IsTrue, List, length, slice_index_or, refl, sym, ◌∙◌, ap, subst, below_more, arith}
+use Rattle.std.proofs.Common.{◌≡◌, ℕ, ◌+◌, ◌*◌, ◌<◌, ◌≤◌, ◌↔◌, ◌⊎◌, inl, inr, Bool, true, false, min, IsTrue, List, length, slice_index_or, refl, sym}
+use Rattle.std.proofs.Common.{◌∙◌, ap, subst, below_more, arith}
 use Rattle.std.specs.Prelude.{Any}
 use Rattle.std.specs.List.Sorted.{IsPartitionPoint, IsNonDecreasingBy}
 use Rattle.std.proofs.lemmas.Bool.{false≢true}

@@ -1,5 +1,6 @@
 -- The reasons that the tests exclude, one after another.
-use Rattle.std.proofs.Common.{◌≡◌, ◌≢◌, ℕ, zero, suc, ◌+◌, ◌<◌, ◌≤◌, ◌⊎◌, inl, inr, ℤ, pos, List, [], ◌∷◌, length, map, slice_get, slice_index_or, Option, Some, None, All, AllPairs, Contains, refl, sym, ◌∙◌, ap, subst, arith}
+use Rattle.std.proofs.Common.{◌≡◌, ◌≢◌, ℕ, zero, suc, ◌+◌, ◌<◌, ◌≤◌, ◌⊎◌, inl, inr, ℤ, pos, List, [], ◌∷◌, length, map, slice_get, slice_index_or}
+use Rattle.std.proofs.Common.{Option, Some, None, All, AllPairs, Contains, refl, sym, ◌∙◌, ap, subst, arith}
 use Rattle.std.proofs.lemmas.Int.{ints}
 use Rattle.std.proofs.lemmas.List.{length-map, get_or_past}
 use Rattle.std.proofs.lemmas.List.Elements.{All-map}
@@ -8,12 +9,14 @@ use Rattle.plan_base.specs.declared.parts.Parts.{Parts}
 use Rattle.plan_base.specs.declared.claim.Placement.{Placement}
 use Rattle.plan_base.specs.declared.claim.Claim.{Claim}
 use Rattle.plan_base.specs.declared.verdict.Reason.{Reason}
-use Rattle.plan_base.specs.declared.verdict.Reason.TheVariants.{UnknownRequest, PlacedTwice, NotPossible, Overlap, OneofTwice, AndPartial, QuotaOver, PriceCount, PriceRange, QuotaPriceCount, QuotaPriceRange, ValueDiffers, BoundDiffers}
+use Rattle.plan_base.specs.declared.verdict.Reason.TheVariants.{UnknownRequest, PlacedTwice, NotPossible, Overlap, OneofTwice, AndPartial, QuotaOver}
+use Rattle.plan_base.specs.declared.verdict.Reason.TheVariants.{PriceCount, PriceRange, QuotaPriceCount, QuotaPriceRange, ValueDiffers, BoundDiffers}
 use Rattle.plan_base.specs.declared.fault.Counted.TheVariants.{Requests}
 use Rattle.plan_base.specs.Requests.{Listed, listed, IsKnown}
 use Rattle.plan_base.specs.Snapshot.{IsOrderly}
 use Rattle.plan_base.specs.Starts.{IsPossibleStart, ShareSlice, value_of_plan}
-use Rattle.plan_base.specs.Feasible.{requests_of, quota_seconds, quota_at, AreOfOneOneOf, IsEachPossible, IsEachOnce, IsDisjoint, IsOneofOnce, IsAndWhole, IsWithinQuotas, IsFeasible}
+use Rattle.plan_base.specs.Feasible.{requests_of, quota_seconds, quota_at, AreOfOneOneOf, IsEachPossible, IsEachOnce, IsDisjoint, IsOneofOnce}
+use Rattle.plan_base.specs.Feasible.{IsAndWhole, IsWithinQuotas, IsFeasible}
 use Rattle.plan_base.specs.Bound.{IsBound}
 use Rattle.plan_base.specs.Verdict.{IsPriceInRange, IsQuotaPriceCount, IsCertified, IsFirst, IsUnknownAt, IsNotPossibleAt, HasEarlier, IsReason, rank_of}
 use Rattle.plan_base.proofs.Known.{known_as, IsListedAs}
@@ -28,7 +31,8 @@ IsClearTo n s claim = (other : Reason) → rank_of other < n → ¬ (IsReason s 
 holds_at_read : {X : Type 0} (P : X → Type 0) (xs : List X) (i : ℕ) (x : X) → All P xs → slice_get xs i ≡ Some x → P x
 holds_at_read P xs i x a e = subst P (get_or_from_slice_get xs i x x e) (a i x (slice_get_within xs i x e))
 
-holds_of_pair : {X : Type 0} (R : X → X → Type 0) (xs : List X) (i j : ℕ) (x y : X) → AllPairs R xs → i < j → slice_get xs i ≡ Some x → slice_get xs j ≡ Some y → R x y
+holds_of_pair : {X : Type 0} (R : X → X → Type 0) (xs : List X) (i j : ℕ) (x y : X) → AllPairs R xs → i < j → slice_get xs i ≡ Some x
+    → slice_get xs j ≡ Some y → R x y
 holds_of_pair R xs i j x y a l e f =
     let pair : R (slice_index_or xs i x) (slice_index_or xs j x) = a i j x l (slice_get_within xs j y f) in
     let left : R x (slice_index_or xs j x) = subst (λ (z : _). R z (slice_index_or xs j x)) (get_or_from_slice_get xs i x x e) pair in
@@ -59,7 +63,8 @@ module _ (s : Parts) (claim : Claim) where
 
   no_twice : IsEachOnce claim.placements → (r : Reason) → rank_of r ≡ 2 → ¬ (IsReason s claim r)
   no_twice once (PlacedTwice i) e ((j, p, q, l, read_p, read_q, same), first) =
-      holds_of_pair (λ a b. a ≢ b) (requests_of claim.placements) j i p.request.0 q.request.0 once l (read_request claim.placements j p read_p) (read_request claim.placements i q read_q) (ap (λ r. r.0) same)
+      holds_of_pair (λ a b. a ≢ b) (requests_of claim.placements) j i p.request.0 q.request.0 once l (read_request claim.placements j p read_p)
+      (read_request claim.placements i q read_q) (ap (λ r. r.0) same)
   no_twice once r e h = omega (arith, e)
 
   no_impossible : IsEachPossible s claim.placements → (r : Reason) → rank_of r ≡ 3 → ¬ (IsReason s claim r)
@@ -67,7 +72,8 @@ module _ (s : Parts) (claim : Claim) where
   no_impossible possible r e h = omega (arith, e)
 
   no_overlap : IsDisjoint s claim.placements → (r : Reason) → rank_of r ≡ 4 → ¬ (IsReason s claim r)
-  no_overlap disjoint (Overlap i) e ((j, p, q, l, read_p, read_q, share), first) = holds_of_pair (λ a b. ¬ (ShareSlice s a b)) claim.placements j i p q disjoint l read_p read_q share
+  no_overlap disjoint (Overlap i) e ((j, p, q, l, read_p, read_q, share), first) =
+      holds_of_pair (λ a b. ¬ (ShareSlice s a b)) claim.placements j i p q disjoint l read_p read_q share
   no_overlap disjoint r e h = omega (arith, e)
 
   no_oneof_twice : IsOneofOnce s claim.placements → (r : Reason) → rank_of r ≡ 5 → ¬ (IsReason s claim r)
@@ -161,7 +167,8 @@ module _ (s : Parts) (claim : Claim) where
   pub clear_of_value : IsFeasible s claim.placements → AreAllPricesFit s claim → claim.value ≡ value_of_plan s claim.placements → IsClearTo 13 s claim
   clear_of_value f fit value = clear_more 12 (clear_of_quota_price_range f fit) (no_value_differs value)
 
-  pub certified_when : IsFeasible s claim.placements → AreAllPricesFit s claim → claim.value ≡ value_of_plan s claim.placements → IsBound s claim.prices.0 claim.quota_prices.0 (pos claim.bound) → IsCertified s claim
+  pub certified_when : IsFeasible s claim.placements → AreAllPricesFit s claim → claim.value ≡ value_of_plan s claim.placements
+      → IsBound s claim.prices.0 claim.quota_prices.0 (pos claim.bound) → IsCertified s claim
   certified_when f fit value bound = record {
     feasible = f;
     price_count = fit.prices.count;
@@ -181,7 +188,8 @@ number_listed s r k =
 pub few_placed : (s : Parts) (plan : List Placement) → IsOrderly s → ArePlaced s plan → length plan ≤ 1024
 few_placed s plan o placed =
     let known : All (λ r. IsKnown s r) (requests_of plan) = All-map (λ r. IsKnown s r) (λ p. p.request.0) plan placed.known in
-    let among : length (requests_of plan) ≤ length (map (λ x. x.request.request.0) (listed s)) = length_among (requests_of plan) _ placed.once (λ i d l. number_listed s _ (known i d l)) in
+    let among : length (requests_of plan) ≤ length (map (λ x. x.request.request.0) (listed s)) =
+    length_among (requests_of plan) _ placed.once (λ i d l. number_listed s _ (known i d l)) in
     let same : length (requests_of plan) ≡ length plan = length-map plan (λ p. p.request.0) in
     let all : length (map (λ x. x.request.request.0) (listed s)) ≡ length (listed s) = length-map (listed s) (λ x. x.request.request.0) in
     let most : length (listed s) ≤ 1024 = o.within Requests 0 0 (omega arith) in
@@ -203,12 +211,19 @@ module _ (s : Parts) (claim : Claim) (plan : List Placement) (e : plan ≡ claim
   unknown_first i h = (subst (λ (xs : List Placement). IsFirst (IsUnknownAt s xs) i) e h, clear_of_none s claim)
 
   pub twice_first : (i : ℕ) → IsEachKnown s plan → IsFirst (HasEarlier (λ p q. p.request ≡ q.request) plan) i → IsFoundFirst s claim (PlacedTwice i)
-  twice_first i known h = (subst (λ (xs : List Placement). IsFirst (HasEarlier (λ p q. p.request ≡ q.request) xs) i) e h, clear_of_unknown s claim (subst (IsEachKnown s) e known))
+  twice_first i known h = (
+    subst (λ (xs : List Placement). IsFirst (HasEarlier (λ p q. p.request ≡ q.request) xs) i) e h,
+    clear_of_unknown s claim (subst (IsEachKnown s) e known),
+  )
 
   pub impossible_first : (i : ℕ) → IsEachKnown s plan → IsEachOnce plan → IsFirst (IsNotPossibleAt s plan) i → IsFoundFirst s claim (NotPossible i)
-  impossible_first i known once h = (subst (λ (xs : List Placement). IsFirst (IsNotPossibleAt s xs) i) e h, clear_of_twice s claim (subst (IsEachKnown s) e known) (subst IsEachOnce e once))
+  impossible_first i known once h = (
+    subst (λ (xs : List Placement). IsFirst (IsNotPossibleAt s xs) i) e h,
+    clear_of_twice s claim (subst (IsEachKnown s) e known) (subst IsEachOnce e once),
+  )
 
-  pub overlap_first : (i : ℕ) → IsEachKnown s plan → IsEachOnce plan → IsEachPossible s plan → IsFirst (HasEarlier (ShareSlice s) plan) i → IsFoundFirst s claim (Overlap i)
+  pub overlap_first : (i : ℕ) → IsEachKnown s plan → IsEachOnce plan → IsEachPossible s plan → IsFirst (HasEarlier (ShareSlice s) plan) i
+      → IsFoundFirst s claim (Overlap i)
   overlap_first i known once possible h = (
     subst (λ (xs : List Placement). IsFirst (HasEarlier (ShareSlice s) xs) i) e h,
     clear_of_impossible s claim (subst (IsEachKnown s) e known) (subst IsEachOnce e once) (subst (IsEachPossible s) e possible),

@@ -1,5 +1,6 @@
 -- Sums that grow part by part, and the ranges of their parts.
-use Rattle.std.proofs.Common.{◌≡◌, ℕ, ◌+◌, ◌*◌, ◌^◌, ◌<◌, ◌≤◌, ◌⊎◌, inl, inr, ℤ, pos, negsuc, neg_ℤ, w64, ◌+ℤ◌, ◌≤ℤ◌, List, [], ◌∷◌, ◌++◌, length, length-append, slice_index_or, filter, not, ◌==◌, All, refl, sym, ◌∙◌, ap, subst, arith}
+use Rattle.std.proofs.Common.{◌≡◌, ℕ, ◌+◌, ◌*◌, ◌^◌, ◌<◌, ◌≤◌, ◌⊎◌, inl, inr, ℤ, pos, negsuc, neg_ℤ, w64, ◌+ℤ◌, ◌≤ℤ◌, List, [], ◌∷◌, ◌++◌, length}
+use Rattle.std.proofs.Common.{length-append, slice_index_or, filter, not, ◌==◌, All, refl, sym, ◌∙◌, ap, subst, arith}
 use Rattle.std.proofs.lemmas.Int.{ints}
 use Rattle.std.proofs.lemmas.List.{get_or_append_left, get_or-append-add}
 use Rattle.std.proofs.lemmas.List.Elements.{All-nil}
@@ -34,7 +35,8 @@ summed_more i P m a b so_far part range =
     let whole : total (λ x. x) (xs ++ b ∷ []) ≡ total (λ x. x) xs +ℤ total (λ x. x) (b ∷ []) = total_append (λ x. x) xs (b ∷ []) in
     let before : total (λ x. x) xs ≡ a = so_far.sum.sum in
     let at : i ≡ length xs + 0 = omega arith in
-    let here : slice_index_or (xs ++ b ∷ []) i (pos 0) ≡ b = ap (λ (n : ℕ). slice_index_or (xs ++ b ∷ []) n (pos 0)) at ∙ get_or-append-add xs (b ∷ []) 0 (pos 0) in
+    let here : slice_index_or (xs ++ b ∷ []) i (pos 0) ≡ b = ap (λ (n : ℕ). slice_index_or (xs ++ b ∷ []) n (pos 0)) at
+    ∙ get_or-append-add xs (b ∷ []) 0 (pos 0) in
     let low = range.0 in
     let high = range.1 in
     let least : pos 0 ≤ℤ a = so_far.least in
@@ -68,15 +70,25 @@ pub few_quotas : (s : Parts) → IsOrderly s → length s.quotas ≤ 1024
 few_quotas s o = o.within Quotas 0 0 (omega arith)
 
 -- a rebate is not negative, and at most 10^12 for each request
-pub rebate_between : (s : Parts) (prices : List ℤ) (quota_prices : List ℕ) (g : ℕ) (b : ℤ) → IsOrderly s → All IsPriceInRange prices → All (λ u. u ≤ 200000) quota_prices → IsRebate s (net_price s prices quota_prices) g b
+pub rebate_between : (s : Parts) (prices : List ℤ) (quota_prices : List ℕ) (g : ℕ) (b : ℤ) → IsOrderly s → All IsPriceInRange prices
+    → All (λ u. u ≤ 200000) quota_prices → IsRebate s (net_price s prices quota_prices) g b
     → (pos 0 ≤ℤ b) × (b ≤ℤ pos 1024000000000000)
 rebate_between s prices quota_prices g b o a u rebate =
-    let none : IsAllowedChoice s g [] = record { members = All-nil _; once = λ i j d l m. absurd (omega arith); one_of = λ k. omega arith; whole = λ k. inr (λ r f h. absurd (omega (arith, h.1))) } in
+    let none : IsAllowedChoice s g [] =
+    record {
+      members = All-nil _;
+      once = λ i j d l m. absurd (omega arith);
+      one_of = λ k. omega arith;
+      whole = λ k. inr (λ r f h. absurd (omega (arith, h.1)));
+    } in
     let least : pos 0 ≤ℤ b = rebate.bound [] none in
     let choice : List ℕ = rebate.reached.0 in
     let count : length choice ≤ length (filter (λ x. x.group == g) (listed s)) = length_of_choice s g choice rebate.reached.1 in
-    let fewer : length (filter (λ x. x.group == g) (listed s)) ≤ length (listed s) = (let all = length-filter_both (λ x. x.group == g) (λ x. not (x.group == g)) (λ x. refl) (listed s) in omega arith) in
+    let fewer : length (filter (λ x. x.group == g) (listed s)) ≤ length (listed s) =
+    (let all = length-filter_both (λ x. x.group == g) (λ x. not (x.group == g)) (λ x. refl) (listed s) in omega arith) in
     let few : length (listed s) ≤ 1024 = o.within Requests 0 0 (omega arith) in
-    let sum : total (net_price s prices quota_prices) choice ≤ℤ pos (length choice * 10 ^ 12) = total_at_most (net_price s prices quota_prices) (10 ^ 12) choice (λ i d l. (net_price_between s prices quota_prices _ o (rebate.reached.1.members i d l).0 a u).1) in
+    let sum : total (net_price s prices quota_prices) choice ≤ℤ pos (length choice * 10 ^ 12) =
+    total_at_most (net_price s prices quota_prices) (10 ^ 12) choice
+    (λ i d l. (net_price_between s prices quota_prices _ o (rebate.reached.1.members i d l).0 a u).1) in
     let is : total (net_price s prices quota_prices) choice ≡ b = rebate.reached.2 in
     (least, omega (arith, ints))

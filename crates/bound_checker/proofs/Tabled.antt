@@ -17,7 +17,8 @@ use Rattle.bound_checker.specs.Tables.{IsWeight, gain, IsFitting, DoRowsFit, IsG
 use Rattle.bound_checker.specs.Listings.{IsToldBy, IsListing, IsBefore}
 use Rattle.bound_checker.proofs.StartRows.{rows_are}
 
-module _ (s : Parts) (prices : List ℤ) (t : ℕ) (rows : List (List Start)) (orderly : IsOrderly s) (range : All IsPriceInRange prices) (listing : IsListing s prices t (IsBefore s (length (listed s))) rows) where
+module _ (s : Parts) (prices : List ℤ) (t : ℕ) (rows : List (List Start)) (orderly : IsOrderly s) (range : All IsPriceInRange prices)
+    (listing : IsListing s prices t (IsBefore s (length (listed s))) rows) where
   -- each start ends after it begins, and within the rows
   pub rows_fit : DoRowsFit rows
   rows_fit k x has =

@@ -1,5 +1,6 @@
 -- When an AND is placed whole, in part or not at all, by how many of its requests are placed.
-use Rattle.std.proofs.Common.{◌≡◌, ◌≢◌, ℕ, ◌+◌, ◌<◌, ◌≤◌, ◌⊎◌, inl, inr, Bool, true, false, cond, ◌==◌, List, [], ◌∷◌, length, map, filter, slice_get, slice_index_or, Some, count_by, All, AllPairs, Contains, refl, sym, ◌∙◌, ap, subst, arith}
+use Rattle.std.proofs.Common.{◌≡◌, ◌≢◌, ℕ, ◌+◌, ◌<◌, ◌≤◌, ◌⊎◌, inl, inr, Bool, true, false, cond, ◌==◌, List, [], ◌∷◌, length, map, filter, slice_get}
+use Rattle.std.proofs.Common.{slice_index_or, Some, count_by, All, AllPairs, Contains, refl, sym, ◌∙◌, ap, subst, arith}
 use Rattle.std.proofs.lemmas.Bool.{eqb-true, eq-eqb}
 use Rattle.std.proofs.lemmas.Bool.Decides.{eqb_tells}
 use Rattle.std.proofs.lemmas.Option.{slice_get-get_or, get_or_from_slice_get, slice_get_within}
@@ -53,12 +54,14 @@ some_in xs r c = omega (arith, c.1)
 count_map : {X Y : Type 0} (p : Y → Bool) (f : X → Y) (xs : List X) → count_by p (map f xs) ≡ count_by (λ x. p (f x)) xs
 count_map p f [] = refl
 count_map p f (x ∷ xs) =
-    sum_by-cons (λ y. cond (p y) 1 0) (f x) (map f xs) ∙ ap (λ (n : ℕ). cond {A = ℕ} (p (f x)) 1 0 + n) (count_map p f xs) ∙ sym (sum_by-cons (λ y. cond (p (f y)) 1 0) x xs)
+    sum_by-cons (λ y. cond (p y) 1 0) (f x) (map f xs) ∙ ap (λ (n : ℕ). cond {A = ℕ} (p (f x)) 1 0 + n) (count_map p f xs)
+    ∙ sym (sum_by-cons (λ y. cond (p (f y)) 1 0) x xs)
 
 three : (n m : ℕ) → ((n ≡ 0) ⊎ (m ≤ n)) ⊎ ((0 < n) × (n < m))
 three n m = grind arith
 
-module _ (s : Parts) (plan : List Placement) (counts : List ℕ) (o : IsOrderly s) (known : IsEachKnown s plan) (once : IsEachOnce plan) (are : AreGroupCounts s plan counts) where
+module _ (s : Parts) (plan : List Placement) (counts : List ℕ) (o : IsOrderly s) (known : IsEachKnown s plan) (once : IsEachOnce plan)
+    (are : AreGroupCounts s plan counts) where
   -- the requests of the group at place g that the plan places
   abbrev of_group : ℕ → List ℕ
   of_group g = filter (λ r. group_of s r == g) (requests_of plan)
@@ -77,7 +80,8 @@ module _ (s : Parts) (plan : List Placement) (counts : List ℕ) (o : IsOrderly 
       let r : ℕ = slice_index_or (of_group g) i d in
       let each : All (λ x. IsKnown s x) (requests_of plan) = All-map (λ x. IsKnown s x) (λ p. p.request.0) plan known in
       let mine : IsKnown s r = All-filter (λ x. group_of s x == g) (λ x. IsKnown s x) (requests_of plan) each i d l in
-      let has : Contains (requests_of plan) r = All-filter (λ x. group_of s x == g) (Contains (requests_of plan)) (requests_of plan) (λ j f k. Contains-get_or (requests_of plan) j f k) i d l in
+      let has : Contains (requests_of plan) r = All-filter (λ x. group_of s x == g) (Contains (requests_of plan)) (requests_of plan)
+      (λ j f k. Contains-get_or (requests_of plan) j f k) i d l in
       ((mine, eqb-true _ g (filter_passes (λ x. group_of s x == g) (requests_of plan) i d l)), has)
 
   is_member : (g : ℕ) → All (Contains (members s g)) (of_group g)
@@ -87,18 +91,22 @@ module _ (s : Parts) (plan : List Placement) (counts : List ℕ) (o : IsOrderly 
   one_more : (g r : ℕ) → IsOf s g r → ¬ (Contains (requests_of plan) r) → length (of_group g) < length (members s g)
   one_more g r of absent =
       let fresh : All (λ x. r ≢ x) (of_group g) = λ i d l e. absent (subst (λ (n : ℕ). Contains (requests_of plan) n) (sym e) (of_placed g i d l).1) in
-      let among : length (r ∷ of_group g) ≤ length (members s g) = length_among (r ∷ of_group g) (members s g) (AllPairs-cons (λ a b. a ≢ b) r (of_group g) fresh (distinct g))
+      let among : length (r ∷ of_group g) ≤ length (members s g) =
+      length_among (r ∷ of_group g) (members s g) (AllPairs-cons (λ a b. a ≢ b) r (of_group g) fresh (distinct g))
       (All-cons (Contains (members s g)) r (of_group g) ((are_members s g o).complete r of) (is_member g)) in
       omega arith
 
   count_members : (g : ℕ) (d : GroupPart) → g < length s.groups → length (members s g) ≡ length (slice_index_or s.groups g d).requests
-  count_members g d l = ap (λ (rs : List ℕ). length rs) (get_or-map members_of s.groups g d [] l) ∙ length-map (slice_index_or s.groups g d).requests (λ q. q.request.0)
+  count_members g d l = ap (λ (rs : List ℕ). length rs) (get_or-map members_of s.groups g d [] l)
+      ∙ length-map (slice_index_or s.groups g d).requests (λ q. q.request.0)
 
-  partial_between : (g : ℕ) → IsKind s And g → 0 < slice_index_or counts g 0 → slice_index_or counts g 0 < length (members s g) → IsPartialAt s (requests_of plan) g
+  partial_between : (g : ℕ) → IsKind s And g → 0 < slice_index_or counts g 0 → slice_index_or counts g 0 < length (members s g)
+      → IsPartialAt s (requests_of plan) g
   partial_between g kind some less =
       let count : length (of_group g) ≡ slice_index_or counts g 0 = counted g in
       let one : (r : ℕ) × Contains (of_group g) r = first_in (of_group g) (omega arith) in
-      let placed : IsOf s g one.0 × Contains (requests_of plan) one.0 = All-contains (λ r. IsOf s g r × Contains (requests_of plan) r) (of_group g) one.0 (of_placed g) one.1 in
+      let placed : IsOf s g one.0 × Contains (requests_of plan) one.0 =
+      All-contains (λ r. IsOf s g r × Contains (requests_of plan) r) (of_group g) one.0 (of_placed g) one.1 in
       elim (all_in_or_one_missing (of_group g) (members s g)) [
         | inl all ↦
             let among : length (members s g) ≤ length (of_group g) = length_among (members s g) (of_group g) (are_members s g o).once all in

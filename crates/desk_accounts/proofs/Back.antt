@@ -1,5 +1,6 @@
 -- What groups that go on give back: the ledger's entries are the refunds that are told.
-use Rattle.std.proofs.Common.{◌≡◌, ◌∙◌, ap, sym, refl, ℕ, ◌+◌, ◌≤◌, nat_lt, Bool, true, false, cond, List, [], ◌∷◌, ◌++◌, map, filter, fold, sum_by, All, inl, inr, Option, Some, None, length, arith}
+use Rattle.std.proofs.Common.{◌≡◌, ◌∙◌, ap, sym, refl, ℕ, ◌+◌, ◌≤◌, nat_lt, Bool, true, false, cond, List, [], ◌∷◌, ◌++◌, map, filter, fold, sum_by}
+use Rattle.std.proofs.Common.{All, inl, inr, Option, Some, None, length, arith}
 use Rattle.std.specs.List.{AllZip, zip, filter_map, cons_option}
 use Rattle.std.specs.Option.{option_map, option_to_list}
 use Rattle.std.proofs.lemmas.Bool.{cases_Bool}
@@ -34,9 +35,11 @@ use Rattle.desk_accounts.proofs.Tallies.{Tally, plus, same_tally, tally_of, tall
 abbrev pub back_by : List (ℕ × Key) → List GroupRefund → Key → Tally
 back_by accounts refunds key = record { granted = 0; has = false; charged = 0; back = sum_by (refund_on accounts key) refunds }
 
-back-append : (accounts : List (ℕ × Key)) (rs ss : List GroupRefund) (key : Key) → plus (back_by accounts rs key) (back_by accounts ss key) ≡ back_by accounts (rs ++ ss) key
+back-append : (accounts : List (ℕ × Key)) (rs ss : List GroupRefund) (key : Key)
+    → plus (back_by accounts rs key) (back_by accounts ss key) ≡ back_by accounts (rs ++ ss) key
 back-append accounts rs ss key =
-    same_tally (plus (back_by accounts rs key) (back_by accounts ss key)) (back_by accounts (rs ++ ss) key) refl refl refl (sym (sum_by-append (refund_on accounts key) rs ss))
+    same_tally (plus (back_by accounts rs key) (back_by accounts ss key)) (back_by accounts (rs ++ ss) key) refl refl refl
+    (sym (sum_by-append (refund_on accounts key) rs ss))
 
 -- a group's ipp account is found by its number
 abbrev pub IsPaidBy : List (ℕ × Key) → Submitted × (Group × Group) → Type 0
@@ -76,7 +79,8 @@ one_back accounts p key later paid =
     let found : account_at accounts p.1.1.number.0 ≡ Some (ipp_key p.0.document.proposal) = ap (λ (n : GroupNo). account_at accounts n.0) later.number ∙ paid in
     let seconds : seconds_on key (account_at accounts p.1.1.number.0) p.0.charged ≡ seconds_on key (Some (ipp_key p.0.document.proposal)) p.0.charged =
     ap (λ (o : Option Key). seconds_on key o p.0.charged) found in
-    let sum : 0 + seconds_on key (account_at accounts p.1.1.number.0) p.0.charged ≡ seconds_on key (account_at accounts p.1.1.number.0) p.0.charged = omega arith in
+    let sum : 0 + seconds_on key (account_at accounts p.1.1.number.0) p.0.charged ≡ seconds_on key (account_at accounts p.1.1.number.0) p.0.charged =
+    omega arith in
     refund_tally p.1.1.number (record { key = ipp_key p.0.document.proposal; seconds = p.0.charged }) key
     ∙ ap (λ (n : ℕ). let t : Tally = record { granted = 0; has = false; charged = 0; back = n } in t) (sym (sum ∙ seconds))
 
@@ -85,7 +89,8 @@ abbrev pub refund_told : Submitted × (Group × Group) → Option Hold → Optio
 refund_told p o = option_map (λ h. record { group = p.1.1.number; seconds = h.seconds }) o
 
 -- what the ledger's entries of one group say is what is told of it
-one_group : (accounts : List (ℕ × Key)) (p : Submitted × (Group × Group)) (e : GroupHolds) (key : Key) → IsLater p.1.0 p.1.1 → IsHeldFor (p.0, p.1.0) e → IsPaidBy accounts p
+one_group : (accounts : List (ℕ × Key)) (p : Submitted × (Group × Group)) (e : GroupHolds) (key : Key) → IsLater p.1.0 p.1.1
+    → IsHeldFor (p.0, p.1.0) e → IsPaidBy accounts p
     → tally_of (more_after p e) key ≡ back_by accounts (option_to_list (back_in p)) key
 one_group accounts p e key later held paid = by (is_open p.1.0) (is_refunded p.1.0 p.1.1) refl
   where
@@ -97,7 +102,8 @@ one_group accounts p e key later held paid = by (is_open p.1.0) (is_refunded p.1
     by : (a b : Bool) → is_open p.1.0 ≡ a
         → tally_of (cond a (cond b (map (refund_entry p.1.1.number) (option_to_list e.ipp)) []) []) key
         ≡ back_by accounts (option_to_list (cond a (refund_told p (cond b (standing p.0.document.proposal p.0.charged) None)) None)) key
-    by true true opened = ap (λ (o : Option Hold). tally_of (map (refund_entry p.1.1.number) (option_to_list o)) key) (held.charge opened) ∙ stands (nat_lt 0 p.0.charged)
+    by true true opened = ap (λ (o : Option Hold). tally_of (map (refund_entry p.1.1.number) (option_to_list o)) key) (held.charge opened)
+        ∙ stands (nat_lt 0 p.0.charged)
     by true false opened = refl
     by false b opened = refl
 
@@ -117,7 +123,8 @@ back_all accounts b xs front (p ∷ ps) (e ∷ es) low h paid =
     let between : Books = books_at ys (front ++ x ∷ []) es in
     let moved : after_group (books_at xs front (e ∷ es)) p ≡ between = moved_at b xs front p ps e es low h in
     let rest : Adds ys (fold after_group between ps).entries (back_by accounts (refunds_in (endings_of (filter all_of ps)))) =
-    back_all accounts (b + 1) ys (front ++ x ∷ []) ps es (low_at b front p ps e es x low h (group_after p e)) (along_tail b p ps e es h) (All-tail (IsPaidBy accounts) p ps paid) in
+    back_all accounts (b + 1) ys (front ++ x ∷ []) ps es (low_at b front p ps e es x low h (group_after p e)) (along_tail b p ps e es h)
+    (All-tail (IsPaidBy accounts) p ps paid) in
     let on : fold after_group (books_at xs front (e ∷ es)) (p ∷ ps) ≡ fold after_group between ps = ap (λ (z : Books). fold after_group z ps) moved in
     let paid_first : IsPaidBy accounts p = All-head (IsPaidBy accounts) p ps paid in
     record {
@@ -141,13 +148,16 @@ pairs_are (w ∷ ws) (g ∷ gs) [] n = refl
 pairs_are (w ∷ ws) (g ∷ gs) (x ∷ hs) n = ap (λ (l : List (Group × Group)). (g, x) ∷ l) (pairs_are ws gs hs (omega arith))
 
 -- the refunds of the groups' endings are those that are told
-pub refunds_told : (d : DeskSeen) (after : Progress) → IsDesk d → AllZip IsLater d.progress.groups after.groups → refunds_in (endings_of (filter all_of (groups_along d after))) ≡ refunds_of d after
+pub refunds_told : (d : DeskSeen) (after : Progress) → IsDesk d → AllZip IsLater d.progress.groups after.groups
+    → refunds_in (endings_of (filter all_of (groups_along d after))) ≡ refunds_of d after
 refunds_told d after h later =
-    refunds_all all_of 0 d.books.entries [] (groups_along d after) d.books.holds (All-nil (λ x. x.group.0 ≤ 0)) (are_along d after h later) (λ k e l no. let bad : true ≡ false = no in cc)
+    refunds_all all_of 0 d.books.entries [] (groups_along d after) d.books.holds (All-nil (λ x. x.group.0 ≤ 0)) (are_along d after h later)
+    (λ k e l no. let bad : true ≡ false = no in cc)
     ∙ ap (filter_map (refund_of d.books)) (pairs_are d.groups d.progress.groups after.groups (as_submitted d h))
 
 -- groups that go on give back what is told
-pub progress_adds : (accounts : List (ℕ × Key)) (d : DeskSeen) (after : Progress) → IsDesk d → AllZip IsLater d.progress.groups after.groups → All (IsPaidBy accounts) (groups_along d after)
+pub progress_adds : (accounts : List (ℕ × Key)) (d : DeskSeen) (after : Progress) → IsDesk d → AllZip IsLater d.progress.groups after.groups
+    → All (IsPaidBy accounts) (groups_along d after)
     → Adds d.books.entries (with_progress after d).books.entries (back_by accounts (refunds_of d after))
 progress_adds accounts d after h later paid =
     let ps : List (Submitted × (Group × Group)) = groups_along d after in

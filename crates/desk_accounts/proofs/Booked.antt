@@ -1,5 +1,6 @@
 -- A group that is submitted finds what it holds and is charged available.
-use Rattle.std.proofs.Common.{◌≡◌, ◌≢◌, ◌∙◌, ap, sym, subst, refl, ℕ, suc, ◌+◌, ◌<◌, ◌≤◌, nat_lt, nat_le, Bool, true, false, cond, ◌&&◌, List, [], ◌∷◌, ◌++◌, length, get_or, map, All, arith}
+use Rattle.std.proofs.Common.{◌≡◌, ◌≢◌, ◌∙◌, ap, sym, subst, refl, ℕ, suc, ◌+◌, ◌<◌, ◌≤◌, nat_lt, nat_le, Bool, true, false, cond, ◌&&◌, List, [], ◌∷◌}
+use Rattle.std.proofs.Common.{◌++◌, length, get_or, map, All, arith}
 use Rattle.std.proofs.Common.{inl, inr, Option, Some, None}
 use Rattle.std.specs.Prelude.{option_and_then}
 use Rattle.std.specs.List.{slice_get, filter_map, cons_option}
@@ -61,18 +62,22 @@ all_available b (n ∷ ns) e = by (has_grant b.entries n.key) (nat_le n.seconds 
     by true false is f rest = absurd (cc)
     by true true is f rest = All-cons (IsAvailable b) n ns (leb-true n.seconds (available_of b n.key) is) (rest f)
 
-ledger_available : (b : Books) (hs : List Hold) (ipp : ℕ) → option_and_then refusal_of_ledger (refusal_of b hs ipp) ≡ None → All (IsAvailable b) (hs ++ option_to_list (ipp_need hs ipp))
+ledger_available : (b : Books) (hs : List Hold) (ipp : ℕ) → option_and_then refusal_of_ledger (refusal_of b hs ipp) ≡ None
+    → All (IsAvailable b) (hs ++ option_to_list (ipp_need hs ipp))
 ledger_available b hs ipp e = by (knows_proposal b.entries (proposal_of hs)) refl e
   where
-    by : (k : Bool) → knows_proposal b.entries (proposal_of hs) ≡ k → option_and_then refusal_of_ledger (refusal_of b hs ipp) ≡ None → All (IsAvailable b) (hs ++ option_to_list (ipp_need hs ipp))
+    by : (k : Bool) → knows_proposal b.entries (proposal_of hs) ≡ k → option_and_then refusal_of_ledger (refusal_of b hs ipp) ≡ None
+        → All (IsAvailable b) (hs ++ option_to_list (ipp_need hs ipp))
     by false x e = let bad = rw x at e in absurd (cc)
     by true x e = all_available b (hs ++ option_to_list (ipp_need hs ipp)) (rw x at e)
 
 needs_available : (d : DeskSeen) (document : GroupDoc) (made : List MadeSeen) → submission_refusal d document made ≡ None
     → All (IsAvailable d.books) (holds_for d document made ++ option_to_list (ipp_need (holds_for d document made) (charge_for d document made)))
-needs_available d document made e = by (nat_lt 1024 (pending_count d.progress.groups + length made)) (nat_lt 2048 (length (targets_with d document))) refl refl e
+needs_available d document made e =
+    by (nat_lt 1024 (pending_count d.progress.groups + length made)) (nat_lt 2048 (length (targets_with d document))) refl refl e
   where
-    by : (a b : Bool) → nat_lt 1024 (pending_count d.progress.groups + length made) ≡ a → nat_lt 2048 (length (targets_with d document)) ≡ b → submission_refusal d document made ≡ None
+    by : (a b : Bool) → nat_lt 1024 (pending_count d.progress.groups + length made) ≡ a → nat_lt 2048 (length (targets_with d document)) ≡ b
+        → submission_refusal d document made ≡ None
         → All (IsAvailable d.books) (holds_for d document made ++ option_to_list (ipp_need (holds_for d document made) (charge_for d document made)))
     by true b x y e = let bad = rw x at e in absurd (cc)
     by false true x y e = let bad = rw y at (rw x at e) in absurd (cc)
@@ -97,7 +102,8 @@ none_held key (x ∷ hs) h =
     omega (arith, sum, first, rest)
 
 -- where keys rise, one stands once
-not_again : (x : Hold) (hs : List Hold) (key : Key) → Rises key_cmp (map (λ y. y.key) (x ∷ hs)) → is_key x.key key ≡ true → All (λ y. is_key y.key key ≡ false) hs
+not_again : (x : Hold) (hs : List Hold) (key : Key) → Rises key_cmp (map (λ y. y.key) (x ∷ hs)) → is_key x.key key ≡ true
+    → All (λ y. is_key y.key key ≡ false) hs
 not_again x hs key rises first = λ i d l. false_from_ne_true (is_key (get_or hs i d).key key) (λ same.
     let count : length (map (λ (y : Hold). y.key) hs) ≡ length hs = length-map hs (λ y. y.key) in
     let less : key_cmp x.key (get_or (map (λ (y : Hold). y.key) hs) i x.key) ≡ Less = rises 0 (suc i) x.key (omega arith) (omega (arith, count, l)) in
@@ -111,7 +117,8 @@ rises_rest : (x : Hold) (hs : List Hold) → Rises key_cmp (map (λ y. y.key) (x
 rises_rest x hs rises i j d before l = rises (suc i) (suc j) d (omega (arith, before)) (omega (arith, l))
 
 -- so what is held of it is what one hold has
-once_held : (most : ℕ) (key : Key) (hs : List Hold) → Rises key_cmp (map (λ y. y.key) hs) → All (λ x. is_key x.key key ≡ true → x.seconds ≤ most) hs → held_in key hs ≤ most
+once_held : (most : ℕ) (key : Key) (hs : List Hold) → Rises key_cmp (map (λ y. y.key) hs)
+    → All (λ x. is_key x.key key ≡ true → x.seconds ≤ most) hs → held_in key hs ≤ most
 once_held most key [] rises h = omega arith
 once_held most key (x ∷ hs) rises h =
     let sum = sum_by-cons (λ (y : Hold). cond (is_key y.key key) y.seconds 0) x hs in
@@ -123,7 +130,8 @@ once_held most key (x ∷ hs) rises h =
           omega (arith, sum, first, few, rest)
       | inr off ↦
           let first : cond (is_key x.key key) x.seconds 0 ≡ 0 = ap (λ (b : Bool). cond b x.seconds 0) off in
-          let rest : held_in key hs ≤ most = once_held most key hs (rises_rest x hs rises) (All-tail (λ y. is_key y.key key ≡ true → y.seconds ≤ most) x hs h) in
+          let rest : held_in key hs ≤ most =
+          once_held most key hs (rises_rest x hs rises) (All-tail (λ y. is_key y.key key ≡ true → y.seconds ≤ most) x hs h) in
           omega (arith, sum, first, rest)
     ]
 
@@ -133,15 +141,18 @@ once_held most key (x ∷ hs) rises h =
 abbrev charged_to : Bool → List ℕ → ℕ → Key → ℕ
 charged_to b proposal c key = cond b (cond (is_key (ipp_key proposal) key) c 0) 0
 
-charge_adds : (n : GroupNo) (proposal : List ℕ) (c : ℕ) (key : Key) (b : Bool) → seconds_of Charge key (map (charge_entry n) (option_to_list (charge_if b proposal c))) ≡ charged_to b proposal c key
+charge_adds : (n : GroupNo) (proposal : List ℕ) (c : ℕ) (key : Key) (b : Bool)
+    → seconds_of Charge key (map (charge_entry n) (option_to_list (charge_if b proposal c))) ≡ charged_to b proposal c key
 charge_adds n proposal c key true = ap (λ (t : Tally). t.charged) (charge_tally n (record { key = ipp_key proposal; seconds = c }) key)
 charge_adds n proposal c key false = refl
 
-charge_grants : (n : GroupNo) (proposal : List ℕ) (c : ℕ) (key : Key) (b : Bool) → seconds_of Grant key (map (charge_entry n) (option_to_list (charge_if b proposal c))) ≡ 0
+charge_grants : (n : GroupNo) (proposal : List ℕ) (c : ℕ) (key : Key) (b : Bool)
+    → seconds_of Grant key (map (charge_entry n) (option_to_list (charge_if b proposal c))) ≡ 0
 charge_grants n proposal c key true = ap (λ (t : Tally). t.granted) (charge_tally n (record { key = ipp_key proposal; seconds = c }) key)
 charge_grants n proposal c key false = refl
 
-charge_refunds : (n : GroupNo) (proposal : List ℕ) (c : ℕ) (key : Key) (b : Bool) → seconds_of Refund key (map (charge_entry n) (option_to_list (charge_if b proposal c))) ≡ 0
+charge_refunds : (n : GroupNo) (proposal : List ℕ) (c : ℕ) (key : Key) (b : Bool)
+    → seconds_of Refund key (map (charge_entry n) (option_to_list (charge_if b proposal c))) ≡ 0
 charge_refunds n proposal c key true = ap (λ (t : Tally). t.back) (charge_tally n (record { key = ipp_key proposal; seconds = c }) key)
 charge_refunds n proposal c key false = refl
 
@@ -165,7 +176,8 @@ fits b key hs proposal c true rises not_ipp h =
           let charged : cond (is_key (ipp_key proposal) key) c 0 ≡ c = ap (λ (x : Bool). cond x c 0) on in
           let none : held_in key hs ≡ 0 =
           none_held key hs (All-weaker (λ x. x.key.account ≢ Ipp) (λ x. is_key x.key key ≡ false)
-          (λ x other. false_from_ne_true (is_key x.key key) (λ same. other (ap (λ (k : Key). k.account) (is_key-true x.key key same ∙ sym (is_key-true (ipp_key proposal) key on))))) hs not_ipp) in
+          (λ x other. false_from_ne_true (is_key x.key key)
+          (λ same. other (ap (λ (k : Key). k.account) (is_key-true x.key key same ∙ sym (is_key-true (ipp_key proposal) key on))))) hs not_ipp) in
           omega (arith, here, charged, none)
       | inr off ↦
           let charged : cond (is_key (ipp_key proposal) key) c 0 ≡ 0 = ap (λ (x : Bool). cond x c 0) off in
@@ -177,7 +189,8 @@ entries_sum : (kind : EntryKind) (key : Key) (xs ys : List Entry) → seconds_of
 entries_sum kind key xs ys = sum_by-append (λ (e : Entry). cond (is_kind kind e.kind && is_key e.key key) e.seconds 0) xs ys
 
 -- a group that isn't refused leaves the accounts covered
-pub submission_covered : (d : DeskSeen) (document : GroupDoc) (made : List MadeSeen) → IsDesk d → AreMade d.progress.moment document made → submission_refusal d document made ≡ None
+pub submission_covered : (d : DeskSeen) (document : GroupDoc) (made : List MadeSeen) → IsDesk d → AreMade d.progress.moment document made
+    → submission_refusal d document made ≡ None
     → IsCovered d.books → IsCovered (with_submission d document made).books
 submission_covered d document made h m none covered =
     let n : GroupNo = (group_of d document made).number in
@@ -190,10 +203,15 @@ submission_covered d document made h m none covered =
     let more : List Entry = map (charge_entry n) (option_to_list (charge_if q p c)) in
     let list = is_booked d document made m in
     subst IsCovered (sym (booked_is d.books n hs c low)) (λ key.
-    let held : held_of (d.books.holds ++ entry ∷ []) key ≡ held_of d.books.holds key + held_in key hs = sum_by_push (λ (g : GroupHolds). held_in key g.holds) d.books.holds entry in
-    let granted : seconds_of Grant key (d.books.entries ++ more) ≡ seconds_of Grant key d.books.entries + seconds_of Grant key more = entries_sum Grant key d.books.entries more in
-    let charged : seconds_of Charge key (d.books.entries ++ more) ≡ seconds_of Charge key d.books.entries + seconds_of Charge key more = entries_sum Charge key d.books.entries more in
-    let back : seconds_of Refund key (d.books.entries ++ more) ≡ seconds_of Refund key d.books.entries + seconds_of Refund key more = entries_sum Refund key d.books.entries more in
-    let few : held_in key hs + charged_to q p c key ≤ available_of d.books key = fits d.books key hs p c q list.rising list.not_ipp (needs_available d document made none) in
+    let held : held_of (d.books.holds ++ entry ∷ []) key ≡ held_of d.books.holds key + held_in key hs =
+    sum_by_push (λ (g : GroupHolds). held_in key g.holds) d.books.holds entry in
+    let granted : seconds_of Grant key (d.books.entries ++ more) ≡ seconds_of Grant key d.books.entries + seconds_of Grant key more =
+    entries_sum Grant key d.books.entries more in
+    let charged : seconds_of Charge key (d.books.entries ++ more) ≡ seconds_of Charge key d.books.entries + seconds_of Charge key more =
+    entries_sum Charge key d.books.entries more in
+    let back : seconds_of Refund key (d.books.entries ++ more) ≡ seconds_of Refund key d.books.entries + seconds_of Refund key more =
+    entries_sum Refund key d.books.entries more in
+    let few : held_in key hs + charged_to q p c key ≤ available_of d.books key =
+    fits d.books key hs p c q list.rising list.not_ipp (needs_available d document made none) in
     let now = covered key in
     omega (arith, held, granted, charged, back, few, now, charge_grants n p c key q, charge_adds n p c key q, charge_refunds n p c key q))

@@ -28,7 +28,8 @@ sums_then xs ys f key a = ap (λ (l : List Entry). tally_of l key) a.entries ∙
 
 -- where what is held and charged then is no more than what was held, with what is given
 pub still_covered : (before after : Books) (f : Key → Tally) → Adds before.entries after.entries f
-    → ((key : Key) → held_of after.holds key + (f key).charged ≤ held_of before.holds key + ((f key).granted + (f key).back)) → IsCovered before → IsCovered after
+    → ((key : Key) → held_of after.holds key + (f key).charged ≤ held_of before.holds key + ((f key).granted + (f key).back))
+    → IsCovered before → IsCovered after
 still_covered before after f a less covered key =
     let sums : tally_of after.entries key ≡ plus (tally_of before.entries key) (f key) = sums_then before.entries after.entries f key a in
     let granted : seconds_of Grant key after.entries ≡ seconds_of Grant key before.entries + (f key).granted = ap (λ (t : Tally). t.granted) sums in
@@ -49,7 +50,8 @@ sum_less f g (x ∷ xs) h =
     let rest : sum_by f xs ≤ sum_by g xs = sum_less f g xs (All-tail (λ y. f y ≤ g y) x xs h) in
     omega (arith, a, b, first, rest)
 
-held_sum : (key : Key) (f : Submitted × (Group × Group) → Submitted × Group) (ps : List (Submitted × (Group × Group))) (es : List GroupHolds) → AllZip (λ p e. IsHeldFor (f p) e) ps es
+held_sum : (key : Key) (f : Submitted × (Group × Group) → Submitted × Group) (ps : List (Submitted × (Group × Group))) (es : List GroupHolds)
+    → AllZip (λ p e. IsHeldFor (f p) e) ps es
     → held_of es key ≡ sum_by (λ p. held_in key (held_by (f p).0 (f p).1)) ps
 held_sum key f [] [] h = refl
 held_sum key f [] (e ∷ es) h = absurd h
@@ -62,15 +64,18 @@ held_sum key f (p ∷ ps) (e ∷ es) h =
     omega (arith, a, b, c, rest)
 
 -- groups that have gone on hold no more
-pub held_less : (d : DeskSeen) (after : Progress) (key : Key) → IsDesk d → AllZip IsLater d.progress.groups after.groups → held_of (with_progress after d).books.holds key ≤ held_of d.books.holds key
+pub held_less : (d : DeskSeen) (after : Progress) (key : Key) → IsDesk d → AllZip IsLater d.progress.groups after.groups
+    → held_of (with_progress after d).books.holds key ≤ held_of d.books.holds key
 held_less d after key h later =
     let ps : List (Submitted × (Group × Group)) = groups_along d after in
     let along : AreAlong 0 ps d.books.holds = are_along d after h later in
-    let then : AreAfter d.books (fold after_group d.books ps) ps [] d.books.holds = after_all 0 d.books.entries [] ps d.books.holds (All-nil (λ x. x.group.0 ≤ 0)) along in
+    let then : AreAfter d.books (fold after_group d.books ps) ps [] d.books.holds =
+    after_all 0 d.books.entries [] ps d.books.holds (All-nil (λ x. x.group.0 ≤ 0)) along in
     let now : held_of (with_progress after d).books.holds key ≡ sum_by (λ p. held_in key (held_by p.0 p.1.1)) ps =
     ap (λ (l : List GroupHolds). held_of l key) then.holds ∙ held_sum key (λ p. (p.0, p.1.1)) ps then.others then.held in
     let before : held_of d.books.holds key ≡ sum_by (λ p. held_in key (held_by p.0 p.1.0)) ps = held_sum key (λ p. (p.0, p.1.0)) ps d.books.holds along.held in
     let less : sum_by (λ p. held_in key (held_by p.0 p.1.1)) ps ≤ sum_by (λ p. held_in key (held_by p.0 p.1.0)) ps =
     sum_less (λ p. held_in key (held_by p.0 p.1.1)) (λ p. held_in key (held_by p.0 p.1.0)) ps
-    (All-weaker (λ p. IsLater p.1.0 p.1.1) (λ p. held_in key (held_by p.0 p.1.1) ≤ held_in key (held_by p.0 p.1.0)) (λ p l. group_no_more p.0 p.1.0 p.1.1 key l) ps along.later) in
+    (All-weaker (λ p. IsLater p.1.0 p.1.1) (λ p. held_in key (held_by p.0 p.1.1) ≤ held_in key (held_by p.0 p.1.0))
+    (λ p l. group_no_more p.0 p.1.0 p.1.1 key l) ps along.later) in
     omega (arith, now, before, less)

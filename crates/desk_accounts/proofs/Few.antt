@@ -27,7 +27,8 @@ part_granted key t = by (grant_told t)
 account_granted : (entries : List Told) (key : Key) → granted_told entries key ≤ all_granted entries
 account_granted entries key = sum_less (granted_by key) seconds_granted entries (λ i t l. part_granted key _)
 
-pub grants_few : (scripts : List (List ScriptLine)) (history : List EventEntry) → IsLegal scripts history → AreFewGrants (told_of scripts history) (replay scripts history).version
+pub grants_few : (scripts : List (List ScriptLine)) (history : List EventEntry) → IsLegal scripts history
+    → AreFewGrants (told_of scripts history) (replay scripts history).version
 grants_few scripts history h = record { account = account_granted (told_of scripts history); all = (legal_told scripts history h).grants }
 
 pub grants_below : (scripts : List (List ScriptLine)) (history : List EventEntry) → IsLegal scripts history → (replay scripts history).version ≤ most_version

@@ -63,9 +63,11 @@ pub record Goes (known : List GroupTold) (t : Told) (before after : StateSeen) :
   pub done : Completes (completed_told t) (runs_of before) (runs_of after)
 
 -- where no group is told, those that are known stay so
-pub stay_known : (known : List GroupTold) (ps : List (Submitted × Group)) (t : Told) → group_told t ≡ None → AreKnown known ps → AreKnown (known ++ option_to_list (group_told t)) ps
+pub stay_known : (known : List GroupTold) (ps : List (Submitted × Group)) (t : Told) → group_told t ≡ None → AreKnown known ps
+    → AreKnown (known ++ option_to_list (group_told t)) ps
 stay_known known ps t none k =
-    subst (λ (o : Option GroupTold). AreKnown (known ++ option_to_list o) ps) (sym none) (subst (λ (l : List GroupTold). AreKnown l ps) (sym (append-nil known)) k)
+    subst (λ (o : Option GroupTold). AreKnown (known ++ option_to_list o) ps) (sym none)
+    (subst (λ (l : List GroupTold). AreKnown l ps) (sym (append-nil known)) k)
 
 -- ---- an entry that tells nothing of accounts
 
@@ -78,7 +80,8 @@ pub record IsQuiet (t : Told) : Type 0 where
 pub refused_quiet : (line : Result Command CommandFault) (r : Refusal) → IsQuiet (record { line = line; reply = reply.Refused r })
 refused_quiet line r = record { group = refl; tally = λ groups key. refl; back = refl; done = refl }
 
-quiet_back : (t : Told) (before after : StateSeen) → IsQuiet t → groups_of after ≡ groups_of before → GivesBack (refunds_in t.reply) (groups_of before) (groups_of after)
+quiet_back : (t : Told) (before after : StateSeen) → IsQuiet t → groups_of after ≡ groups_of before
+    → GivesBack (refunds_in t.reply) (groups_of before) (groups_of after)
 quiet_back t before after quiet groups =
     subst (λ (rs : List GroupRefund). GivesBack rs (groups_of before) (groups_of after)) (sym quiet.back)
     (none_back (groups_of before) (groups_of after) (λ n c. subst (λ (ps : List (Submitted × Group)). IsClosedIn ps n) (sym groups) c))
@@ -113,18 +116,24 @@ told_at c answer = record { line = Ok c; reply = answer }
 abbrev pub LineGoes : List GroupTold → ℕ → DeskSeen → Command → Reply → DeskSeen → Type 0
 LineGoes known version d c answer e = Goes known (told_at c answer) (opened version d) (opened (version + 1) e)
 
-pub quiet_line : (known : List GroupTold) (version : ℕ) (d e : DeskSeen) (c : Command) (answer : Reply) → IsQuiet (told_at c answer) → IsDesk e → AreKnown known (groups_in d)
+pub quiet_line : (known : List GroupTold) (version : ℕ) (d e : DeskSeen) (c : Command) (answer : Reply) → IsQuiet (told_at c answer) → IsDesk e
+    → AreKnown known (groups_in d)
     → groups_in e ≡ groups_in d → e.books ≡ d.books → e.progress.groups ≡ d.progress.groups → LineGoes known version d c answer e
-quiet_line known version d e c answer quiet h k groups books runs = quiet_goes known (told_at c answer) (opened version d) (opened (version + 1) e) quiet h k groups books runs
+quiet_line known version d e c answer quiet h k groups books runs =
+    quiet_goes known (told_at c answer) (opened version d) (opened (version + 1) e) quiet h k groups books runs
 
-by_decided : (known : List GroupTold) (version : ℕ) (d e : DeskSeen) (c : Command) (refusal : Option Refusal) (answer : Reply) → IsDesk d → AreKnown known (groups_in d)
+by_decided : (known : List GroupTold) (version : ℕ) (d e : DeskSeen) (c : Command) (refusal : Option Refusal) (answer : Reply) → IsDesk d
+    → AreKnown known (groups_in d)
     → (refusal ≡ None → LineGoes known version d c answer e)
-    → (let s : Stepped = decided (opened version d) (record { refusal = refusal; reply = answer; desk = e }) in Goes known (told_at c s.reply) (opened version d) s.state)
+    → (let s : Stepped = decided (opened version d) (record { refusal = refusal; reply = answer; desk = e }) in
+    Goes known (told_at c s.reply) (opened version d) s.state)
 by_decided known version d e c None answer h k goes = goes refl
-by_decided known version d e c (Some r) answer h k goes = quiet_goes known (told_at c (reply.Refused r)) (opened version d) (opened version d) (refused_quiet (Ok c) r) h k refl refl refl
+by_decided known version d e c (Some r) answer h k goes = quiet_goes known (told_at c (reply.Refused r)) (opened version d) (opened version d)
+    (refused_quiet (Ok c) r) h k refl refl refl
 
 -- a decision that is the step
-pub decided_goes : (known : List GroupTold) (version : ℕ) (d : DeskSeen) (c : Command) (decision : Decision) (stepped : Stepped) → IsDesk d → AreKnown known (groups_in d)
+pub decided_goes : (known : List GroupTold) (version : ℕ) (d : DeskSeen) (c : Command) (decision : Decision) (stepped : Stepped) → IsDesk d
+    → AreKnown known (groups_in d)
     → Some (decided (opened version d) decision) ≡ Some stepped → (decision.refusal ≡ None → LineGoes known version d c decision.reply decision.desk)
     → Goes known (told_at c stepped.reply) (opened version d) stepped.state
 decided_goes known version d c decision stepped h k is goes =
@@ -133,13 +142,15 @@ decided_goes known version d c decision stepped h k is goes =
 
 -- ---- groups that go on
 
-pub progress_line : (known : List GroupTold) (version : ℕ) (d : DeskSeen) (after : Progress) (c : Command) (answer : Reply) → IsDesk d → IsDesk (with_progress after d)
+pub progress_line : (known : List GroupTold) (version : ℕ) (d : DeskSeen) (after : Progress) (c : Command) (answer : Reply) → IsDesk d
+    → IsDesk (with_progress after d)
     → AllZip IsLater d.progress.groups after.groups → AreKnown known (groups_in d) → group_told (told_at c answer) ≡ None
     → ((groups : List GroupTold) (key : Key) → back_by (group_accounts groups) (refunds_of d after) key ≡ tally_by groups (told_at c answer) key)
     → refunds_in answer ≡ refunds_of d after → completed_told (told_at c answer) ≡ None → LineGoes known version d c answer (with_progress after d)
 progress_line known version d after c answer h e later k none says back done =
     let t : Told = told_at c answer in
-    let adds : (more : List GroupTold) → Adds d.books.entries (with_progress after d).books.entries (back_by (group_accounts (known ++ more)) (refunds_of d after)) =
+    let adds : (more : List GroupTold)
+    → Adds d.books.entries (with_progress after d).books.entries (back_by (group_accounts (known ++ more)) (refunds_of d after)) =
     λ more. progress_adds (group_accounts (known ++ more)) d after h later (all_paid known more d after h k) in
     record {
       desk = e;
@@ -148,7 +159,8 @@ progress_line known version d after c answer h e later k none says back done =
           (λ key. let less = held_less d after key h later in omega (arith, less));
       adds = λ more.
           let all : List GroupTold = option_to_list (group_told t) ++ more in
-          adds_as d.books.entries (with_progress after d).books.entries (back_by (group_accounts (known ++ all)) (refunds_of d after)) (tally_by (known ++ all) t) (adds all) (says (known ++ all));
+          adds_as d.books.entries (with_progress after d).books.entries (back_by (group_accounts (known ++ all)) (refunds_of d after))
+          (tally_by (known ++ all) t) (adds all) (says (known ++ all));
       back = subst (λ (rs : List GroupRefund). GivesBack rs (groups_in d) (groups_in (with_progress after d))) (sym back) (progress_back d after h later);
       done =
           subst (λ (o : Option RequestNo). Completes o d.progress.groups after.groups) (sym done)
@@ -157,7 +169,8 @@ progress_line known version d after c answer h e later k none says back done =
 
 -- ---- `grant`
 
-pub grant_line : (known : List GroupTold) (version : ℕ) (d e : DeskSeen) (account : Key) (seconds balance : ℕ) → IsDesk e → AreKnown known (groups_in d) → groups_in e ≡ groups_in d
+pub grant_line : (known : List GroupTold) (version : ℕ) (d e : DeskSeen) (account : Key) (seconds balance : ℕ) → IsDesk e
+    → AreKnown known (groups_in d) → groups_in e ≡ groups_in d
     → e.books ≡ with_entry (grant_entry account seconds) d.books → e.progress.groups ≡ d.progress.groups
     → LineGoes known version d (command.Grant account seconds) (reply.Granted balance) e
 grant_line known version d e account seconds balance h k groups books runs =

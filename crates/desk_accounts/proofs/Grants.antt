@@ -48,7 +48,8 @@ by_refusal : (s : StateSeen) (line : Result Command CommandFault) (refusal : Opt
 by_refusal s line None answer e few = let most = at_most_asked line answer in omega (arith, few, most)
 by_refusal s line (Some r) answer e few = omega arith
 
-decided_grows : (s : StateSeen) (c : Command) (decision : Decision) (stepped : Stepped) → asked_in (Ok c) ≤ most_grant → Some (decided s decision) ≡ Some stepped
+decided_grows : (s : StateSeen) (c : Command) (decision : Decision) (stepped : Stepped) → asked_in (Ok c) ≤ most_grant
+    → Some (decided s decision) ≡ Some stepped
     → Grows (record { line = Ok c; reply = stepped.reply }) s stepped.state
 decided_grows s c decision stepped few is =
     subst (λ (x : Stepped). Grows (record { line = Ok c; reply = x.reply }) s x.state) (same_Some (decided s decision) stepped is)
@@ -81,16 +82,19 @@ step_grows v s (Some d) (command.Instrument name front config readout change) st
 step_grows v s (Some d) (command.Telescope site enclosure telescope class instruments) stepped ranges is =
     decided_grows s (command.Telescope site enclosure telescope class instruments)
     (on_telescope d record { site = site; enclosure = enclosure; telescope = telescope } class instruments) stepped (omega arith) is
-step_grows v s (Some d) (command.Night site spans) stepped ranges is = decided_grows s (command.Night site spans) (on_night d site spans) stepped (omega arith) is
+step_grows v s (Some d) (command.Night site spans) stepped ranges is =
+    decided_grows s (command.Night site spans) (on_night d site spans) stepped (omega arith) is
 step_grows v s (Some d) (command.Visibility target site spans) stepped ranges is =
     decided_grows s (command.Visibility target site spans) (on_visibility d target site spans) stepped (omega arith) is
 step_grows v s (Some d) (command.Close scope spans) stepped ranges is =
     decided_grows s (command.Close scope spans) (on_closure d Close scope spans reply.Closed) stepped (omega arith) is
 step_grows v s (Some d) (command.Reopen scope spans) stepped ranges is =
     decided_grows s (command.Reopen scope spans) (on_closure d Reopen scope spans reply.Reopened) stepped (omega arith) is
-step_grows v s (Some d) (command.Grant key seconds) stepped ranges is = decided_grows s (command.Grant key seconds) (on_grant d key seconds) stepped ranges.amount.high is
+step_grows v s (Some d) (command.Grant key seconds) stepped ranges is =
+    decided_grows s (command.Grant key seconds) (on_grant d key seconds) stepped ranges.amount.high is
 step_grows v s (Some d) (command.Submit document) stepped ranges is = decided_grows s (command.Submit document) (on_submit d document) stepped (omega arith) is
-step_grows v s (Some d) (command.Amend old document) stepped ranges is = decided_grows s (command.Amend old document) (on_amend d old document) stepped (omega arith) is
+step_grows v s (Some d) (command.Amend old document) stepped ranges is =
+    decided_grows s (command.Amend old document) (on_amend d old document) stepped (omega arith) is
 step_grows v s (Some d) (command.Withdraw group) stepped ranges is = decided_grows s (command.Withdraw group) (on_withdraw d group) stepped (omega arith) is
 step_grows v s (Some d) (command.Clock at) stepped ranges is = decided_grows s (command.Clock at) (on_clock d at) stepped (omega arith) is
 step_grows v s (Some d) (command.Report request percent used) stepped ranges is =
@@ -104,7 +108,8 @@ step_grows v s (Some d) (command.Show group) stepped ranges is = told_grows s (c
 
 -- ---- publications
 
-claim_grows : (s : StateSeen) (o : Option DeskSeen) (line : Result Command CommandFault) (claim : Claim) → Grows (record { line = line; reply = reply.Published claim }) s (with_published s o claim)
+claim_grows : (s : StateSeen) (o : Option DeskSeen) (line : Result Command CommandFault) (claim : Claim)
+    → Grows (record { line = line; reply = reply.Published claim }) s (with_published s o claim)
 claim_grows s None line claim = omega arith
 claim_grows s (Some d) line claim = omega arith
 

@@ -1,5 +1,6 @@
 -- The groups that entries tell are those of the desk.
-use Rattle.std.proofs.Common.{◌≡◌, ◌∙◌, ap, sym, subst, refl, ℕ, ◌+◌, ◌<◌, ◌≤◌, ◌==◌, Bool, true, false, cond, List, [], ◌∷◌, ◌++◌, length, map, get_or, All, Option, Some, None, arith}
+use Rattle.std.proofs.Common.{◌≡◌, ◌∙◌, ap, sym, subst, refl, ℕ, ◌+◌, ◌<◌, ◌≤◌, ◌==◌, Bool, true, false, cond, List, [], ◌∷◌, ◌++◌, length, map}
+use Rattle.std.proofs.Common.{get_or, All, Option, Some, None, arith}
 use Rattle.std.specs.List.{AllZip, zip, find, flat_map, list_any}
 use Rattle.std.specs.Option.{option_map, option_map_or}
 use Rattle.std.proofs.lemmas.Bool.{or_parts}
@@ -123,7 +124,8 @@ same_requests (w ∷ ws) (g ∷ gs) (h ∷ hs) z =
     ∙ ap (λ (l : List (ℕ × Key)). member_accounts (w, h) ++ l) (same_requests ws gs hs z.1)
 
 -- they are known as before
-pub known_along : (told : List GroupTold) (ws : List Submitted) (gs hs : List Group) → AllZip IsLater gs hs → AreKnown told (zip ws gs) → AreKnown told (zip ws hs)
+pub known_along : (told : List GroupTold) (ws : List Submitted) (gs hs : List Group) → AllZip IsLater gs hs → AreKnown told (zip ws gs)
+    → AreKnown told (zip ws hs)
 known_along told ws gs hs z h = record {
   groups = h.groups ∙ same_groups ws gs hs z;
   requests = h.requests ∙ same_requests ws gs hs z;
@@ -132,7 +134,8 @@ known_along told ws gs hs z h = record {
 
 -- ---- a group by its number
 
-paid_at : (accounts : List (ℕ × Key)) (ws : List Submitted) (gs hs : List Group) → All (IsFoundIn accounts) (map group_account (zip ws gs)) → All (IsPaidBy accounts) (zip ws (zip gs hs))
+paid_at : (accounts : List (ℕ × Key)) (ws : List Submitted) (gs hs : List Group) → All (IsFoundIn accounts) (map group_account (zip ws gs))
+    → All (IsPaidBy accounts) (zip ws (zip gs hs))
 paid_at accounts [] gs hs h = All-nil (IsPaidBy accounts)
 paid_at accounts (w ∷ ws) [] hs h = All-nil (IsPaidBy accounts)
 paid_at accounts (w ∷ ws) (g ∷ gs) [] h = All-nil (IsPaidBy accounts)
@@ -150,11 +153,13 @@ pub group_accounts-append : (told later : List GroupTold) → group_accounts (to
 group_accounts-append told later = map-append (λ (x : GroupTold). let a : ℕ × Key = (x.number.0, ipp_key x.document.proposal) in a) told later
 
 -- whatever is told later
-pub all_paid : (told later : List GroupTold) (d : DeskSeen) (after : Progress) → IsDesk d → AreKnown told (groups_in d) → All (IsPaidBy (group_accounts (told ++ later))) (groups_along d after)
+pub all_paid : (told later : List GroupTold) (d : DeskSeen) (after : Progress) → IsDesk d → AreKnown told (groups_in d)
+    → All (IsPaidBy (group_accounts (told ++ later))) (groups_along d after)
 all_paid told later d after h known =
     let accounts : List (ℕ × Key) = map group_account (groups_in d) in
     let counted : IsCountedFrom 0 (map (λ a. a.0) accounts) =
-    subst (IsCountedFrom 0) (sym (numbers_of d.groups d.progress.groups (as_submitted d h))) (counted_from (map (λ g. g.number.0) d.progress.groups) h.sound.numbered.groups) in
+    subst (IsCountedFrom 0) (sym (numbers_of d.groups d.progress.groups (as_submitted d h)))
+    (counted_from (map (λ g. g.number.0) d.progress.groups) h.sound.numbered.groups) in
     let found : All (IsFoundIn accounts) accounts = all_found 0 [] accounts (All-nil (λ a. a.0 ≤ 0)) counted in
     let there : All (IsFoundIn (group_accounts told ++ group_accounts later)) accounts = λ k e l.
     in_front (group_accounts told) (group_accounts later) (get_or accounts k e).0 (get_or accounts k e).1
@@ -163,16 +168,19 @@ all_paid told later d after h known =
     (subst (λ (xs : List (ℕ × Key)). All (IsFoundIn xs) accounts) (sym (group_accounts-append told later)) there)
 
 -- the numbers of a desk's groups are at most as many as there are
-pub all_low : (told : List GroupTold) (d : DeskSeen) → IsDesk d → AreKnown told (groups_in d) → All (λ a. a.0 < length d.progress.groups + 1) (group_accounts told)
+pub all_low : (told : List GroupTold) (d : DeskSeen) → IsDesk d → AreKnown told (groups_in d)
+    → All (λ a. a.0 < length d.progress.groups + 1) (group_accounts told)
 all_low told d h known =
     subst (All (λ a. a.0 < length d.progress.groups + 1)) (sym known.groups)
     (low d.groups d.progress.groups (λ k e l. let at = number_at d.progress.groups k e h.sound.numbered.groups l in omega (arith, at)))
   where
-    low : (ws : List Submitted) (gs : List Group) → All (λ g. g.number.0 < length d.progress.groups + 1) gs → All (λ a. a.0 < length d.progress.groups + 1) (map group_account (zip ws gs))
+    low : (ws : List Submitted) (gs : List Group) → All (λ g. g.number.0 < length d.progress.groups + 1) gs
+        → All (λ a. a.0 < length d.progress.groups + 1) (map group_account (zip ws gs))
     low [] gs l = All-nil (λ a. a.0 < length d.progress.groups + 1)
     low (w ∷ ws) [] l = All-nil (λ a. a.0 < length d.progress.groups + 1)
     low (w ∷ ws) (g ∷ gs) l =
-        All-cons (λ a. a.0 < length d.progress.groups + 1) (group_account (w, g)) (map group_account (zip ws gs)) (All-head (λ x. x.number.0 < length d.progress.groups + 1) g gs l)
+        All-cons (λ a. a.0 < length d.progress.groups + 1) (group_account (w, g)) (map group_account (zip ws gs))
+        (All-head (λ x. x.number.0 < length d.progress.groups + 1) g gs l)
         (low ws gs (All-tail (λ x. x.number.0 < length d.progress.groups + 1) g gs l))
 
 -- ---- a request by its number
@@ -184,7 +192,8 @@ in_group document (x ∷ ms) n m e = by (is_request n x.0) e (in_group document 
   where
     by : (b : Bool) → cond b (Some x) (find (λ y. is_request n y.0) ms) ≡ Some m
         → (find (λ y. is_request n y.0) ms ≡ Some m → account_at (map (member_account document) ms) n.0 ≡ Some (key_of document m.1))
-        → option_map (λ (a : ℕ × Key). a.1) (cond b (Some (member_account document x)) (find (λ a. a.0 == n.0) (map (member_account document) ms))) ≡ Some (key_of document m.1)
+        → option_map (λ (a : ℕ × Key). a.1) (cond b (Some (member_account document x)) (find (λ a. a.0 == n.0) (map (member_account document) ms)))
+        ≡ Some (key_of document m.1)
     by true f rest = let same : x ≡ m = cc in ap (λ (y : Request × Wanted). Some (key_of document y.1)) same
     by false f rest = rest f
 
@@ -194,10 +203,12 @@ not_in document [] vs n others e = refl
 not_in document (q ∷ qs) [] n others e = refl
 not_in document (q ∷ qs) (v ∷ vs) n others e =
     let parts = or_parts (is_request n q) (list_any (is_request n) qs) e in
-    ap (λ (b : Bool). option_map (λ (a : ℕ × Key). a.1) (cond b (Some (member_account document (q, v))) (find (λ a. a.0 == n.0) (map (member_account document) (zip qs vs) ++ others)))) parts.0
+    ap (λ (b : Bool). option_map (λ (a : ℕ × Key). a.1)
+    (cond b (Some (member_account document (q, v))) (find (λ a. a.0 == n.0) (map (member_account document) (zip qs vs) ++ others)))) parts.0
     ∙ not_in document qs vs n others parts.1
 
-member_found : (ps : List (Submitted × Group)) (n : RequestNo) (w : Submitted) (m : Request × Wanted) → option_map_or (member_of n) (find (λ p. has_request n p.1) ps) None ≡ Some (w, m)
+member_found : (ps : List (Submitted × Group)) (n : RequestNo) (w : Submitted) (m : Request × Wanted)
+    → option_map_or (member_of n) (find (λ p. has_request n p.1) ps) None ≡ Some (w, m)
     → account_at (flat_map member_accounts ps) n.0 ≡ Some (key_of w.document m.1)
 member_found [] n w m e = cc
 member_found (p ∷ ps) n w m e = by (has_request n p.1) refl e (member_found ps n w m)
@@ -211,16 +222,19 @@ member_found (p ∷ ps) n w m e = by (has_request n p.1) refl e (member_found ps
         let same_too : x ≡ m = ap (λ (o : Option (Submitted × (Request × Wanted))). option_map_or (λ y. y.1) o m) f in
         let key : Some (key_of p.0.document x.1) ≡ Some (key_of w.document m.1) =
         ap (λ (y : Submitted). Some (key_of y.document x.1)) same ∙ ap (λ (y : Request × Wanted). Some (key_of w.document y.1)) same_too in
-        in_front (member_accounts p) (flat_map member_accounts ps) n.0 (key_of w.document m.1) (in_group p.0.document (zip p.1.requests p.0.requests) n x is ∙ key)
+        in_front (member_accounts p) (flat_map member_accounts ps) n.0 (key_of w.document m.1)
+        (in_group p.0.document (zip p.1.requests p.0.requests) n x is ∙ key)
 
     by : (b : Bool) → has_request n p.1 ≡ b → option_map_or (member_of n) (cond b (Some p) (find (λ x. has_request n x.1) ps)) None ≡ Some (w, m)
-        → (option_map_or (member_of n) (find (λ x. has_request n x.1) ps) None ≡ Some (w, m) → account_at (flat_map member_accounts ps) n.0 ≡ Some (key_of w.document m.1))
+        → (option_map_or (member_of n) (find (λ x. has_request n x.1) ps) None ≡ Some (w, m)
+        → account_at (flat_map member_accounts ps) n.0 ≡ Some (key_of w.document m.1))
         → account_at (flat_map member_accounts (p ∷ ps)) n.0 ≡ Some (key_of w.document m.1)
     by true is f rest = first (find (λ x. is_request n x.0) (zip p.1.requests p.0.requests)) refl f
     by false is f rest = not_in p.0.document p.1.requests p.0.requests n (flat_map member_accounts ps) is ∙ rest f
 
 -- a request that is there has the account that is told, whatever is told later
-pub request_found : (told later : List GroupTold) (d : DeskSeen) (n : RequestNo) (w : Submitted) (m : Request × Wanted) → AreKnown told (groups_in d) → request_with d n ≡ Some (w, m)
+pub request_found : (told later : List GroupTold) (d : DeskSeen) (n : RequestNo) (w : Submitted) (m : Request × Wanted) → AreKnown told (groups_in d)
+    → request_with d n ≡ Some (w, m)
     → account_at (request_accounts (told ++ later)) n.0 ≡ Some (key_of w.document m.1)
 request_found told later d n w m known e =
     ap (λ (xs : List (ℕ × Key)). account_at xs n.0) (flat_map-append accounts_in told later)

@@ -1,5 +1,6 @@
 -- The accounts of a ledger, as a list.
-use Rattle.std.proofs.Common.{◌≡◌, ◌∙◌, ap, sym, subst, refl, ℕ, ◌+◌, ◌<◌, Bool, true, false, ◌&&◌, ◌||◌, cond, List, [], ◌∷◌, length, get_or, map, filter, fold, arith, inl, inr, Option, Some, None}
+use Rattle.std.proofs.Common.{◌≡◌, ◌∙◌, ap, sym, subst, refl, ℕ, ◌+◌, ◌<◌, Bool, true, false, ◌&&◌, ◌||◌, cond, List, [], ◌∷◌, length, get_or, map}
+use Rattle.std.proofs.Common.{filter, fold, arith, inl, inr, Option, Some, None}
 use Rattle.std.specs.Prelude.{IsSome, if◌then◌else◌}
 use Rattle.std.specs.List.{Contains}
 use Rattle.std.specs.BTreeSet.{insert_key}
@@ -39,7 +40,8 @@ granted_is [] key = refl
 granted_is (e ∷ es) key = by (is_kind Grant e.kind) (granted_is es key)
   where
     by : (b : Bool) → is_on key (grants_in es) ≡ has_grant es key
-        → is_on key (map as_hold (cond b (e ∷ filter (λ x. is_kind Grant x.kind) es) (filter (λ x. is_kind Grant x.kind) es))) ≡ ((b && is_key e.key key) || has_grant es key)
+        → is_on key (map as_hold (cond b (e ∷ filter (λ x. is_kind Grant x.kind) es) (filter (λ x. is_kind Grant x.kind) es)))
+        ≡ ((b && is_key e.key key) || has_grant es key)
     by true rest = ap (λ (b : Bool). is_key e.key key || b) rest
     by false rest = rest
 
@@ -53,7 +55,8 @@ account_granted entries key c = elim (from_on [] (grants_in entries) key (subst 
 ]
 
 granted_account : (entries : List Entry) (key : Key) → has_grant entries key ≡ true → Contains (accounts_of entries) key
-granted_account entries key e = subst (λ (ks : List Key). Contains ks key) (sym (accounts_are entries)) (on_from [] (grants_in entries) key (granted_is entries key ∙ e))
+granted_account entries key e =
+    subst (λ (ks : List Key). Contains ks key) (sym (accounts_are entries)) (on_from [] (grants_in entries) key (granted_is entries key ∙ e))
 
 -- ---- what is shown of them
 

@@ -14,7 +14,8 @@ pub in_front : (xs ys : List (ℕ × Key)) (n : ℕ) (k : Key) → account_at xs
 in_front [] ys n k e = cc
 in_front (x ∷ xs) ys n k e = by (x.0 == n) e (in_front xs ys n k)
   where
-    by : (b : Bool) → option_map (λ (a : ℕ × Key). a.1) (cond b (Some x) (find (λ a. a.0 == n) xs)) ≡ Some k → (account_at xs n ≡ Some k → account_at (xs ++ ys) n ≡ Some k)
+    by : (b : Bool) → option_map (λ (a : ℕ × Key). a.1) (cond b (Some x) (find (λ a. a.0 == n) xs)) ≡ Some k
+        → (account_at xs n ≡ Some k → account_at (xs ++ ys) n ≡ Some k)
         → option_map (λ (a : ℕ × Key). a.1) (cond b (Some x) (find (λ a. a.0 == n) (xs ++ ys))) ≡ Some k
     by true f rest = f
     by false f rest = rest f

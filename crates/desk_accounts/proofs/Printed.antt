@@ -36,11 +36,13 @@ use Rattle.desk_accounts.proofs.Shows.{Shows, step_shows}
 abbrev AreListed : StateSeen → List AccountBalance → Type 0
 AreListed s shown = (d : DeskSeen) × (s.desk ≡ Some d) × (shown ≡ map (account_balance d.books) (accounts_of d.books.entries))
 
-line_lists : (s : StateSeen) (read : Result Command CommandFault) (answer : Reply) (shown : List AccountBalance) → IsLineReply s read answer → answer ≡ reply.Balances shown → AreListed s shown
+line_lists : (s : StateSeen) (read : Result Command CommandFault) (answer : Reply) (shown : List AccountBalance) → IsLineReply s read answer
+    → answer ≡ reply.Balances shown → AreListed s shown
 line_lists s (Err fault) answer shown r e = let bad : reply.Refused r.0 ≡ reply.Balances shown = sym r.2 ∙ e in absurd (cc)
 line_lists s (Ok c) answer shown r e = subst (Shows s.desk c r.0.state) (r.2 ∙ e) (step_shows r.1.0 s s.desk c r.0 r.1.2)
 
-entry_lists : (scripts : List (List ScriptLine)) (before : List EventEntry) (e : EventEntry) (what : What) (shown : List AccountBalance) → IsReply scripts before e what
+entry_lists : (scripts : List (List ScriptLine)) (before : List EventEntry) (e : EventEntry) (what : What) (shown : List AccountBalance)
+    → IsReply scripts before e what
     → e.reply ≡ reply.Balances shown
     → AreListed (replay scripts before) shown
 entry_lists scripts before e Line shown r is = line_lists (replay scripts before) (read_at scripts e) e.reply shown r.1 is
@@ -54,7 +56,8 @@ books_are s d is = ap (λ (o : Option DeskSeen). option_map_or (λ x. x.books) o
 held_is : (s : StateSeen) (d : DeskSeen) → s.desk ≡ Some d → held_of d.books.holds ≡ held_at s
 held_is s d is = ap {B = Key → ℕ} (λ (o : Option DeskSeen) (key : Key). option_map_or (λ (x : DeskSeen). held_of x.books.holds key) o 0) (sym is)
 
-pub balances_shown : (scripts : List (List ScriptLine)) (history before after : List EventEntry) (e : EventEntry) (shown : List AccountBalance) → IsLegal scripts history
+pub balances_shown : (scripts : List (List ScriptLine)) (history before after : List EventEntry) (e : EventEntry) (shown : List AccountBalance)
+    → IsLegal scripts history
     → history ≡ before ++ e ∷ after → e.reply ≡ reply.Balances shown → IsShown (balance_after scripts before) (held_at (replay scripts before)) shown
 balances_shown scripts history before after e shown h is printed =
     let told = begun_told scripts history before (e ∷ after) h is in
@@ -91,7 +94,8 @@ line_grants s (Ok c) answer balance r e =
       is = shows.6;
     }
 
-entry_grants : (scripts : List (List ScriptLine)) (before : List EventEntry) (e : EventEntry) (what : What) (balance : ℕ) → IsReply scripts before e what → e.reply ≡ reply.Granted balance
+entry_grants : (scripts : List (List ScriptLine)) (before : List EventEntry) (e : EventEntry) (what : What) (balance : ℕ)
+    → IsReply scripts before e what → e.reply ≡ reply.Granted balance
     → IsMade (replay scripts before) (after_what (replay scripts before) (read_at scripts e) what e.reply) (read_at scripts e) balance
 entry_grants scripts before e Line balance r is = line_grants (replay scripts before) (read_at scripts e) e.reply balance r.1 is
 entry_grants scripts before e Take balance r is = let bad : reply.Taken ≡ reply.Granted balance = sym r.1 ∙ is in absurd (cc)
@@ -104,12 +108,15 @@ grants_shown scripts history before after e balance h is printed =
     let whole : history ≡ (before ++ e ∷ []) ++ after = is ∙ sym (append_assoc before (e ∷ []) after) in
     let told = begun_told scripts history (before ++ e ∷ []) after h whole in
     let entry : IsEntry scripts before e = h.each before after e is in
-    let m : IsMade (replay scripts before) (after_entry scripts (replay scripts before) e) (read_at scripts e) balance = entry_grants scripts before e e.what balance entry.reply printed in
-    let then : (replay scripts (before ++ e ∷ [])).desk ≡ Some (on_grant m.desk m.key m.seconds).desk = ap (λ (s : StateSeen). s.desk) (fold_push (after_entry scripts) start before e) ∙ m.then in
+    let m : IsMade (replay scripts before) (after_entry scripts (replay scripts before) e) (read_at scripts e) balance =
+    entry_grants scripts before e e.what balance entry.reply printed in
+    let then : (replay scripts (before ++ e ∷ [])).desk ≡ Some (on_grant m.desk m.key m.seconds).desk =
+    ap (λ (s : StateSeen). s.desk) (fold_push (after_entry scripts) start before e) ∙ m.then in
     let kept : option_and_then (λ d. balance_in d m.key) (replay scripts (before ++ e ∷ [])).desk ≡ balance_in (on_grant m.desk m.key m.seconds).desk m.key =
     ap (option_and_then (λ d. balance_in d m.key)) then in
     let some : balance_in (on_grant m.desk m.key m.seconds).desk m.key ≡ Some (balance_of (on_grant m.desk m.key m.seconds).desk.books.entries m.key) =
-    ap (λ (b : Bool). let o : Option ℕ = cond b (Some (balance_of (on_grant m.desk m.key m.seconds).desk.books.entries m.key)) None in o) (has_grant-last m.desk.books.entries m.key m.seconds) in (
+    ap (λ (b : Bool). let o : Option ℕ = cond b (Some (balance_of (on_grant m.desk m.key m.seconds).desk.books.entries m.key)) None in
+    o) (has_grant-last m.desk.books.entries m.key m.seconds) in (
       record { key = m.key; seconds = m.seconds },
       ap (λ (a : Reply). let o : Option GrantTold = cond (is_granted a) (grant_in (read_at scripts e)) None in o) printed ∙ ap grant_in m.says,
       sym (told_balance scripts (before ++ e ∷ []) m.key told) ∙ kept ∙ some ∙ ap (λ (n : ℕ). let o : Option ℕ = Some n in o) (sym m.is),

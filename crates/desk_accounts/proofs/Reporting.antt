@@ -1,5 +1,6 @@
 -- `report` adds to the ledger what it tells.
-use Rattle.std.proofs.Common.{◌≡◌, ◌∙◌, ap, sym, subst, refl, ℕ, ◌+◌, ◌≤◌, nat_lt, nat_le, Bool, true, false, cond, not, List, [], ◌∷◌, ◌++◌, fold, arith, Option, Some, None}
+use Rattle.std.proofs.Common.{◌≡◌, ◌∙◌, ap, sym, subst, refl, ℕ, ◌+◌, ◌≤◌, nat_lt, nat_le, Bool, true, false, cond, not, List, [], ◌∷◌, ◌++◌, fold}
+use Rattle.std.proofs.Common.{arith, Option, Some, None}
 use Rattle.std.specs.Prelude.{if◌then◌else◌}
 use Rattle.std.specs.List.{position}
 use Rattle.std.specs.Option.{option_map_or}
@@ -61,7 +62,8 @@ is_charged d number used w v g h there can =
     let after : Progress = reported number true d.progress in
     let plain : Books = (with_progress after d).books in
     let first : (with_progress after (charged number used w v d)).books ≡ with_entry entry plain =
-    ap (λ (o : Option Group). fold after_group (option_map_or (λ x. with_entry (request_entry account used x.number number) d.books) o d.books) (groups_along d after)) there
+    ap (λ (o : Option Group). fold after_group (option_map_or (λ x. with_entry (request_entry account used x.number number) d.books) o d.books)
+    (groups_along d after)) there
     ∙ entry_first entry d.books (groups_along d after) can.none in
     let same : plain.entries ≡ d.books.entries = entries_stay d.books (groups_along d after) can.none in
     let adds : Adds d.books.entries (with_entry entry plain).entries (charge_on account used) = record {
@@ -83,7 +85,8 @@ is_charged d number used w v g h there can =
 
 -- a report that completes: the request's account is charged, and nothing is given back
 completed_at : (known : List GroupTold) (version : ℕ) (d : DeskSeen) (number : RequestNo) (percent used : ℕ) (w : Submitted) (m : Request × Wanted) (g : Group)
-    → IsDesk d → AreKnown known (groups_in d) → request_with d number ≡ Some (w, m) → group_with d.progress.groups number ≡ Some g → is_placed d.progress.running number ≡ true
+    → IsDesk d → AreKnown known (groups_in d) → request_with d number ≡ Some (w, m) → group_with d.progress.groups number ≡ Some g
+    → is_placed d.progress.running number ≡ true
     → CanCharge d number used (key_of w.document m.1) → IsDesk (on_completed d number used w m.1).desk
     → LineGoes known version d (command.Report number percent used) (on_completed d number used w m.1).reply (on_completed d number used w m.1).desk
 completed_at known version d number percent used w m g h k is there placed can desk =
@@ -93,16 +96,19 @@ completed_at known version d number percent used w m g h k is there placed can d
     let books : IsCharged d number used account e.books = is_charged d number used w m.1 g h there can in
     record {
       desk = desk;
-      groups = stay_known known (groups_in e) t refl (known_along known d.groups d.progress.groups (reported number true d.progress).groups (report_goes_on d.progress number true).later k);
+      groups = stay_known known (groups_in e) t refl
+          (known_along known d.groups d.progress.groups (reported number true d.progress).groups (report_goes_on d.progress number true).later k);
       covers = books.covers;
       adds = λ more.
           adds_as d.books.entries e.books.entries (charge_on account used) (tally_by (known ++ more) t) books.adds
           (λ key. ap (λ (o : Option Key). only_charged (seconds_on key o used)) (sym (request_found known more d number w m k is)));
-      back = none_back (groups_in d) (groups_in e) (λ n c. still_closed d.groups d.progress.groups e.progress.groups n (report_goes_on d.progress number true).later c);
+      back = none_back (groups_in d) (groups_in e)
+          (λ n c. still_closed d.groups d.progress.groups e.progress.groups n (report_goes_on d.progress number true).later c);
       done = report_completes d.progress number h.sound placed;
     }
 
-completed_line : (known : List GroupTold) (version : ℕ) (d : DeskSeen) (number : RequestNo) (percent used : ℕ) (w : Submitted) (m : Request × Wanted) → IsDesk d → AreKnown known (groups_in d)
+completed_line : (known : List GroupTold) (version : ℕ) (d : DeskSeen) (number : RequestNo) (percent used : ℕ) (w : Submitted) (m : Request × Wanted)
+    → IsDesk d → AreKnown known (groups_in d)
     → request_with d number ≡ Some (w, m) → is_placed d.progress.running number ≡ true → used ≤ m.0.seconds → IsDesk (on_completed d number used w m.1).desk
     → LineGoes known version d (command.Report number percent used) (on_completed d number used w m.1).reply (on_completed d number used w m.1).desk
 completed_line known version d number percent used w m h k is placed few desk = by_group (group_with d.progress.groups number) refl
@@ -135,17 +141,21 @@ pub report_line : (known : List GroupTold) (version : ℕ) (d : DeskSeen) (numbe
     → LineGoes known version d (command.Report number percent used) (on_report d number percent used).reply (on_report d number percent used).desk
 report_line known version d number percent used h k none = found (request_with d number) refl none (report_keeps d number percent used h none).desk
   where
-    by : (p : Submitted × (Request × Wanted)) (a b c : Bool) → request_with d number ≡ Some p → is_placed d.progress.running number ≡ a → nat_lt p.1.0.seconds used ≡ b
+    by : (p : Submitted × (Request × Wanted)) (a b c : Bool) → request_with d number ≡ Some p → is_placed d.progress.running number ≡ a
+        → nat_lt p.1.0.seconds used ≡ b
         → (by_tests d number used p a b c).refusal ≡ None → IsDesk (by_tests d number used p a b c).desk
         → LineGoes known version d (command.Report number percent used) (by_tests d number used p a b c).reply (by_tests d number used p a b c).desk
     by p false b c is placed short f desk = absurd (cc)
     by p true true c is placed short f desk = absurd (cc)
-    by p true false true is placed short f desk = completed_line known version d number percent used p.0 p.1 h k is placed (ltb-false p.1.0.seconds used short) desk
+    by p true false true is placed short f desk =
+        completed_line known version d number percent used p.0 p.1 h k is placed (ltb-false p.1.0.seconds used short) desk
     by p true false false is placed short f desk =
-        progress_line known version d (reported number false d.progress) (command.Report number percent used) (on_failed d number).reply h desk (report_goes_on d.progress number false).later k refl
+        progress_line known version d (reported number false d.progress) (command.Report number percent used) (on_failed d number).reply h desk
+        (report_goes_on d.progress number false).later k refl
         (λ groups key. refl) refl refl
 
-    found : (o : Option (Submitted × (Request × Wanted))) → request_with d number ≡ o → (on_reported d number percent used o).refusal ≡ None → IsDesk (on_reported d number percent used o).desk
+    found : (o : Option (Submitted × (Request × Wanted))) → request_with d number ≡ o → (on_reported d number percent used o).refusal ≡ None
+        → IsDesk (on_reported d number percent used o).desk
         → LineGoes known version d (command.Report number percent used) (on_reported d number percent used o).reply (on_reported d number percent used o).desk
     found None is f desk = absurd (cc)
     found (Some p) is f desk = by p (is_placed d.progress.running number) (nat_lt p.1.0.seconds used) (nat_le p.1.1.threshold percent) is refl refl f desk

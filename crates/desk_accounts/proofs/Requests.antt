@@ -1,5 +1,6 @@
 -- A group that is submitted: its requests have the accounts of its document's, and its charge is told.
-use Rattle.std.proofs.Common.{◌≡◌, ◌∙◌, ap, sym, subst, refl, ℕ, suc, ◌+◌, ◌≤◌, nat_lt, Bool, true, false, cond, List, [], ◌∷◌, ◌++◌, length, map, Option, Some, None, Result, Ok, Err, arith}
+use Rattle.std.proofs.Common.{◌≡◌, ◌∙◌, ap, sym, subst, refl, ℕ, suc, ◌+◌, ◌≤◌, nat_lt, Bool, true, false, cond, List, [], ◌∷◌, ◌++◌, length, map}
+use Rattle.std.proofs.Common.{Option, Some, None, Result, Ok, Err, arith}
 use Rattle.std.specs.List.{zip, enumerate_from, list_any}
 use Rattle.std.specs.Option.{option_to_list}
 use Rattle.std.proofs.lemmas.Bool.{eqb-true, ltb-false}
@@ -25,7 +26,8 @@ use Rattle.desk_runs.specs.declared.group.Group.{Group}
 use Rattle.desk_events.specs.declared.refusal.Refusal.{Refusal}
 use Rattle.desk_events.specs.declared.refusal.Refusal.TheVariants.{OutsideSemester, WindowPast, NoTelescope}
 use Rattle.desk_core.specs.declared.desk.Submitted.{Submitted}
-use Rattle.desk_core.specs.Asking.{follows, turned_into, seconds_for, is_single, windows_for, is_outside, is_past, is_fitted, made_with, tested, made_from, gathered, made_of, MadeSeen}
+use Rattle.desk_core.specs.Asking.{follows, turned_into, seconds_for, is_single, windows_for, is_outside, is_past, is_fitted, made_with, tested}
+use Rattle.desk_core.specs.Asking.{made_from, gathered, made_of, MadeSeen}
 use Rattle.desk_core.specs.Desk.{DeskSeen}
 use Rattle.desk_core.specs.Kept.{IsDesk}
 use Rattle.desk_core.specs.Making.{AreMade}
@@ -58,12 +60,15 @@ asked_with : (q : RequestDoc) (seconds : ℕ) (lists : List (List Span)) → ask
 asked_with q seconds [] = refl
 asked_with q seconds (l ∷ lists) = ap (λ (qs : List RequestDoc). q ∷ qs) (asked_with q seconds lists)
 
-tested_is : (d : DeskSeen) (index : ℕ) (q : RequestDoc) (seconds : ℕ) (lists : List (List Span)) (made : List MadeSeen) → tested d index q seconds lists ≡ Ok made → made_with q seconds lists ≡ made
-tested_is d index q seconds lists made e = by (is_outside d.opening.semester lists) (list_any (is_past d.progress.moment) lists) (is_fitted d.network.registry q) e
+tested_is : (d : DeskSeen) (index : ℕ) (q : RequestDoc) (seconds : ℕ) (lists : List (List Span)) (made : List MadeSeen)
+    → tested d index q seconds lists ≡ Ok made → made_with q seconds lists ≡ made
+tested_is d index q seconds lists made e = by (is_outside d.opening.semester lists) (list_any (is_past d.progress.moment) lists)
+    (is_fitted d.network.registry q) e
   where
     by : (a b c : Bool)
         → (let r : Result (List MadeSeen) Refusal =
-        cond a (Err (OutsideSemester index)) (cond b (Err (WindowPast index)) (cond c (Ok (made_with q seconds lists)) (Err (NoTelescope index)))) in r) ≡ Ok made
+        cond a (Err (OutsideSemester index)) (cond b (Err (WindowPast index)) (cond c (Ok (made_with q seconds lists)) (Err (NoTelescope index)))) in
+        r) ≡ Ok made
         → made_with q seconds lists ≡ made
     by true b c f = cc
     by false true c f = cc
@@ -71,7 +76,8 @@ tested_is d index q seconds lists made e = by (is_outside d.opening.semester lis
     by false false false f = cc
 
 -- only a SINGLE has more than one list of windows
-one_list : (op : Op) (index seconds : ℕ) (when : When) (lists : List (List Span)) → is_single op ≡ false → windows_for op index seconds when ≡ Ok lists → length lists ≡ 1
+one_list : (op : Op) (index seconds : ℕ) (when : When) (lists : List (List Span)) → is_single op ≡ false
+    → windows_for op index seconds when ≡ Ok lists → length lists ≡ 1
 one_list op index seconds (Windows ws) lists other e = let same : ws ∷ [] ≡ lists = cc in ap length (sym same)
 one_list op index seconds (Cadence c) lists other e = let bad = rw other at e in absurd (cc)
 
@@ -84,7 +90,8 @@ pub record AreFrom (op : Op) (q : RequestDoc) (made : List MadeSeen) : Type 0 wh
 are_from : (d : DeskSeen) (op : Op) (index : ℕ) (q : RequestDoc) (made : List MadeSeen) → made_from d op (index, q) ≡ Ok made → AreFrom op q made
 are_from d op index q made e = by (seconds_for d.network.registry index q) e
   where
-    listed : (seconds : ℕ) (r : Result (List (List Span)) Refusal) → windows_for op index seconds q.when ≡ r → follows r (tested d index q seconds) ≡ Ok made → AreFrom op q made
+    listed : (seconds : ℕ) (r : Result (List (List Span)) Refusal) → windows_for op index seconds q.when ≡ r
+        → follows r (tested d index q seconds) ≡ Ok made → AreFrom op q made
     listed seconds (Err refusal) t f = cc
     listed seconds (Ok lists) t f = record {
       lists = lists;
@@ -102,13 +109,16 @@ only_one q (x ∷ []) n = refl
 only_one q (x ∷ y ∷ xs) n = absurd (omega arith)
 
 -- each request of a group that isn't a SINGLE is made from its part of the document
-one_each : (d : DeskSeen) (op : Op) (index : ℕ) (qs : List RequestDoc) (made : List MadeSeen) → is_single op ≡ false → gathered (map (made_from d op) (enumerate_from index qs)) ≡ Ok made
+one_each : (d : DeskSeen) (op : Op) (index : ℕ) (qs : List RequestDoc) (made : List MadeSeen) → is_single op ≡ false
+    → gathered (map (made_from d op) (enumerate_from index qs)) ≡ Ok made
     → asked_of made ≡ qs
 one_each d op index [] made other e = let same : [] ≡ made = cc in ap asked_of (sym same)
 one_each d op index (q ∷ qs) made other e = by (made_from d op (index, q)) refl e (λ rest. one_each d op (index + 1) qs rest other)
   where
-    then : (first : List MadeSeen) (r : Result (List MadeSeen) Refusal) → gathered (map (made_from d op) (enumerate_from (index + 1) qs)) ≡ r → made_from d op (index, q) ≡ Ok first
-        → turned_into r (λ rest. first ++ rest) ≡ Ok made → ((rest : List MadeSeen) → gathered (map (made_from d op) (enumerate_from (index + 1) qs)) ≡ Ok rest → asked_of rest ≡ qs)
+    then : (first : List MadeSeen) (r : Result (List MadeSeen) Refusal) → gathered (map (made_from d op) (enumerate_from (index + 1) qs)) ≡ r
+        → made_from d op (index, q) ≡ Ok first
+        → turned_into r (λ rest. first ++ rest) ≡ Ok made
+        → ((rest : List MadeSeen) → gathered (map (made_from d op) (enumerate_from (index + 1) qs)) ≡ Ok rest → asked_of rest ≡ qs)
         → asked_of made ≡ q ∷ qs
     then first (Err refusal) t is f others = cc
     then first (Ok rest) t is f others =
@@ -136,7 +146,8 @@ asked_list : (d : DeskSeen) (op : Op) (qs : List RequestDoc) (made : List MadeSe
 asked_list d op [] made numbers shape e n = let same : [] ≡ made = cc in ap asked_of same
 asked_list d op (q ∷ []) made numbers shape e n = by (made_from d op (0, q)) refl e
   where
-    by : (r : Result (List MadeSeen) Refusal) → made_from d op (0, q) ≡ r → follows r (λ first. turned_into (gathered []) (λ rest. first ++ rest)) ≡ Ok made → same_for q numbers ≡ asked_of made
+    by : (r : Result (List MadeSeen) Refusal) → made_from d op (0, q) ≡ r
+        → follows r (λ first. turned_into (gathered []) (λ rest. first ++ rest)) ≡ Ok made → same_for q numbers ≡ asked_of made
     by (Err refusal) is f = cc
     by (Ok first) is f =
         let same : first ++ [] ≡ made = cc in
@@ -149,7 +160,8 @@ asked_list d op (q ∷ []) made numbers shape e n = by (made_from d op (0, q)) r
 asked_list d op (q ∷ p ∷ qs) made numbers shape e n = sym (one_each d op 0 (q ∷ p ∷ qs) made (not_single op (length (q ∷ p ∷ qs)) (omega arith) shape) e)
 
 -- the requests that are made are from the parts that their numbers stand for
-pub asked_is : (d : DeskSeen) (document : GroupDoc) (made : List MadeSeen) (numbers : List RequestNo) → IsGroup document → made_of d document ≡ Ok made → length numbers ≡ length made
+pub asked_is : (d : DeskSeen) (document : GroupDoc) (made : List MadeSeen) (numbers : List RequestNo) → IsGroup document
+    → made_of d document ≡ Ok made → length numbers ≡ length made
     → asked_for document.requests numbers ≡ asked_of made
 asked_is d document made numbers g e n = asked_list d document.op document.requests made numbers g.shape e n
 
@@ -188,7 +200,8 @@ zip_more (a ∷ xs) [] x y e = absurd (omega arith)
 zip_more {A} {B} (a ∷ xs) (b ∷ ys) x y e = ap (λ (l : List (A × B)). (a, b) ∷ l) (zip_more xs ys x y (omega arith))
 
 -- the groups that are known then
-pub submission_known : (told : List GroupTold) (d : DeskSeen) (document : GroupDoc) (made : List MadeSeen) → IsDesk d → IsGroup document → made_of d document ≡ Ok made
+pub submission_known : (told : List GroupTold) (d : DeskSeen) (document : GroupDoc) (made : List MadeSeen) → IsDesk d → IsGroup document
+    → made_of d document ≡ Ok made
     → AreKnown told (groups_in d) → AreKnown (told ++ told_group d document made ∷ []) (groups_in (with_submission d document made))
 submission_known told d document made h g e known =
     let w : Submitted = submitted_of d document made in
@@ -197,11 +210,13 @@ submission_known told d document made h g e known =
     (known_more told (groups_in d) (told_group d document made) (w, group) known (one_known d document made g e))
 
 -- closed groups stay so
-pub submission_stay : (d : DeskSeen) (document : GroupDoc) (made : List MadeSeen) (n : GroupNo) → IsDesk d → IsClosedIn (groups_in d) n → IsClosedIn (groups_in (with_submission d document made)) n
+pub submission_stay : (d : DeskSeen) (document : GroupDoc) (made : List MadeSeen) (n : GroupNo) → IsDesk d → IsClosedIn (groups_in d) n
+    → IsClosedIn (groups_in (with_submission d document made)) n
 submission_stay d document made n h c =
     let w : Submitted = submitted_of d document made in
     let group : Group = group_of d document made in
-    subst (λ (ps : List (Submitted × Group)). IsClosedIn ps n) (sym (zip_more d.groups d.progress.groups w group (as_submitted d h))) (closed_more (groups_in d) ((w, group) ∷ []) n c)
+    subst (λ (ps : List (Submitted × Group)). IsClosedIn ps n) (sym (zip_more d.groups d.progress.groups w group (as_submitted d h)))
+    (closed_more (groups_in d) ((w, group) ∷ []) n c)
 
 -- its ipp account is found, whatever is told later
 pub new_paid : (told later : List GroupTold) (d : DeskSeen) (document : GroupDoc) (made : List MadeSeen) → IsDesk d → AreKnown told (groups_in d)
@@ -234,7 +249,8 @@ charge_if b proposal charged = cond b (Some (record { key = ipp_key proposal; se
 abbrev pub only_charged : ℕ → Tally
 only_charged n = record { granted = 0; has = false; charged = n; back = 0 }
 
-charge_is : (accounts : List (ℕ × Key)) (n : GroupNo) (proposal : List ℕ) (c : ℕ) (key : Key) (b : Bool) → account_at accounts n.0 ≡ Some (ipp_key proposal) → nat_lt 0 c ≡ b
+charge_is : (accounts : List (ℕ × Key)) (n : GroupNo) (proposal : List ℕ) (c : ℕ) (key : Key) (b : Bool)
+    → account_at accounts n.0 ≡ Some (ipp_key proposal) → nat_lt 0 c ≡ b
     → tally_of (map (charge_entry n) (option_to_list (charge_if b proposal c))) key ≡ charge_by accounts n c key
 charge_is accounts n proposal c key true found e =
     charge_tally n (record { key = ipp_key proposal; seconds = c }) key ∙ ap (λ (o : Option Key). only_charged (seconds_on key o c)) (sym found)

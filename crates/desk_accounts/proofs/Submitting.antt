@@ -35,7 +35,8 @@ use Rattle.desk_accounts.proofs.Tallies.{Tally, plus, same_tally, Adds, adds_the
 
 -- ---- `submit`
 
-submit_made : (known : List GroupTold) (version : ℕ) (d : DeskSeen) (document : GroupDoc) (made : List MadeSeen) → IsDesk d → IsGroup document → AreKnown known (groups_in d)
+submit_made : (known : List GroupTold) (version : ℕ) (d : DeskSeen) (document : GroupDoc) (made : List MadeSeen) → IsDesk d → IsGroup document
+    → AreKnown known (groups_in d)
     → made_of d document ≡ Ok made → (on_made d document (Ok made)).refusal ≡ None
     → LineGoes known version d (command.Submit document) (on_made d document (Ok made)).reply (with_submission d document made)
 submit_made known version d document made h g k is none =
@@ -44,9 +45,11 @@ submit_made known version d document made h g k is none =
       desk = submission_keeps d document made h g m none;
       groups = submission_known known d document made h g is k;
       covers = submission_covered d document made h m none;
-      adds = λ later. submission_adds (group_accounts (known ++ told_group d document made ∷ later)) d document made m (new_paid known later d document made h k);
+      adds = λ later. submission_adds (group_accounts (known ++ told_group d document made ∷ later)) d document made m
+          (new_paid known later d document made h k);
       back = none_back (groups_in d) (groups_in (with_submission d document made)) (λ n c. submission_stay d document made n h c);
-      done = none_completed d.progress.groups (with_submission d document made).progress.groups (λ n over. added_stay (op_of document made) (asks_of made) d.progress n over);
+      done = none_completed d.progress.groups (with_submission d document made).progress.groups
+          (λ n over. added_stay (op_of document made) (asks_of made) d.progress n over);
     }
 
 pub submit_line : (known : List GroupTold) (version : ℕ) (d : DeskSeen) (document : GroupDoc) → IsDesk d → IsGroup document → AreKnown known (groups_in d)
@@ -76,7 +79,8 @@ both_are accounts refunds n c key =
     end : (x : ℕ) → x + 0 ≡ x
     end x = omega arith
 
-amend_made : (known : List GroupTold) (version : ℕ) (d : DeskSeen) (old : GroupNo) (document : GroupDoc) (made : List MadeSeen) → IsDesk d → IsGroup document → AreKnown known (groups_in d)
+amend_made : (known : List GroupTold) (version : ℕ) (d : DeskSeen) (old : GroupNo) (document : GroupDoc) (made : List MadeSeen) → IsDesk d
+    → IsGroup document → AreKnown known (groups_in d)
     → IsDesk (without_group old d) → made_of (without_group old d) document ≡ Ok made → (on_made (without_group old d) document (Ok made)).refusal ≡ None
     → LineGoes known version d (command.Amend old document) (on_freed d old document (Ok made)).reply (with_submission (without_group old d) document made)
 amend_made known version d old document made h g k keeps is none =
@@ -95,12 +99,15 @@ amend_made known version d old document made h g k keeps is none =
       groups = submission_known known freed document made keeps g is known_then;
       covers = λ covered.
           submission_covered freed document made keeps m none
-          (still_covered d.books freed.books (back_by (group_accounts (known ++ [])) refunds) (back []) (λ key. let less = held_less d after key h later in omega (arith, less)) covered);
+          (still_covered d.books freed.books (back_by (group_accounts (known ++ [])) refunds) (back [])
+          (λ key. let less = held_less d after key h later in omega (arith, less)) covered);
       adds = λ more.
           let all : List GroupTold = told_group freed document made ∷ more in
           let accounts : List (ℕ × Key) = group_accounts (known ++ all) in
-          adds_as d.books.entries (with_submission freed document made).books.entries (λ key. plus (back_by accounts refunds key) (charge_by accounts n c key)) (both accounts refunds n c)
-          (adds_then d.books.entries freed.books.entries (with_submission freed document made).books.entries (back_by accounts refunds) (charge_by accounts n c) (back all)
+          adds_as d.books.entries (with_submission freed document made).books.entries
+          (λ key. plus (back_by accounts refunds key) (charge_by accounts n c key)) (both accounts refunds n c)
+          (adds_then d.books.entries freed.books.entries (with_submission freed document made).books.entries (back_by accounts refunds)
+          (charge_by accounts n c) (back all)
           (submission_adds accounts freed document made m (new_paid known more freed document made keeps known_then)))
           (both_are accounts refunds n c);
       back =
@@ -116,14 +123,17 @@ neither : (a b : Option Refusal) → option_or a b ≡ None → (a ≡ None) × 
 neither None b e = (refl, e)
 neither (Some r) b e = absurd (cc)
 
-pub amend_line : (known : List GroupTold) (version : ℕ) (d : DeskSeen) (old : GroupNo) (document : GroupDoc) → IsDesk d → IsGroup document → AreKnown known (groups_in d)
-    → (on_amend d old document).refusal ≡ None → LineGoes known version d (command.Amend old document) (on_amend d old document).reply (on_amend d old document).desk
+pub amend_line : (known : List GroupTold) (version : ℕ) (d : DeskSeen) (old : GroupNo) (document : GroupDoc) → IsDesk d → IsGroup document
+    → AreKnown known (groups_in d)
+    → (on_amend d old document).refusal ≡ None
+    → LineGoes known version d (command.Amend old document) (on_amend d old document).reply (on_amend d old document).desk
 amend_line known version d old document h g k none =
     let freed : DeskSeen = without_group old d in
     let parts = neither (ending_refusal (begun_member d) (group_at d.progress.groups old)) (on_submit freed document).refusal none in
     by (without_keeps d old h (may_amend d old parts.0)) (made_of freed document) refl parts.1
   where
-    by : IsDesk (without_group old d) → (r : Result (List MadeSeen) Refusal) → made_of (without_group old d) document ≡ r → (on_made (without_group old d) document r).refusal ≡ None
+    by : IsDesk (without_group old d) → (r : Result (List MadeSeen) Refusal) → made_of (without_group old d) document ≡ r
+        → (on_made (without_group old d) document r).refusal ≡ None
         → LineGoes known version d (command.Amend old document) (on_freed d old document r).reply (on_freed d old document r).desk
     by keeps (Err refusal) is e = absurd (cc)
     by keeps (Ok made) is e = amend_made known version d old document made h g k keeps is e

@@ -35,7 +35,12 @@ balance_from t = if t.has then Some (t.granted + t.back - t.charged) else None
 -- of entries of a ledger
 abbrev pub tally_of : List Entry → Key → Tally
 tally_of entries key =
-    record { granted = seconds_of Grant key entries; has = has_grant entries key; charged = seconds_of Charge key entries; back = seconds_of Refund key entries }
+    record {
+      granted = seconds_of Grant key entries;
+      has = has_grant entries key;
+      charged = seconds_of Charge key entries;
+      back = seconds_of Refund key entries;
+    }
 
 -- of one entry of a history
 abbrev pub tally_by : List GroupTold → Told → Key → Tally
@@ -44,7 +49,12 @@ tally_by groups t key = record { granted = granted_by key t; has = grants_to key
 -- of the entries of a history
 abbrev pub tally_told : List GroupTold → List Told → Key → Tally
 tally_told groups entries key =
-    record { granted = sum_by (granted_by key) entries; has = has_grant_told entries key; charged = sum_by (charged_by groups key) entries; back = sum_by (refunded_by groups key) entries }
+    record {
+      granted = sum_by (granted_by key) entries;
+      has = has_grant_told entries key;
+      charged = sum_by (charged_by groups key) entries;
+      back = sum_by (refunded_by groups key) entries;
+    }
 
 -- ---- sums
 
@@ -79,7 +89,8 @@ tally-append xs ys key =
     (sum_by-append (λ (e : Entry). if is_kind Charge e.kind && is_key e.key key then e.seconds else 0) xs ys)
     (sum_by-append (λ (e : Entry). if is_kind Refund e.kind && is_key e.key key then e.seconds else 0) xs ys)
 
-pub told-push : (groups : List GroupTold) (entries : List Told) (t : Told) (key : Key) → tally_told groups (entries ++ t ∷ []) key ≡ plus (tally_told groups entries key) (tally_by groups t key)
+pub told-push : (groups : List GroupTold) (entries : List Told) (t : Told) (key : Key)
+    → tally_told groups (entries ++ t ∷ []) key ≡ plus (tally_told groups entries key) (tally_by groups t key)
 told-push groups entries t key =
     same_tally (tally_told groups (entries ++ t ∷ []) key) (plus (tally_told groups entries key) (tally_by groups t key))
     (sum_by_push (granted_by key) entries t)
@@ -89,12 +100,14 @@ told-push groups entries t key =
 
 -- ---- single entries of a ledger
 
-pub grant_tally : (k : Key) (s : ℕ) (key : Key) → tally_of (grant_entry k s ∷ []) key ≡ record { granted = if is_key k key then s else 0; has = is_key k key; charged = 0; back = 0 }
+pub grant_tally : (k : Key) (s : ℕ) (key : Key)
+    → tally_of (grant_entry k s ∷ []) key ≡ record { granted = if is_key k key then s else 0; has = is_key k key; charged = 0; back = 0 }
 grant_tally k s key =
     same_tally (tally_of (grant_entry k s ∷ []) key) record { granted = if is_key k key then s else 0; has = is_key k key; charged = 0; back = 0 }
     (plain (if is_key k key then s else 0)) (or_false (is_key k key)) refl refl
 
-pub charge_tally : (n : GroupNo) (h : Hold) (key : Key) → tally_of (charge_entry n h ∷ []) key ≡ record { granted = 0; has = false; charged = if is_key h.key key then h.seconds else 0; back = 0 }
+pub charge_tally : (n : GroupNo) (h : Hold) (key : Key)
+    → tally_of (charge_entry n h ∷ []) key ≡ record { granted = 0; has = false; charged = if is_key h.key key then h.seconds else 0; back = 0 }
 charge_tally n h key =
     same_tally (tally_of (charge_entry n h ∷ []) key) record { granted = 0; has = false; charged = if is_key h.key key then h.seconds else 0; back = 0 }
     refl refl (plain (if is_key h.key key then h.seconds else 0)) refl
@@ -105,7 +118,8 @@ request_tally k s n q key =
     same_tally (tally_of (request_entry k s n q ∷ []) key) record { granted = 0; has = false; charged = if is_key k key then s else 0; back = 0 }
     refl refl (plain (if is_key k key then s else 0)) refl
 
-pub refund_tally : (n : GroupNo) (h : Hold) (key : Key) → tally_of (refund_entry n h ∷ []) key ≡ record { granted = 0; has = false; charged = 0; back = if is_key h.key key then h.seconds else 0 }
+pub refund_tally : (n : GroupNo) (h : Hold) (key : Key)
+    → tally_of (refund_entry n h ∷ []) key ≡ record { granted = 0; has = false; charged = 0; back = if is_key h.key key then h.seconds else 0 }
 refund_tally n h key =
     same_tally (tally_of (refund_entry n h ∷ []) key) record { granted = 0; has = false; charged = 0; back = if is_key h.key key then h.seconds else 0 }
     refl refl refl (plain (if is_key h.key key then h.seconds else 0))

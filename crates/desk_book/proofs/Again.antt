@@ -1,5 +1,6 @@
 -- A session that is made again leaves the state that there was.
-use Rattle.std.proofs.Common.{◌≡◌, ℕ, ◌⊎◌, inl, inr, Bool, true, false, cond, ◌==◌, List, [], ◌∷◌, ◌++◌, refl, sym, ◌∙◌, ap, subst, append_assoc, append-nil, Option, Some, None, IsSome, Result, Ok}
+use Rattle.std.proofs.Common.{◌≡◌, ℕ, ◌⊎◌, inl, inr, Bool, true, false, cond, ◌==◌, List, [], ◌∷◌, ◌++◌, refl, sym, ◌∙◌, ap, subst, append_assoc}
+use Rattle.std.proofs.Common.{append-nil, Option, Some, None, IsSome, Result, Ok}
 use Rattle.std.specs.List.{cons_option, filter_map}
 use Rattle.std.proofs.lemmas.Bool.{eq-eqb}
 use Rattle.std.proofs.lemmas.List.Elements.{filter_map-append}
@@ -22,7 +23,8 @@ use Rattle.desk_core.specs.Desk.{DeskSeen, StateSeen, decided, accepted}
 use Rattle.desk_core.specs.DeskSnapshot.{snapshot_of}
 use Rattle.desk_core.specs.Publishing.{with_publication, rejection}
 use Rattle.desk_core.specs.Step.{step_by, IsAsked, IsSnapshotOf}
-use Rattle.desk_core.specs.History.{left_by, with_published, read_at, replay, after_line, after_what, after_entry, after_publish, IsPlanning, IsLineReply, IsPublication, IsReply, IsEntry, EachAfter}
+use Rattle.desk_core.specs.History.{left_by, with_published, read_at, replay, after_line, after_what, after_entry, after_publish, IsPlanning}
+use Rattle.desk_core.specs.History.{IsLineReply, IsPublication, IsReply, IsEntry, EachAfter}
 use Rattle.desk_book.specs.Again.{in_place, entry_again, said_in_place, IsSentAgain, HistoriesAreMadeAgain}
 use Rattle.desk_book.proofs.Histories.{replay_more, each_more, each_none}
 
@@ -51,7 +53,8 @@ stepped_by s (Some e) d claim value bound opened =
     ∙ ap (λ (x : DeskSeen). Some (accepted s (reply.Published claim) (with_publication s.version claim x))) same
 
 -- over the state over which a plan published a claim, the claim that is sent for its version has that reply
-claim_steps : (s : StateSeen) (v : ℕ) (claim : Claim) → IsPublication s v (reply.Published claim) → IsLineReply s (Ok (command.Publish v claim)) (reply.Published claim)
+claim_steps : (s : StateSeen) (v : ℕ) (claim : Claim) → IsPublication s v (reply.Published claim)
+    → IsLineReply s (Ok (command.Publish v claim)) (reply.Published claim)
 claim_steps s v claim h =
     let parts : Parts = h.1.0 in
     let d : DeskSeen = h.1.1.0 in
@@ -89,7 +92,8 @@ GoesAgain again s t None = t ≡ s
 GoesAgain again s t (Some x) = (x.what ≡ Line) × Goes again s t x
 
 -- what is said again has its reply again
-line_again : (again : List (List ScriptLine)) (s : StateSeen) (read : Result Command CommandFault) (e : EventEntry) → e.version ≡ s.version → ¬ (IsPlanning s read)
+line_again : (again : List (List ScriptLine)) (s : StateSeen) (read : Result Command CommandFault) (e : EventEntry)
+    → e.version ≡ s.version → ¬ (IsPlanning s read)
     → IsLineReply s read e.reply → read_at again e ≡ read → Goes again s (after_line s read e.reply) e
 line_again again s read e version differs replied sent =
     record {
@@ -103,7 +107,8 @@ not_planning : (s : StateSeen) (v : ℕ) (claim : Claim) → ¬ (IsPlanning s (O
 not_planning s v claim h = let same : Ok (command.Publish v claim) ≡ Ok command.Plan = h.0 in cc
 
 -- a Publish with this reply publishes a claim, or leaves the state, and nothing stands in its place
-published_or : (r : Reply) → ((claim : Claim) × (r ≡ reply.Published claim)) ⊎ (((s : StateSeen) → after_publish s r ≡ s) × ((e : EventEntry) → in_place e Publish r ≡ None))
+published_or : (r : Reply) → ((claim : Claim) × (r ≡ reply.Published claim))
+    ⊎ (((s : StateSeen) → after_publish s r ≡ s) × ((e : EventEntry) → in_place e Publish r ≡ None))
 published_or reply.Opened = inr (λ s. refl, λ e. refl)
 published_or reply.Instrument = inr (λ s. refl, λ e. refl)
 published_or (reply.Telescope telescope) = inr (λ s. refl, λ e. refl)
@@ -126,8 +131,10 @@ published_or (reply.Shown document group requests state) = inr (λ s. refl, λ e
 published_or (reply.Refused refusal) = inr (λ s. refl, λ e. refl)
 
 -- the claim of a plan goes again
-claim_again : (again : List (List ScriptLine)) (s : StateSeen) (e : EventEntry) (v : ℕ) (claim : Claim) → e.version ≡ s.version → e.reply ≡ reply.Published claim
-    → IsPublication s v (reply.Published claim) → read_at again e ≡ Ok (command.Publish e.version claim) → Goes again s (after_publish s (reply.Published claim)) record e { what = Line }
+claim_again : (again : List (List ScriptLine)) (s : StateSeen) (e : EventEntry) (v : ℕ) (claim : Claim) → e.version ≡ s.version
+    → e.reply ≡ reply.Published claim
+    → IsPublication s v (reply.Published claim) → read_at again e ≡ Ok (command.Publish e.version claim)
+    → Goes again s (after_publish s (reply.Published claim)) record e { what = Line }
 claim_again again s e v claim version told h sent =
     let now : v ≡ e.version = h.0 ∙ sym version in
     let said : read_at again e ≡ Ok (command.Publish v claim) = sent ∙ ap (λ (n : ℕ). Ok (command.Publish n claim)) (sym now) in
@@ -136,11 +143,13 @@ claim_again again s e v claim version told h sent =
       differs = λ planning. not_planning s v claim (subst (IsPlanning s) said planning);
       replied = subst (λ (r : Reply). IsLineReply s (read_at again e) r) (sym told)
           (subst (λ (c : Result Command CommandFault). IsLineReply s c (reply.Published claim)) (sym said) (claim_steps s v claim h));
-      left = ap (λ (c : Result Command CommandFault). after_line s c e.reply) said ∙ ap (after_line s (Ok (command.Publish v claim))) told ∙ claim_leaves s v claim h;
+      left = ap (λ (c : Result Command CommandFault). after_line s c e.reply) said ∙ ap (after_line s (Ok (command.Publish v claim))) told
+          ∙ claim_leaves s v claim h;
     }
 
 -- what a Publish leaves is left by what stands in its place
-publish_again : (again : List (List ScriptLine)) (s : StateSeen) (read : Result Command CommandFault) (e : EventEntry) (v : ℕ) (r : Reply) → e.version ≡ s.version → e.reply ≡ r
+publish_again : (again : List (List ScriptLine)) (s : StateSeen) (read : Result Command CommandFault) (e : EventEntry) (v : ℕ) (r : Reply)
+    → e.version ≡ s.version → e.reply ≡ r
     → IsPublication s v r → (IsSome (in_place e Publish r) → read_at again e ≡ said_in_place read e.version Publish r)
     → ((claim : Claim) × (r ≡ reply.Published claim)) ⊎ (((s : StateSeen) → after_publish s r ≡ s) × ((e : EventEntry) → in_place e Publish r ≡ None))
     → GoesAgain again s (after_publish s r) (in_place e Publish r)
@@ -150,12 +159,14 @@ publish_again again s read e v r version told h sent (inl t) =
     let is : IsPublication s v (reply.Published claim) = subst (IsPublication s v) t.1 h in
     let said : read_at again e ≡ Ok (command.Publish e.version claim) =
     subst (λ (x : Reply). IsSome (in_place e Publish x) → read_at again e ≡ said_in_place read e.version Publish x) t.1 sent refl in
-    subst (λ (x : Reply). GoesAgain again s (after_publish s x) (in_place e Publish x)) (sym t.1) (refl, claim_again again s e v claim version published is said)
+    subst (λ (x : Reply). GoesAgain again s (after_publish s x) (in_place e Publish x)) (sym t.1)
+    (refl, claim_again again s e v claim version published is said)
 publish_again again s read e v r version told h sent (inr t) = subst (GoesAgain again s (after_publish s r)) (sym (t.1 e)) (t.0 s)
 
 -- what an entry of a legal history leaves is left by what stands in its place
 goes_again : (scripts again : List (List ScriptLine)) (before : List EventEntry) (e : EventEntry) (what : What) → e.version ≡ (replay scripts before).version
-    → IsReply scripts before e what → (IsSome (in_place e what e.reply) → read_at again e ≡ said_in_place (read_at scripts e) e.version what e.reply) → e.what ≡ what
+    → IsReply scripts before e what → (IsSome (in_place e what e.reply) → read_at again e ≡ said_in_place (read_at scripts e) e.version what e.reply)
+    → e.what ≡ what
     → GoesAgain again (replay scripts before) (after_what (replay scripts before) (read_at scripts e) what e.reply) (in_place e what e.reply)
 goes_again scripts again before e Line version h sent is = (is, line_again again (replay scripts before) (read_at scripts e) e version h.0 h.1 (sent refl))
 goes_again scripts again before e Take version h sent is = refl
@@ -175,7 +186,8 @@ record IsMadeAgain (scripts again : List (List ScriptLine)) (history : List Even
 
 -- with one entry more, by what stands in its place
 more_by : (scripts again : List (List ScriptLine)) (history : List EventEntry) (t : StateSeen) (o : Option EventEntry) → IsMadeAgain scripts again history
-    → GoesAgain again (replay scripts history) t o → EachAfter (IsEntry again) (again_of history ++ cons_option o []) × (replay again (again_of history ++ cons_option o []) ≡ t)
+    → GoesAgain again (replay scripts history) t o → EachAfter (IsEntry again) (again_of history ++ cons_option o [])
+    × (replay again (again_of history ++ cons_option o []) ≡ t)
 more_by scripts again history t None made h = (
   subst (EachAfter (IsEntry again)) (sym (append-nil (again_of history))) made.each,
   ap (replay again) (append-nil (again_of history)) ∙ made.left ∙ sym h,
@@ -192,7 +204,8 @@ more_by scripts again history t (Some x) made h =
       replay_more again (again_of history) x ∙ ap (λ (w : What). after_what s (read_at again x) w x.reply) h.0 ∙ goes.left,
     )
 
-made_on : (scripts again : List (List ScriptLine)) (before rest : List EventEntry) → EachAfter (IsEntry scripts) (before ++ rest) → EachAfter (λ earlier e. IsSentAgain scripts again e) (before ++ rest)
+made_on : (scripts again : List (List ScriptLine)) (before rest : List EventEntry) → EachAfter (IsEntry scripts) (before ++ rest)
+    → EachAfter (λ earlier e. IsSentAgain scripts again e) (before ++ rest)
     → IsMadeAgain scripts again before → IsMadeAgain scripts again (before ++ rest)
 made_on scripts again before [] h sent made = subst (IsMadeAgain scripts again) (sym (append-nil before)) made
 made_on scripts again before (e ∷ es) h sent made =
@@ -206,7 +219,8 @@ made_on scripts again before (e ∷ es) h sent made =
       left = ap (replay again) one ∙ both.1 ∙ sym (replay_more scripts before e);
     } in
     subst (IsMadeAgain scripts again) whole
-    (made_on scripts again (before ++ e ∷ []) es (subst (EachAfter (IsEntry scripts)) (sym whole) h) (subst (EachAfter (λ earlier x. IsSentAgain scripts again x)) (sym whole) sent) here)
+    (made_on scripts again (before ++ e ∷ []) es (subst (EachAfter (IsEntry scripts)) (sym whole) h)
+    (subst (EachAfter (λ earlier x. IsSentAgain scripts again x)) (sym whole) sent) here)
 
 pub made_again : HistoriesAreMadeAgain
 made_again scripts again history legal sent =

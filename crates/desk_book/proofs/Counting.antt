@@ -39,5 +39,6 @@ sum_more (x ∷ xs) zero low =
 sum_more (x ∷ xs) (suc i) low =
     let below : i < length xs = omega arith in
     let rest : sum (set xs i (get_or xs i 0 + 1)) ≡ sum xs + 1 = sum_more xs i below in
-    let more : sum (set (x ∷ xs) (suc i) (get_or (x ∷ xs) (suc i) 0 + 1)) ≡ x + sum (set xs i (get_or xs i 0 + 1)) = sum_first x (set xs i (get_or xs i 0 + 1)) in
+    let more : sum (set (x ∷ xs) (suc i) (get_or (x ∷ xs) (suc i) 0 + 1)) ≡ x + sum (set xs i (get_or xs i 0 + 1)) =
+    sum_first x (set xs i (get_or xs i 0 + 1)) in
     omega (arith, sum_first x xs)

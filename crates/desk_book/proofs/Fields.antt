@@ -32,7 +32,8 @@ use Rattle.desk_book.proofs.Stepping.{bounded_claim}
 -- ---- the entry that is added
 
 -- an element that was added where there was room
-pub pushed : {A U E : Type 0} (r : Result U E) (u : U) (base old new : List A) (x : A) → r ≡ Ok u → new ≡ cond (is_ok r) (old ++ x ∷ []) old → old ≡ base → new ≡ base ++ x ∷ []
+pub pushed : {A U E : Type 0} (r : Result U E) (u : U) (base old new : List A) (x : A) → r ≡ Ok u → new ≡ cond (is_ok r) (old ++ x ∷ []) old
+    → old ≡ base → new ≡ base ++ x ∷ []
 pushed (Ok v) u base old new x is h same = h ∙ ap (λ xs. xs ++ x ∷ []) same
 pushed (Err e) u base old new x is h same = cc
 
@@ -40,7 +41,8 @@ pushed (Err e) u base old new x is h same = cc
 counted_at : (b : BookSeen) (done : List ℕ) (caller n : ℕ) → AreCounted b done → caller < length b.scripts → n ≡ get_or done caller n → n ≡ get_or done caller 0
 counted_at b done caller n c low read = let same = c.as_many in get_or_read done caller n (omega arith) read 0
 
-pub number_of : (b : BookSeen) (done : List ℕ) (caller n : ℕ) → AreCounted b done → caller < length b.scripts → n ≡ get_or done caller n → n ≡ done_of caller b.history
+pub number_of : (b : BookSeen) (done : List ℕ) (caller n : ℕ) → AreCounted b done → caller < length b.scripts → n ≡ get_or done caller n
+    → n ≡ done_of caller b.history
 number_of b done caller n c low read = counted_at b done caller n c low read ∙ c.each caller
 
 -- an entry with these numbers
@@ -48,10 +50,12 @@ abbrev entry_with : ℕ → ℕ → What → ℕ → Reply → EventEntry
 entry_with caller n what version reply = record { caller = caller; line = n + 1; what = what; version = version; reply = reply }
 
 -- it is that of the caller's next line
-same_entry : (b : BookSeen) (done : List ℕ) (caller n version : ℕ) (what : What) (reply : Reply) → AreCounted b done → caller < length b.scripts → n ≡ get_or done caller n → version ≡ b.state.version
+same_entry : (b : BookSeen) (done : List ℕ) (caller n version : ℕ) (what : What) (reply : Reply) → AreCounted b done → caller < length b.scripts
+    → n ≡ get_or done caller n → version ≡ b.state.version
     → entry_with caller n what version reply ≡ entry_of b caller what reply
 same_entry b done caller n version what reply c low read now =
-    ap (λ (k : ℕ). entry_with caller k what version reply) (number_of b done caller n c low read) ∙ ap (λ (v : ℕ). entry_with caller (done_of caller b.history) what v reply) now
+    ap (λ (k : ℕ). entry_with caller k what version reply) (number_of b done caller n c low read)
+    ∙ ap (λ (v : ℕ). entry_with caller (done_of caller b.history) what v reply) now
 
 -- a book with this history, state and Takes
 abbrev pub book_with : BookSeen → List EventEntry → StateSeen → List (Option TakenParts) → BookSeen
@@ -59,27 +63,33 @@ book_with b history state takes = record { scripts = b.scripts; history = histor
 
 -- ---- a step
 
-pub step_fields : (b : BookSeen) (done : List ℕ) (caller n version : ℕ) (read : Result Command CommandFault) (reply : Reply) (t : StateSeen) (history : List EventEntry)
-    → IsSound b → AreCounted b done → caller < length b.scripts → n ≡ get_or done caller n → take_of b.takes caller ≡ None → SaysNext b caller read → IsStepDone b.state read reply t
+pub step_fields : (b : BookSeen) (done : List ℕ) (caller n version : ℕ) (read : Result Command CommandFault) (reply : Reply) (t : StateSeen)
+    (history : List EventEntry)
+    → IsSound b → AreCounted b done → caller < length b.scripts → n ≡ get_or done caller n → take_of b.takes caller ≡ None → SaysNext b caller read
+    → IsStepDone b.state read reply t
     → version ≡ b.state.version → history ≡ b.history ++ record { caller = caller; line = n + 1; what = Line; version = version; reply = reply } ∷ []
     → IsSound (book_with b history t b.takes) × AreCounted (book_with b history t b.takes) (set done caller (n + 1))
 step_fields b done caller n version read reply t history s c low at shut next d now is =
-    let more : history ≡ b.history ++ entry_of b caller Line reply ∷ [] = is ∙ ap (λ (e : EventEntry). b.history ++ e ∷ []) (same_entry b done caller n version Line reply c low at now) in
+    let more : history ≡ b.history ++ entry_of b caller Line reply ∷ [] = is
+    ∙ ap (λ (e : EventEntry). b.history ++ e ∷ []) (same_entry b done caller n version Line reply c low at now) in
     let count : get_or done caller 0 ≡ n = sym (counted_at b done caller n c low at) in (
       subst (λ (h : List EventEntry). IsSound (book_with b h t b.takes)) (sym more) (sound_step b caller read reply t s shut next d),
       subst (λ (h : List EventEntry). AreCounted (book_with b h t b.takes) (set done caller (n + 1))) (sym more)
-          (subst (λ (k : ℕ). AreCounted (book_with b (b.history ++ entry_of b caller Line reply ∷ []) t b.takes) (set done caller (k + 1))) count (counted_step b done caller read reply t c low d)),
+          (subst (λ (k : ℕ). AreCounted (book_with b (b.history ++ entry_of b caller Line reply ∷ []) t b.takes) (set done caller (k + 1))) count
+          (counted_step b done caller read reply t c low d)),
     )
 
 -- ---- a Take
 
 pub take_fields : (b : BookSeen) (done : List ℕ) (caller n version : ℕ) (read : Result Command CommandFault) (taken : TakenParts) (history : List EventEntry)
-    → IsSound b → AreCounted b done → caller < length b.scripts → n ≡ get_or done caller n → take_of b.takes caller ≡ None → SaysNext b caller read → IsPlanning b.state read → IsTakenOf
+    → IsSound b → AreCounted b done → caller < length b.scripts → n ≡ get_or done caller n → take_of b.takes caller ≡ None → SaysNext b caller read
+    → IsPlanning b.state read → IsTakenOf
     b.state taken → taken.caller ≡ caller
     → version ≡ b.state.version → history ≡ b.history ++ record { caller = caller; line = n + 1; what = Take; version = version; reply = Taken } ∷ []
     → IsSound (book_with b history b.state (set b.takes caller (Some taken))) × AreCounted (book_with b history b.state (set b.takes caller (Some taken))) done
 take_fields b done caller n version read taken history s c low at shut next asks was named now is =
-    let more : history ≡ b.history ++ entry_of b caller Take Taken ∷ [] = is ∙ ap (λ (e : EventEntry). b.history ++ e ∷ []) (same_entry b done caller n version Take Taken c low at now) in
+    let more : history ≡ b.history ++ entry_of b caller Take Taken ∷ [] = is
+    ∙ ap (λ (e : EventEntry). b.history ++ e ∷ []) (same_entry b done caller n version Take Taken c low at now) in
     let takes : List (Option TakenParts) = set b.takes caller (Some taken) in (
       subst (λ (h : List EventEntry). IsSound (book_with b h b.state takes)) (sym more) (sound_take b caller read taken s low shut next asks was named),
       subst (λ (h : List EventEntry). AreCounted (book_with b h b.state takes) done) (sym more) (counted_take b done caller takes c),
@@ -89,27 +99,34 @@ take_fields b done caller n version read taken history s c low at shut next asks
 
 pub publish_fields : (b : BookSeen) (done : List ℕ) (taken : TakenParts) (n version : ℕ) (reply : Reply) (t : StateSeen) (history : List EventEntry)
     → IsSound b → AreCounted b done → taken.caller < length b.scripts → n ≡ get_or done taken.caller n → take_of b.takes taken.caller ≡ Some taken
-    → IsPublication b.state taken.snapshot.version reply → ((claim : Claim) → reply ≡ Published claim → IsDeskClaim b.state claim) → t ≡ after_publish b.state reply
+    → IsPublication b.state taken.snapshot.version reply → ((claim : Claim) → reply ≡ Published claim → IsDeskClaim b.state claim)
+    → t ≡ after_publish b.state reply
     → version ≡ b.state.version → history ≡ b.history ++ record { caller = taken.caller; line = n + 1; what = Publish; version = version; reply = reply } ∷ []
-    → IsSound (book_with b history t (set b.takes taken.caller None)) × AreCounted (book_with b history t (set b.takes taken.caller None)) (set done taken.caller (n + 1))
+    → IsSound (book_with b history t (set b.takes taken.caller None))
+    × AreCounted (book_with b history t (set b.takes taken.caller None)) (set done taken.caller (n + 1))
 publish_fields b done taken n version reply t history s c low at was publication known left now is =
     let caller : ℕ = taken.caller in
     let e : EventEntry = entry_of b caller Publish reply in
-    let more : history ≡ b.history ++ e ∷ [] = is ∙ ap (λ (x : EventEntry). b.history ++ x ∷ []) (same_entry b done caller n version Publish reply c low at now) in
+    let more : history ≡ b.history ++ e ∷ [] = is
+    ∙ ap (λ (x : EventEntry). b.history ++ x ∷ []) (same_entry b done caller n version Publish reply c low at now) in
     let count : get_or done caller 0 ≡ n = sym (counted_at b done caller n c low at) in
     let takes : List (Option TakenParts) = set b.takes caller None in (
       subst (λ (h : List EventEntry). IsSound (book_with b h t takes)) (sym more)
-          (subst (λ (u : StateSeen). IsSound (book_with b (b.history ++ e ∷ []) u takes)) (sym left) (sound_publish b caller taken reply s low was publication known)),
+          (subst (λ (u : StateSeen). IsSound (book_with b (b.history ++ e ∷ []) u takes)) (sym left)
+          (sound_publish b caller taken reply s low was publication known)),
       subst (λ (h : List EventEntry). AreCounted (book_with b h t takes) (set done caller (n + 1))) (sym more)
           (subst (λ (u : StateSeen). AreCounted (book_with b (b.history ++ e ∷ []) u takes) (set done caller (n + 1))) (sym left)
-          (subst (λ (k : ℕ). AreCounted (book_with b (b.history ++ e ∷ []) (after_publish b.state reply) takes) (set done caller (k + 1))) count (counted_publish b done caller reply takes c low))),
+          (subst (λ (k : ℕ). AreCounted (book_with b (b.history ++ e ∷ []) (after_publish b.state reply) takes) (set done caller (k + 1))) count
+          (counted_publish b done caller reply takes c low))),
     )
 
-pub published_fields : (b : BookSeen) (done : List ℕ) (taken : TakenParts) (outcome : Outcome) (n version : ℕ) (kept told : Reply) (t : StateSeen) (history : List EventEntry)
+pub published_fields : (b : BookSeen) (done : List ℕ) (taken : TakenParts) (outcome : Outcome) (n version : ℕ) (kept told : Reply) (t : StateSeen)
+    (history : List EventEntry)
     → AreCounted b done → taken.caller < length b.scripts → n ≡ get_or done taken.caller n → take_of b.takes taken.caller ≡ Some taken
     → kept ≡ publish_reply b.state record { taken = taken; outcome = outcome } → told ≡ kept → t ≡ after_publish b.state kept
     → version ≡ b.state.version → history ≡ b.history ++ record { caller = taken.caller; line = n + 1; what = Publish; version = version; reply = kept } ∷ []
-    → IsPublished b (record { taken = taken; outcome = outcome }) (record { caller = taken.caller; line = n + 1; what = Publish; version = version; reply = told })
+    → IsPublished b (record { taken = taken; outcome = outcome })
+    (record { caller = taken.caller; line = n + 1; what = Publish; version = version; reply = told })
     (book_with b history t (set b.takes taken.caller None))
 published_fields b done taken outcome n version kept told t history c low at was is same left now more =
     let caller : ℕ = taken.caller in
@@ -134,7 +151,8 @@ same_sent : (claim sent : Claim) → Published claim ≡ Published sent → clai
 same_sent claim sent h = cc
 
 -- the claim that is published for it
-pub desk_claim : (s : StateSeen) (t : TakenParts) (claim sent : Claim) → IsTakenOf s t → IsOrderly t.snapshot → IsPlanned t.snapshot t.settings claim → HasFewStarts t.snapshot
+pub desk_claim : (s : StateSeen) (t : TakenParts) (claim sent : Claim) → IsTakenOf s t → IsOrderly t.snapshot → IsPlanned t.snapshot t.settings claim
+    → HasFewStarts t.snapshot
     → Published claim ≡ Published sent → IsDeskClaim s sent
 desk_claim s t claim sent was orderly planned few is =
     let here : IsDeskClaim s claim = record {
@@ -153,7 +171,8 @@ pub line_fields : {U E : Type 0} (b : BookSeen) (done : List ℕ) (caller : ℕ)
     → IfOk r (λ _. now ≡ was ++ line ∷ []) → OnErr r (now ≡ was)
     → IsSound (record b { scripts = set b.scripts caller now }) × AreCounted (record b { scripts = set b.scripts caller now }) done
 line_fields b done caller line was now (Ok u) s c low room at longer same =
-    let is : now ≡ script_of b.scripts caller ++ line ∷ [] = longer ∙ ap (λ (xs : List ScriptLine). xs ++ line ∷ []) (get_or_read b.scripts caller was low at []) in (
+    let is : now ≡ script_of b.scripts caller ++ line ∷ [] = longer
+    ∙ ap (λ (xs : List ScriptLine). xs ++ line ∷ []) (get_or_read b.scripts caller was low at []) in (
       subst (λ (xs : List ScriptLine). IsSound (record b { scripts = set b.scripts caller xs })) (sym is) (sound_line b caller line s low room),
       subst (λ (xs : List ScriptLine). AreCounted (record b { scripts = set b.scripts caller xs }) done) (sym is) (counted_line b done caller line c),
     )
@@ -174,6 +193,7 @@ taken_back b caller line low =
     let front : take (length longer - 1) longer ≡ script = ap (λ (k : ℕ). take k longer) count ∙ take-append_seam script (line ∷ []) in
     let lines : List ScriptLine → List ScriptLine = λ xs. take (length xs - 1) xs in
     let whole : slice_set (slice_set b.scripts caller longer) caller (lines (script_of (slice_set b.scripts caller longer) caller)) ≡ b.scripts =
-    ap (λ (xs : List ScriptLine). slice_set (slice_set b.scripts caller longer) caller (lines xs)) here ∙ ap (λ (xs : List ScriptLine). slice_set (slice_set b.scripts caller longer) caller xs) front
+    ap (λ (xs : List ScriptLine). slice_set (slice_set b.scripts caller longer) caller (lines xs)) here
+    ∙ ap (λ (xs : List ScriptLine). slice_set (slice_set b.scripts caller longer) caller xs) front
     ∙ set-set b.scripts caller longer script ∙ set-get_or b.scripts caller [] in
     ap (λ (scripts : List (List ScriptLine)). record b { scripts = scripts }) whole

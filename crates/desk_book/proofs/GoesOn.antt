@@ -23,7 +23,8 @@ use Rattle.desk_core.specs.History.{verdict_told, left_by, after_line, with_publ
 abbrev pub GoesOn : StateSeen → StateSeen → Type 0
 GoesOn s t = (t ≡ s) ⊎ (t.version ≡ s.version + 1)
 
-by_refusal : (s : StateSeen) (refusal : Option Refusal) (r : Reply) (e : DeskSeen) → GoesOn s (decided s record { refusal = refusal; reply = r; desk = e }).state
+by_refusal : (s : StateSeen) (refusal : Option Refusal) (r : Reply) (e : DeskSeen)
+    → GoesOn s (decided s record { refusal = refusal; reply = r; desk = e }).state
 by_refusal s None r e = inr refl
 by_refusal s (Some refusal) r e = inl refl
 

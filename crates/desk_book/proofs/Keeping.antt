@@ -22,7 +22,8 @@ use Rattle.desk_events.specs.declared.reply.Reply.TheVariants.{Taken, Published}
 use Rattle.desk_events.specs.Line.{command_of_line}
 use Rattle.desk_core.specs.Desk.{StateSeen}
 use Rattle.desk_core.specs.Step.{IsSnapshotOf}
-use Rattle.desk_core.specs.History.{IsPlanning, IsLineReply, script_of, entries_of, read_at, after_line, after_what, after_publish, replay, HasTaken, IsPublication, IsReply}
+use Rattle.desk_core.specs.History.{IsPlanning, IsLineReply, script_of, entries_of, read_at, after_line, after_what, after_publish, replay, HasTaken}
+use Rattle.desk_core.specs.History.{IsPublication, IsReply}
 use Rattle.desk_core.specs.History.{IsEntry, EachAfter}
 use Rattle.desk_book.specs.Claims.{IsBoundedReply, IsPublishedClaim, IsClaimEntry, IsDeskClaim}
 use Rattle.desk_book.specs.Doing.{IsStepDone, IsTakenOf}
@@ -47,7 +48,8 @@ abbrev pub said : List ScriptLine → ℕ → Result Command CommandFault
 said lines k = command_of_line (slice_index_or lines k TooLong)
 
 -- a caller's line says the same, whatever lines are sent later
-pub said_later : (scripts longer : List (List ScriptLine)) (caller n : ℕ) (line : ScriptLine) → GoOn scripts longer → slice_get (script_of scripts caller) n ≡ Some line
+pub said_later : (scripts longer : List (List ScriptLine)) (caller n : ℕ) (line : ScriptLine) → GoOn scripts longer
+    → slice_get (script_of scripts caller) n ≡ Some line
     → said (script_of longer caller) (n + 1 - 1) ≡ command_of_line line
 said_later scripts longer caller n line more at =
     let back : n + 1 - 1 ≡ n = omega arith in
@@ -60,7 +62,8 @@ said_later scripts longer caller n line more at =
 -- ---- open Takes
 
 -- an entry of another caller comes later
-open_later : (scripts : List (List ScriptLine)) (h : List EventEntry) (e : EventEntry) (caller : ℕ) (t : TakenParts) → e.caller ≢ caller → IsOpenTake scripts h caller t
+open_later : (scripts : List (List ScriptLine)) (h : List EventEntry) (e : EventEntry) (caller : ℕ) (t : TakenParts) → e.caller ≢ caller
+    → IsOpenTake scripts h caller t
     → IsOpenTake scripts (h ++ e ∷ []) caller t
 open_later scripts h e caller t other o = record {
   before = o.before;
@@ -79,17 +82,21 @@ first_kept : (b : Bool) (e : EventEntry) (es : List EventEntry) → b ≡ true �
 first_kept true e es h g = ap (λ (xs : List EventEntry). e ∷ xs) g
 first_kept false e es h g = cc
 
-pub has_taken : (scripts : List (List ScriptLine)) (h : List EventEntry) (caller : ℕ) (t : TakenParts) → EachAfter (IsEntry scripts) h → IsOpenTake scripts h caller t
+pub has_taken : (scripts : List (List ScriptLine)) (h : List EventEntry) (caller : ℕ) (t : TakenParts) → EachAfter (IsEntry scripts) h
+    → IsOpenTake scripts h caller t
     → HasTaken h caller t.snapshot.version
 has_taken scripts h caller t each o =
-    let mine : entries_of caller (o.entry ∷ o.later) ≡ o.entry ∷ [] = first_kept (o.entry.caller == caller) o.entry (entries_of caller o.later) (eq-eqb o.entry.caller caller o.mine) o.last in
+    let mine : entries_of caller (o.entry ∷ o.later) ≡ o.entry ∷ [] =
+    first_kept (o.entry.caller == caller) o.entry (entries_of caller o.later) (eq-eqb o.entry.caller caller o.mine) o.last in
     let all : entries_of caller h ≡ entries_of caller o.before ++ o.entry ∷ [] =
-    ap (entries_of caller) o.cut ∙ filter-append (λ x. x.caller == caller) o.before (o.entry ∷ o.later) ∙ ap (λ (es : List EventEntry). entries_of caller o.before ++ es) mine in
+    ap (entries_of caller) o.cut ∙ filter-append (λ x. x.caller == caller) o.before (o.entry ∷ o.later)
+    ∙ ap (λ (es : List EventEntry). entries_of caller o.before ++ es) mine in
     let entry : IsEntry scripts o.before o.entry = each o.before o.later o.entry o.cut in
     let version : t.snapshot.version ≡ (replay scripts o.before).version = ap (λ (s : Parts). s.version) o.taken.2 in
     (o.entry, ap (last_or None) all ∙ last_more None (entries_of caller o.before) o.entry, o.what, entry.version ∙ sym version)
 
-none_taken : {X : Type 0} (takes : List (Option TakenParts)) (mine other : ℕ) (t : TakenParts) → mine ≡ other → take_of takes mine ≡ None → take_of takes other ≡ Some t → X
+none_taken : {X : Type 0} (takes : List (Option TakenParts)) (mine other : ℕ) (t : TakenParts) → mine ≡ other → take_of takes mine ≡ None
+    → take_of takes other ≡ Some t → X
 none_taken takes mine other t same none some =
     let clash : None ≡ Some t = sym none ∙ ap (take_of takes) same ∙ some in absurd (cc)
 
@@ -101,7 +108,8 @@ opens_step scripts h takes e none opens caller t is =
     open_later scripts h e caller t (λ same. none_taken takes e.caller caller t same none is) (opens caller t is)
 
 -- after a Take
-open_now : (scripts : List (List ScriptLine)) (h : List EventEntry) (s : StateSeen) (e : EventEntry) (caller : ℕ) (t : TakenParts) → replay scripts h ≡ s → e.what ≡ Take
+open_now : (scripts : List (List ScriptLine)) (h : List EventEntry) (s : StateSeen) (e : EventEntry) (caller : ℕ) (t : TakenParts)
+    → replay scripts h ≡ s → e.what ≡ Take
     → t.caller ≡ e.caller → IsTakenOf s t → e.caller ≡ caller
     → IsOpenTake scripts (h ++ e ∷ []) caller t
 open_now scripts h s e caller t left what named taken is = record {
@@ -119,7 +127,8 @@ open_now scripts h s e caller t left what named taken is = record {
 taken_by : (scripts : List (List ScriptLine)) (h : List EventEntry) (s : StateSeen) (takes : List (Option TakenParts)) (e : EventEntry) (taken : TakenParts)
     → replay scripts h ≡ s → e.what ≡ Take → taken.caller ≡ e.caller → IsTakenOf s taken → e.caller < length takes
     → ((caller : ℕ) (t : TakenParts) → take_of takes caller ≡ Some t → IsOpenTake scripts h caller t)
-    → (caller : ℕ) (t : TakenParts) → take_of (slice_set takes e.caller (Some taken)) caller ≡ Some t → (e.caller ≡ caller) ⊎ (e.caller ≢ caller) → IsOpenTake scripts (h ++ e ∷ []) caller t
+    → (caller : ℕ) (t : TakenParts) → take_of (slice_set takes e.caller (Some taken)) caller ≡ Some t → (e.caller ≡ caller) ⊎ (e.caller ≢ caller)
+    → IsOpenTake scripts (h ++ e ∷ []) caller t
 taken_by scripts h s takes e taken left what named is low opens caller t at (inl same) =
     let here : take_of (slice_set takes e.caller (Some taken)) e.caller ≡ Some taken = get_or-set_same takes e.caller (Some taken) None low in
     let now : Some taken ≡ Some t = sym here ∙ ap (take_of (slice_set takes e.caller (Some taken))) same ∙ at in
@@ -129,7 +138,8 @@ taken_by scripts h s takes e taken left what named is low opens caller t at (inr
     let before : take_of takes caller ≡ Some t = sym (get_or-set_other takes e.caller caller (Some taken) None (λ same. other (sym same))) ∙ at in
     open_later scripts h e caller t other (opens caller t before)
 
-pub opens_take : (scripts : List (List ScriptLine)) (h : List EventEntry) (s : StateSeen) (takes : List (Option TakenParts)) (e : EventEntry) (taken : TakenParts)
+pub opens_take : (scripts : List (List ScriptLine)) (h : List EventEntry) (s : StateSeen) (takes : List (Option TakenParts))
+    (e : EventEntry) (taken : TakenParts)
     → replay scripts h ≡ s → e.what ≡ Take → taken.caller ≡ e.caller → IsTakenOf s taken → e.caller < length takes
     → ((caller : ℕ) (t : TakenParts) → take_of takes caller ≡ Some t → IsOpenTake scripts h caller t)
     → (caller : ℕ) (t : TakenParts) → take_of (slice_set takes e.caller (Some taken)) caller ≡ Some t → IsOpenTake scripts (h ++ e ∷ []) caller t
@@ -139,7 +149,8 @@ opens_take scripts h s takes e taken left what named is low opens caller t at =
 -- after a Publish
 shut_by : (scripts : List (List ScriptLine)) (h : List EventEntry) (takes : List (Option TakenParts)) (e : EventEntry) → e.caller < length takes
     → ((caller : ℕ) (t : TakenParts) → take_of takes caller ≡ Some t → IsOpenTake scripts h caller t)
-    → (caller : ℕ) (t : TakenParts) → take_of (slice_set takes e.caller None) caller ≡ Some t → (e.caller ≡ caller) ⊎ (e.caller ≢ caller) → IsOpenTake scripts (h ++ e ∷ []) caller t
+    → (caller : ℕ) (t : TakenParts) → take_of (slice_set takes e.caller None) caller ≡ Some t → (e.caller ≡ caller) ⊎ (e.caller ≢ caller)
+    → IsOpenTake scripts (h ++ e ∷ []) caller t
 shut_by scripts h takes e low opens caller t at (inl same) =
     none_taken (slice_set takes e.caller None) e.caller caller t same (get_or-set_same takes e.caller None None low) at
 shut_by scripts h takes e low opens caller t at (inr other) =
@@ -152,7 +163,8 @@ opens_publish scripts h takes e low opens caller t at = shut_by scripts h takes 
 
 -- ---- one entry more
 
-pub kept_more : (scripts : List (List ScriptLine)) (h : List EventEntry) (s t : StateSeen) (takes takes' : List (Option TakenParts)) (e : EventEntry) → IsKept scripts h s takes
+pub kept_more : (scripts : List (List ScriptLine)) (h : List EventEntry) (s t : StateSeen) (takes takes' : List (Option TakenParts)) (e : EventEntry)
+    → IsKept scripts h s takes
     → e.version ≡ s.version → IsReply scripts h e e.what → after_what s (read_at scripts e) e.what e.reply ≡ t → IsClaimEntry scripts h e
     → ((caller : ℕ) (u : TakenParts) → take_of takes' caller ≡ Some u → IsOpenTake scripts (h ++ e ∷ []) caller u)
     → IsKept scripts (h ++ e ∷ []) t takes'
@@ -172,7 +184,8 @@ abbrev pub line_entry : ℕ → ℕ → StateSeen → Reply → EventEntry
 line_entry caller n s reply = record { caller = caller; line = n + 1; what = Line; version = s.version; reply = reply }
 
 -- the claim of a step is sent and not planned
-sent_claims : (scripts : List (List ScriptLine)) (h : List EventEntry) (s : StateSeen) (caller n : ℕ) (reply : Reply) → replay scripts h ≡ s → IsBoundedReply s reply
+sent_claims : (scripts : List (List ScriptLine)) (h : List EventEntry) (s : StateSeen) (caller n : ℕ) (reply : Reply)
+    → replay scripts h ≡ s → IsBoundedReply s reply
     → IsClaimEntry scripts h (line_entry caller n s reply)
 sent_claims scripts h s caller n reply left bounded = record {
   published = λ claim e.
@@ -184,12 +197,14 @@ sent_claims scripts h s caller n reply left bounded = record {
   exported = bounded.exported;
 }
 
-pub kept_step : (scripts : List (List ScriptLine)) (h : List EventEntry) (s t : StateSeen) (takes : List (Option TakenParts)) (caller n : ℕ) (read : Result Command CommandFault) (reply : Reply)
+pub kept_step : (scripts : List (List ScriptLine)) (h : List EventEntry) (s t : StateSeen) (takes : List (Option TakenParts)) (caller n : ℕ)
+    (read : Result Command CommandFault) (reply : Reply)
     → IsKept scripts h s takes
     → take_of takes caller ≡ None → said (script_of scripts caller) (n + 1 - 1) ≡ read → IsStepDone s read reply t
     → IsKept scripts (h ++ line_entry caller n s reply ∷ []) t takes
 kept_step scripts h s t takes caller n read reply k none says d =
-    let here : IsStep reply s (said (script_of scripts caller) (n + 1 - 1)) = subst (λ (r : Result Command CommandFault). IsStep reply s r) (sym says) (d.differs, d.replied) in
+    let here : IsStep reply s (said (script_of scripts caller) (n + 1 - 1)) =
+    subst (λ (r : Result Command CommandFault). IsStep reply s r) (sym says) (d.differs, d.replied) in
     kept_more scripts h s t takes takes (line_entry caller n s reply) k refl
     (subst (λ (u : StateSeen). IsStep reply u (said (script_of scripts caller) (n + 1 - 1))) (sym k.left) here)
     (ap (λ (r : Result Command CommandFault). after_line s r reply) says ∙ sym d.left)
@@ -203,7 +218,8 @@ IsTake t read = IsPlanning t read × (◌≡◌ {A = Reply} Taken Taken)
 abbrev pub take_entry : ℕ → ℕ → StateSeen → EventEntry
 take_entry caller n s = record { caller = caller; line = n + 1; what = Take; version = s.version; reply = Taken }
 
-pub kept_take : (scripts : List (List ScriptLine)) (h : List EventEntry) (s : StateSeen) (takes : List (Option TakenParts)) (caller n : ℕ) (read : Result Command CommandFault) (taken : TakenParts)
+pub kept_take : (scripts : List (List ScriptLine)) (h : List EventEntry) (s : StateSeen) (takes : List (Option TakenParts)) (caller n : ℕ)
+    (read : Result Command CommandFault) (taken : TakenParts)
     → IsKept scripts h s takes
     → caller < length takes → said (script_of scripts caller) (n + 1 - 1) ≡ read → IsPlanning s read → IsTakenOf s taken → taken.caller ≡ caller
     → IsKept scripts (h ++ take_entry caller n s ∷ []) s (slice_set takes caller (Some taken))
@@ -219,7 +235,8 @@ kept_take scripts h s takes caller n read taken k low says asks is named =
 abbrev pub publish_entry : ℕ → ℕ → StateSeen → Reply → EventEntry
 publish_entry caller n s reply = record { caller = caller; line = n + 1; what = Publish; version = s.version; reply = reply }
 
-planned_claims : (scripts : List (List ScriptLine)) (h : List EventEntry) (s : StateSeen) (caller n v : ℕ) (reply : Reply) → replay scripts h ≡ s → IsPublication s v reply
+planned_claims : (scripts : List (List ScriptLine)) (h : List EventEntry) (s : StateSeen) (caller n v : ℕ) (reply : Reply) → replay scripts h ≡ s
+    → IsPublication s v reply
     → ((claim : Claim) → reply ≡ Published claim → IsDeskClaim s claim)
     → IsClaimEntry scripts h (publish_entry caller n s reply)
 planned_claims scripts h s caller n v reply left publication known = record {
@@ -232,13 +249,18 @@ planned_claims scripts h s caller n v reply left publication known = record {
   exported = λ claim parts e. absurd (subst (IsPublication s v) e publication);
 }
 
-pub kept_publish : (scripts : List (List ScriptLine)) (h : List EventEntry) (s : StateSeen) (takes : List (Option TakenParts)) (caller n : ℕ) (taken : TakenParts) (reply : Reply)
+pub kept_publish : (scripts : List (List ScriptLine)) (h : List EventEntry) (s : StateSeen) (takes : List (Option TakenParts)) (caller n : ℕ)
+    (taken : TakenParts) (reply : Reply)
     → IsKept scripts h s takes
-    → caller < length takes → take_of takes caller ≡ Some taken → IsPublication s taken.snapshot.version reply → ((claim : Claim) → reply ≡ Published claim → IsDeskClaim s claim)
+    → caller < length takes → take_of takes caller ≡ Some taken → IsPublication s taken.snapshot.version reply
+    → ((claim : Claim) → reply ≡ Published claim → IsDeskClaim s claim)
     → IsKept scripts (h ++ publish_entry caller n s reply ∷ []) (after_publish s reply) (slice_set takes caller None)
 kept_publish scripts h s takes caller n taken reply k low is publication known =
-    kept_more scripts h s (after_publish s reply) takes (slice_set takes caller None) (publish_entry caller n s reply) k refl
-    (taken.snapshot.version, has_taken scripts h caller taken k.each (k.opens caller taken is), subst (λ (u : StateSeen). IsPublication u taken.snapshot.version reply) (sym k.left) publication)
+    kept_more scripts h s (after_publish s reply) takes (slice_set takes caller None) (publish_entry caller n s reply) k refl (
+      taken.snapshot.version,
+      has_taken scripts h caller taken k.each (k.opens caller taken is),
+      subst (λ (u : StateSeen). IsPublication u taken.snapshot.version reply) (sym k.left) publication,
+    )
     refl
     (planned_claims scripts h s caller n taken.snapshot.version reply k.left publication known)
     (opens_publish scripts h takes (publish_entry caller n s reply) low k.opens)

@@ -15,7 +15,8 @@ use Rattle.desk_core.specs.Step.{step_by, IsAsked, IsStep}
 use Rattle.desk_book.specs.Laws.{OneReply}
 
 -- a claim for the current version has one verdict
-one_asked : (s : StateSeen) (d : DeskSeen) (version : ℕ) (claim : Claim) (v w : Verdict) → s.desk ≡ Some d → version ≡ s.version → IsAsked s (command.Publish version claim) v
+one_asked : (s : StateSeen) (d : DeskSeen) (version : ℕ) (claim : Claim) (v w : Verdict) → s.desk ≡ Some d → version ≡ s.version
+    → IsAsked s (command.Publish version claim) v
     → IsAsked s (command.Publish version claim) w → v ≡ w
 one_asked s d version claim v w opened now h g =
     one_verdict (snapshot_of s.version d) claim v w (h now (snapshot_of s.version d) (d, opened, refl)) (g now (snapshot_of s.version d) (d, opened, refl))

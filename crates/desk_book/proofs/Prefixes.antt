@@ -1,5 +1,6 @@
 -- The first entries of a whole history are in the order of the scripts.
-use Rattle.std.proofs.Common.{◌≡◌, ℕ, ◌+◌, ◌-◌, ◌≤◌, ◌<◌, ◌⊎◌, List, [], ◌∷◌, ◌++◌, length, take, drop, map, refl, sym, ◌∙◌, ap, subst, arith, inl, inr, take-append-drop}
+use Rattle.std.proofs.Common.{◌≡◌, ℕ, ◌+◌, ◌-◌, ◌≤◌, ◌<◌, ◌⊎◌, List, [], ◌∷◌, ◌++◌, length, take, drop, map, refl, sym, ◌∙◌, ap, subst, arith, inl}
+use Rattle.std.proofs.Common.{inr, take-append-drop}
 use Rattle.std.proofs.lemmas.List.{map-append}
 use Rattle.std.proofs.lemmas.List.Elements.{filter-append}
 use Rattle.std.specs.Prelude.{◌==◌}
@@ -108,4 +109,5 @@ prefix_order scripts history n caller whole =
     let cut : turns_of caller history ≡ turns_of caller (take n history) ++ turns_of caller (drop n history) =
     ap (turns_of caller) (sym (take-append-drop n history)) ∙ turns_append caller (take n history) (drop n history) in
     prefix_turns script (turns_of caller (take n history))
-    (first_turns 1 (length script + 1) (turns_of caller (take n history)) (turns_of caller (drop n history)) (subst (λ (ts : List (ℕ × What)). AreTurnsOf 1 ts (length script + 1)) cut (whole caller)))
+    (first_turns 1 (length script + 1) (turns_of caller (take n history)) (turns_of caller (drop n history))
+    (subst (λ (ts : List (ℕ × What)). AreTurnsOf 1 ts (length script + 1)) cut (whole caller)))

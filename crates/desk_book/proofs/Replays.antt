@@ -25,7 +25,8 @@ what_one s t read Line reply h = line_one s t read reply h
 what_one s t read Take reply h = h
 what_one s t read Publish reply h = h
 
-history_one : (scripts : List (List ScriptLine)) (history : List EventEntry) (s t : StateSeen) → LeadTo scripts history s t → t ≡ fold (after_entry scripts) s history
+history_one : (scripts : List (List ScriptLine)) (history : List EventEntry) (s t : StateSeen) → LeadTo scripts history s t
+    → t ≡ fold (after_entry scripts) s history
 history_one scripts [] s t h = h
 history_one scripts (e ∷ es) s t h =
     history_one scripts es h.0 t h.2 ∙ ap (λ (u : StateSeen). fold (after_entry scripts) u es) (what_one s h.0 (read_at scripts e) e.what e.reply h.1)

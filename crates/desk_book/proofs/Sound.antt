@@ -1,6 +1,7 @@
 -- A book, and what each call makes of it.
 use Rattle.std.proofs.Common.{◌≡◌, ◌≢◌, ℕ, zero, suc, ◌*◌, ◌≤◌, ◌<◌, ◌⊎◌, List, [], ◌∷◌, ◌++◌, length, sum, get_or, replicate, true, false, refl}
-use Rattle.std.proofs.Common.{sym, ◌∙◌, ap, subst, arith, inl, inr, Some, None, Result, append_assoc, append-nil, length-append, get_or-set_same, get_or-set_other}
+use Rattle.std.proofs.Common.{sym, ◌∙◌, ap, subst, arith, inl, inr, Some, None, Result, append_assoc, append-nil, length-append, get_or-set_same}
+use Rattle.std.proofs.Common.{get_or-set_other}
 use Rattle.std.specs.declared.option.Option.{Option}
 use Rattle.std.specs.Option.{is_some}
 use Rattle.std.specs.Prelude.{slice_set}
@@ -34,8 +35,11 @@ book_of b s =
       callers = s.callers;
       as_many = s.as_many;
       few = s.few;
-      legal = record
-          { order = λ caller. place_order (script_of b.scripts caller) (turns_of caller b.history) (done_of caller b.history) (is_some (take_of b.takes caller)) (s.places caller); each = k.each };
+      legal = record {
+        order = λ caller. place_order (script_of b.scripts caller) (turns_of caller b.history) (done_of caller b.history)
+            (is_some (take_of b.takes caller)) (s.places caller);
+        each = k.each;
+      };
       left = k.left;
       claims = k.claims;
       places = s.places;
@@ -94,12 +98,14 @@ counted_new n = record {
 
 -- a script with one line more, or the same
 script_by : (scripts : List (List ScriptLine)) (caller other : ℕ) (line : ScriptLine) → caller < length scripts → (caller ≡ other) ⊎ (caller ≢ other)
-    → (rest : List ScriptLine) × (script_of (slice_set scripts caller (script_of scripts caller ++ line ∷ [])) other ≡ script_of scripts other ++ rest) × (length rest ≤ 1)
+    → (rest : List ScriptLine) × (script_of (slice_set scripts caller (script_of scripts caller ++ line ∷ [])) other ≡ script_of scripts other
+    ++ rest) × (length rest ≤ 1)
     × (caller ≢ other → rest ≡ [])
 script_by scripts caller other line low (inl same) =
     let longer : List ScriptLine = script_of scripts caller ++ line ∷ [] in (
       line ∷ [],
-      ap (script_of (slice_set scripts caller longer)) (sym same) ∙ get_or-set_same scripts caller longer [] low ∙ ap (λ (k : ℕ). script_of scripts k ++ line ∷ []) same,
+      ap (script_of (slice_set scripts caller longer)) (sym same) ∙ get_or-set_same scripts caller longer [] low
+          ∙ ap (λ (k : ℕ). script_of scripts k ++ line ∷ []) same,
       omega arith,
       λ differs. absurd (differs same),
     )
@@ -112,7 +118,8 @@ script_by scripts caller other line low (inr differs) =
     )
 
 -- each script goes on
-pub longer_scripts : (scripts : List (List ScriptLine)) (caller : ℕ) (line : ScriptLine) → caller < length scripts → GoOn scripts (slice_set scripts caller (script_of scripts caller ++ line ∷ []))
+pub longer_scripts : (scripts : List (List ScriptLine)) (caller : ℕ) (line : ScriptLine) → caller < length scripts
+    → GoOn scripts (slice_set scripts caller (script_of scripts caller ++ line ∷ []))
 longer_scripts scripts caller line low other =
     let it = script_by scripts caller other line low (same_or_other caller other) in (it.0, it.1)
 
@@ -124,7 +131,8 @@ go_further scripts more longer h g caller = (
 
 -- no script is too long
 few_by : (scripts : List (List ScriptLine)) (caller other : ℕ) (line : ScriptLine) → caller < length scripts → length (script_of scripts caller) < 65536
-    → ((k : ℕ) → length (script_of scripts k) ≤ 65536) → (caller ≡ other) ⊎ (caller ≢ other) → length (script_of (slice_set scripts caller (script_of scripts caller ++ line ∷ [])) other) ≤ 65536
+    → ((k : ℕ) → length (script_of scripts k) ≤ 65536) → (caller ≡ other) ⊎ (caller ≢ other)
+    → length (script_of (slice_set scripts caller (script_of scripts caller ++ line ∷ [])) other) ≤ 65536
 few_by scripts caller other line low room few (inl same) =
     let longer : List ScriptLine = script_of scripts caller ++ line ∷ [] in
     let is : length (script_of (slice_set scripts caller longer) other) ≡ length longer =
@@ -132,11 +140,13 @@ few_by scripts caller other line low room few (inl same) =
     omega (arith, length-append (script_of scripts caller) (line ∷ []))
 few_by scripts caller other line low room few (inr differs) =
     let longer : List ScriptLine = script_of scripts caller ++ line ∷ [] in
-    let is : length (script_of (slice_set scripts caller longer) other) ≡ length (script_of scripts other) = ap length (get_or-set_other scripts caller other longer [] (λ same. differs (sym same))) in
+    let is : length (script_of (slice_set scripts caller longer) other) ≡ length (script_of scripts other) =
+    ap length (get_or-set_other scripts caller other longer [] (λ same. differs (sym same))) in
     let most : length (script_of scripts other) ≤ 65536 = few other in
     omega arith
 
-pub sound_line : (b : BookSeen) (caller : ℕ) (line : ScriptLine) → IsSound b → caller < length b.scripts → length (script_of b.scripts caller) < 65536 → IsSound (with_line b caller line)
+pub sound_line : (b : BookSeen) (caller : ℕ) (line : ScriptLine) → IsSound b → caller < length b.scripts → length (script_of b.scripts caller) < 65536
+    → IsSound (with_line b caller line)
 sound_line b caller line s low room =
     let scripts : List (List ScriptLine) = slice_set b.scripts caller (script_of b.scripts caller ++ line ∷ []) in
     let as_many : length scripts ≡ length b.scripts = length-set b.scripts caller (script_of b.scripts caller ++ line ∷ []) in
@@ -147,8 +157,10 @@ sound_line b caller line s low room =
       few = λ other. few_by b.scripts caller other line low room s.few (same_or_other caller other);
       kept = λ longer on. s.kept longer (go_further b.scripts scripts longer more on);
       places = λ other.
-          subst (λ (lines : List ScriptLine). IsPlace lines (turns_of other b.history) (done_of other b.history) (is_some (take_of b.takes other))) (sym (more other).1)
-          (place_longer (script_of b.scripts other) (more other).0 (turns_of other b.history) (done_of other b.history) (is_some (take_of b.takes other)) (s.places other));
+          subst (λ (lines : List ScriptLine). IsPlace lines (turns_of other b.history) (done_of other b.history) (is_some (take_of b.takes other)))
+          (sym (more other).1)
+          (place_longer (script_of b.scripts other) (more other).0 (turns_of other b.history) (done_of other b.history)
+          (is_some (take_of b.takes other)) (s.places other));
       behind = s.behind;
     }
 
@@ -162,18 +174,22 @@ counted_line b done caller line c = record {
 -- ---- how far callers have come
 
 -- the place of a caller that has no open Take, and of one that has one
-pub shut_place : (b : BookSeen) (caller : ℕ) → IsSound b → take_of b.takes caller ≡ None → IsPlace (script_of b.scripts caller) (turns_of caller b.history) (done_of caller b.history) false
+pub shut_place : (b : BookSeen) (caller : ℕ) → IsSound b → take_of b.takes caller ≡ None
+    → IsPlace (script_of b.scripts caller) (turns_of caller b.history) (done_of caller b.history) false
 shut_place b caller s shut =
-    place_as (script_of b.scripts caller) (turns_of caller b.history) (turns_of caller b.history) (done_of caller b.history) (done_of caller b.history) (is_some (take_of b.takes caller))
+    place_as (script_of b.scripts caller) (turns_of caller b.history) (turns_of caller b.history) (done_of caller b.history)
+    (done_of caller b.history) (is_some (take_of b.takes caller))
     false refl refl (ap is_some shut) (s.places caller)
 
 pub open_place : (b : BookSeen) (caller : ℕ) (t : TakenParts) → IsSound b → take_of b.takes caller ≡ Some t
     → IsPlace (script_of b.scripts caller) (turns_of caller b.history) (done_of caller b.history) true
 open_place b caller t s is =
-    place_as (script_of b.scripts caller) (turns_of caller b.history) (turns_of caller b.history) (done_of caller b.history) (done_of caller b.history) (is_some (take_of b.takes caller))
+    place_as (script_of b.scripts caller) (turns_of caller b.history) (turns_of caller b.history) (done_of caller b.history)
+    (done_of caller b.history) (is_some (take_of b.takes caller))
     true refl refl (ap is_some is) (s.places caller)
 
-pub next_below : (b : BookSeen) (caller : ℕ) (read : Result Command CommandFault) → SaysNext b caller read → done_of caller b.history < length (script_of b.scripts caller)
+pub next_below : (b : BookSeen) (caller : ℕ) (read : Result Command CommandFault) → SaysNext b caller read
+    → done_of caller b.history < length (script_of b.scripts caller)
 next_below b caller read n = slice_get_within (script_of b.scripts caller) (done_of caller b.history) n.0 n.1
 
 -- a caller with an open Take is one of the callers
@@ -194,10 +210,12 @@ few_done b caller s =
     omega arith
 
 -- the state has few changes, where a line is left
-pub few_changes : (b : BookSeen) (done : List ℕ) (caller : ℕ) → IsSound b → AreCounted b done → caller < length b.scripts → done_of caller b.history < length (script_of b.scripts caller)
+pub few_changes : (b : BookSeen) (done : List ℕ) (caller : ℕ) → IsSound b → AreCounted b done → caller < length b.scripts
+    → done_of caller b.history < length (script_of b.scripts caller)
     → b.state.version < 524288
 few_changes b done caller s c low left =
-    let each : (k : ℕ) → get_or done k 0 ≤ 65536 = λ k. (let is : get_or done k 0 ≡ done_of k b.history = c.each k in let few : done_of k b.history ≤ 65536 = few_done b k s in omega arith) in
+    let each : (k : ℕ) → get_or done k 0 ≤ 65536 = λ k. (let is : get_or done k 0 ≡ done_of k b.history = c.each k in
+    let few : done_of k b.history ≤ 65536 = few_done b k s in omega arith) in
     let same = c.as_many in
     let here : get_or done caller 0 ≡ done_of caller b.history = c.each caller in
     let few : length (script_of b.scripts caller) ≤ 65536 = s.few caller in

@@ -1,5 +1,6 @@
 -- What a step leaves, and which claim it tells.
-use Rattle.std.proofs.Common.{◌≡◌, ◌∙◌, ℕ, ◌+◌, ◌≤◌, Bool, true, false, not, cond, ◌==◌, nat_lt, nat_le, refl, ap, sym, subst, Option, Some, None, Result, Ok, Err}
+use Rattle.std.proofs.Common.{◌≡◌, ◌∙◌, ℕ, ◌+◌, ◌≤◌, Bool, true, false, not, cond, ◌==◌, nat_lt, nat_le, refl, ap, sym, subst, Option, Some, None}
+use Rattle.std.proofs.Common.{Result, Ok, Err}
 use Rattle.std.proofs.Common.{IfSome, pos, ◌≤ℤ◌, List, arith}
 use Rattle.std.proofs.lemmas.Bool.{eqb-true}
 use Rattle.std.proofs.lemmas.Int.{ints}
@@ -63,7 +64,8 @@ publish_told s d e true (No reason) stale claim stepped h =
     let told : reply.Refused (Rejected reason) ≡ stepped.reply = ap (λ (x : Stepped). x.reply) (same_Some _ stepped h) in
     subst (λ (r : Reply). Some (decided s record { refusal = rejection (verdict_told r); reply = reply.Published claim; desk = e }) ≡ Some stepped) told h
 
-told_by : (v : Verdict) (s : StateSeen) (o : Option DeskSeen) (c : Command) (stepped : Stepped) → step_by v s o c ≡ Some stepped → step_by (verdict_told stepped.reply) s o c ≡ Some stepped
+told_by : (v : Verdict) (s : StateSeen) (o : Option DeskSeen) (c : Command) (stepped : Stepped) → step_by v s o c ≡ Some stepped
+    → step_by (verdict_told stepped.reply) s o c ≡ Some stepped
 told_by v s None c stepped h = h
 told_by v s (Some d) (command.Open now slice horizon semester lanes rounds workers quota) stepped h = h
 told_by v s (Some d) (command.Instrument name front config readout change) stepped h = h
@@ -112,7 +114,8 @@ abbrev Comes : Verdict → StateSeen → Option DeskSeen → Command → Stepped
 Comes v s o c stepped (claim, None) = IsCurrent v s o c claim stepped
 Comes v s o c stepped (claim, Some parts) = IsLast s o claim parts stepped
 
-decided_plain : (s : StateSeen) (refusal : Option Refusal) (r : Reply) (e : DeskSeen) → claim_in r ≡ None → claim_in (decided s record { refusal = refusal; reply = r; desk = e }).reply ≡ None
+decided_plain : (s : StateSeen) (refusal : Option Refusal) (r : Reply) (e : DeskSeen) → claim_in r ≡ None
+    → claim_in (decided s record { refusal = refusal; reply = r; desk = e }).reply ≡ None
 decided_plain s None r e h = h
 decided_plain s (Some refusal) r e h = refl
 
@@ -121,12 +124,14 @@ told_claim : (now stepped : Stepped) (x : Claim × Option Parts) → Some now �
 told_claim now stepped x is e = ap (λ (y : Stepped). claim_in y.reply) (same_Some now stepped is) ∙ e
 
 -- no other step tells one
-other : {X : Type 0} (now stepped : Stepped) (x : Claim × Option Parts) → claim_in now.reply ≡ None → Some now ≡ Some stepped → claim_in stepped.reply ≡ Some x → X
+other : {X : Type 0} (now stepped : Stepped) (x : Claim × Option Parts) → claim_in now.reply ≡ None → Some now ≡ Some stepped
+    → claim_in stepped.reply ≡ Some x → X
 other now stepped x plain is e =
     let clash : ◌≡◌ {A = Option (Claim × Option Parts)} None (Some x) = sym plain ∙ told_claim now stepped x is e in
     absurd (cc)
 
-by_decision : {X : Type 0} (s : StateSeen) (decision : Decision) (stepped : Stepped) (x : Claim × Option Parts) → claim_in decision.reply ≡ None → Some (decided s decision) ≡ Some stepped
+by_decision : {X : Type 0} (s : StateSeen) (decision : Decision) (stepped : Stepped) (x : Claim × Option Parts) → claim_in decision.reply ≡ None
+    → Some (decided s decision) ≡ Some stepped
     → claim_in stepped.reply ≡ Some x → X
 by_decision s decision stepped x plain is e = other (decided s decision) stepped x (decided_plain s decision.refusal decision.reply decision.desk plain) is e
 
@@ -136,16 +141,19 @@ made_plain d document (Err refusal) = refl
 
 reported_by : (d : DeskSeen) (request : RequestNo) (percent used : ℕ) (p : Submitted × (Request × Wanted)) (a b c : Bool)
     → claim_in
-    (cond (not a) (on_refused d request NotRunning) (cond b (on_refused d request (UsedTooLong p.1.0.seconds used)) (cond c (on_completed d request used p.0 p.1.1) (on_failed d request)))).reply
+    (cond (not a) (on_refused d request NotRunning)
+    (cond b (on_refused d request (UsedTooLong p.1.0.seconds used)) (cond c (on_completed d request used p.0 p.1.1) (on_failed d request)))).reply
     ≡ None
 reported_by d request percent used p false b c = refl
 reported_by d request percent used p true true c = refl
 reported_by d request percent used p true false true = refl
 reported_by d request percent used p true false false = refl
 
-reported_plain : (d : DeskSeen) (request : RequestNo) (percent used : ℕ) (o : Option (Submitted × (Request × Wanted))) → claim_in (on_reported d request percent used o).reply ≡ None
+reported_plain : (d : DeskSeen) (request : RequestNo) (percent used : ℕ) (o : Option (Submitted × (Request × Wanted)))
+    → claim_in (on_reported d request percent used o).reply ≡ None
 reported_plain d request percent used None = refl
-reported_plain d request percent used (Some p) = reported_by d request percent used p (is_placed d.progress.running request) (nat_lt p.1.0.seconds used) (nat_le p.1.1.threshold percent)
+reported_plain d request percent used (Some p) = reported_by d request percent used p (is_placed d.progress.running request)
+    (nat_lt p.1.0.seconds used) (nat_le p.1.1.threshold percent)
 
 shown_plain : (s : StateSeen) (o : Option (Submitted × Group)) → claim_in (told s (shown_group o)).reply ≡ None
 shown_plain s None = refl
@@ -171,8 +179,13 @@ unopened_plain s command.Export = refl
 unopened_plain s command.Balances = refl
 unopened_plain s (command.Show group) = refl
 
-publish_is : (s : StateSeen) (d : DeskSeen) (b : Bool) (v : Verdict) (asked : ℕ) (sent : Claim) (stepped : Stepped) (x : Claim × Option Parts) → (asked == s.version) ≡ b
-    → Some (decided s record { refusal = cond b (rejection v) (Some (Stale asked s.version)); reply = reply.Published sent; desk = with_publication s.version sent d }) ≡ Some stepped
+publish_is : (s : StateSeen) (d : DeskSeen) (b : Bool) (v : Verdict) (asked : ℕ) (sent : Claim) (stepped : Stepped) (x : Claim × Option Parts)
+    → (asked == s.version) ≡ b
+    → Some (decided s record {
+      refusal = cond b (rejection v) (Some (Stale asked s.version));
+      reply = reply.Published sent;
+      desk = with_publication s.version sent d;
+    }) ≡ Some stepped
     → claim_in stepped.reply ≡ Some x → Comes v s (Some d) (command.Publish asked sent) stepped x
 publish_is s d false v asked sent stepped x at h e = other (refused s (Stale asked s.version)) stepped x refl h e
 publish_is s d true (No reason) asked sent stepped x at h e = other (refused s (Rejected reason)) stepped x refl h e
@@ -181,7 +194,8 @@ publish_is s d true (Yes value bound) asked sent stepped x at h e =
     let left : stepped.state ≡ opened (s.version + 1) (with_publication s.version sent d) = sym (ap (λ (y : Stepped). y.state) (same_Some _ stepped h)) in
     subst (Comes (Yes value bound) s (Some d) (command.Publish asked sent) stepped) one (d, refl, (asked, refl, eqb-true asked s.version at, refl), left)
 
-export_is : (v : Verdict) (s : StateSeen) (d : DeskSeen) (o : Option PublicationSeen) (stepped : Stepped) (x : Claim × Option Parts) → d.published ≡ o → Some (told s (on_export o)) ≡ Some stepped
+export_is : (v : Verdict) (s : StateSeen) (d : DeskSeen) (o : Option PublicationSeen) (stepped : Stepped) (x : Claim × Option Parts) → d.published ≡ o
+    → Some (told s (on_export o)) ≡ Some stepped
     → claim_in stepped.reply ≡ Some x → Comes v s (Some d) command.Export stepped x
 export_is v s d None stepped x last h e = other (told s (on_export None)) stepped x refl h e
 export_is v s d (Some p) stepped x last h e =
@@ -190,11 +204,13 @@ export_is v s d (Some p) stepped x last h e =
     subst (Comes v s (Some d) command.Export stepped) one (d, refl, last, left)
 
 -- where the claim of a step comes from
-comes : (v : Verdict) (s : StateSeen) (o : Option DeskSeen) (c : Command) (stepped : Stepped) (x : Claim × Option Parts) → step_by v s o c ≡ Some stepped → claim_in stepped.reply ≡ Some x
+comes : (v : Verdict) (s : StateSeen) (o : Option DeskSeen) (c : Command) (stepped : Stepped) (x : Claim × Option Parts)
+    → step_by v s o c ≡ Some stepped → claim_in stepped.reply ≡ Some x
     → Comes v s o c stepped x
 comes v s None c stepped x h e = other (step_unopened s c) stepped x (unopened_plain s c) h e
 comes v s (Some d) (command.Open now slice horizon semester lanes rounds workers quota) stepped x h e = other (refused s AlreadyOpened) stepped x refl h e
-comes v s (Some d) (command.Instrument name front config readout change) stepped x h e = by_decision s (on_instrument d name (times front config readout change)) stepped x refl h e
+comes v s (Some d) (command.Instrument name front config readout change) stepped x h e =
+    by_decision s (on_instrument d name (times front config readout change)) stepped x refl h e
 comes v s (Some d) (command.Telescope site enclosure telescope class instruments) stepped x h e =
     by_decision s (on_telescope d record { site = site; enclosure = enclosure; telescope = telescope } class instruments) stepped x refl h e
 comes v s (Some d) (command.Night site spans) stepped x h e = by_decision s (on_night d site spans) stepped x refl h e
@@ -216,7 +232,8 @@ comes v s (Some d) (command.Show group) stepped x h e = other (told s (on_show d
 
 -- ---- the claim that a step tells
 
-greatest : (parts : Parts) (claim : Claim) → IsOrderly parts → IsCertified parts claim → (plan : List Placement) → IsFeasible parts plan → value_of_plan parts plan ≤ claim.bound
+greatest : (parts : Parts) (claim : Claim) → IsOrderly parts → IsCertified parts claim → (plan : List Placement) → IsFeasible parts plan
+    → value_of_plan parts plan ≤ claim.bound
 greatest parts claim o c plan f =
     let below : pos (value_of_plan parts plan) ≤ℤ pos claim.bound = duality parts claim.prices.0 claim.quota_prices.0 plan (pos claim.bound) o f c.bound in
     omega (arith, ints)
@@ -229,13 +246,15 @@ bounded_claim parts claim o c = record { certified = c; given = c.bound; greates
 abbrev pub IsPublishedRight : StateSeen → Type 0
 IsPublishedRight t = IfSome t.desk (λ d. IfSome d.published (λ p. IsOrderly p.snapshot × IsCheckable p.snapshot p.claim))
 
-published_bounded : (s t : StateSeen) (c : Command) (r : Reply) → IsStep s c record { reply = r; state = t } → IsPublishedRight t → (claim : Claim) → r ≡ reply.Published claim
+published_bounded : (s t : StateSeen) (c : Command) (r : Reply) → IsStep s c record { reply = r; state = t } → IsPublishedRight t → (claim : Claim)
+    → r ≡ reply.Published claim
     → (parts : Parts) × IsSnapshotOf s parts × IsBoundedClaim parts claim
 published_bounded s t c r h o claim e =
     let now = comes h.0 s s.desk c record { reply = r; state = t } (claim, None) h.2 (ap claim_in e) in
     let d = now.0 in
     let asked = now.2.0 in
-    let verdict : asked ≡ s.version → (parts : Parts) → IsSnapshotOf s parts → IsVerdict parts claim h.0 = subst (λ (k : Command). IsAsked s k h.0) now.2.1 h.1 in
+    let verdict : asked ≡ s.version → (parts : Parts) → IsSnapshotOf s parts → IsVerdict parts claim h.0 =
+    subst (λ (k : Command). IsAsked s k h.0) now.2.1 h.1 in
     let judged : IsVerdict (snapshot_of s.version d) claim h.0 = verdict now.2.2 (snapshot_of s.version d) (d, now.1, refl) in
     let certified = certified_by s.version d claim h.0 judged now.2.3 in
     let order : IsOrderly (snapshot_of s.version d) = (subst IsPublishedRight now.3 o).0 in
@@ -245,11 +264,13 @@ exported_right : (s t : StateSeen) (c : Command) (r : Reply) → IsStep s c reco
     → r ≡ reply.Exported claim parts → IsCheckable parts claim
 exported_right s t c r h o claim parts e =
     let now = comes h.0 s s.desk c record { reply = r; state = t } (claim, Some parts) h.2 (ap claim_in e) in
-    let there = subst (λ (desk : Option DeskSeen). IfSome desk (λ d. IfSome d.published (λ p. IsOrderly p.snapshot × IsCheckable p.snapshot p.claim))) now.1 (subst IsPublishedRight now.3 o) in
+    let there = subst (λ (desk : Option DeskSeen). IfSome desk (λ d. IfSome d.published (λ p. IsOrderly p.snapshot × IsCheckable p.snapshot p.claim)))
+    now.1 (subst IsPublishedRight now.3 o) in
     (subst (λ (last : Option PublicationSeen). IfSome last (λ p. IsOrderly p.snapshot × IsCheckable p.snapshot p.claim)) now.2 there).1
 
 -- a step that was made
-pub step_done : (s t : StateSeen) (c : Command) (r : Reply) → ¬ (IsPlanning s (Ok c)) → IsStep s c record { reply = r; state = t } → IsPublishedRight t → IsStepDone s (Ok c) r t
+pub step_done : (s t : StateSeen) (c : Command) (r : Reply) → ¬ (IsPlanning s (Ok c)) → IsStep s c record { reply = r; state = t }
+    → IsPublishedRight t → IsStepDone s (Ok c) r t
 step_done s t c r differs h o = record {
   differs = differs;
   replied = (record { reply = r; state = t }, h, refl);

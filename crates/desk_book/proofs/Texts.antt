@@ -1,5 +1,6 @@
 -- The text of a legal history tells it.
-use Rattle.std.proofs.Common.{◌≡◌, ℕ, ◌+◌, List, [], ◌∷◌, ◌++◌, map, Bool, true, false, cond, ◌==◌, refl, sym, ◌∙◌, ap, subst, inl, inr, Some, None, append_assoc}
+use Rattle.std.proofs.Common.{◌≡◌, ℕ, ◌+◌, List, [], ◌∷◌, ◌++◌, map, Bool, true, false, cond, ◌==◌, refl, sym, ◌∙◌, ap, subst, inl, inr, Some, None}
+use Rattle.std.proofs.Common.{append_assoc}
 use Rattle.std.specs.List.{last_or}
 use Rattle.std.proofs.lemmas.Bool.{eq-eqb}
 use Rattle.std.proofs.lemmas.List.{map-append}
@@ -11,7 +12,8 @@ use Rattle.desk_events.specs.declared.entry.What.TheVariants.{Line, Take, Publis
 use Rattle.desk_events.specs.declared.reply.Reply.{Reply}
 use Rattle.desk_events.specs.Laws.{told}
 use Rattle.desk_events.proofs.OneText.{one_history}
-use Rattle.desk_core.specs.History.{IsPlanning, script_of, entries_of, turns_of, read_at, replay, AreTurnsOf, AnswersPrefix, HasTaken, IsReply, IsEntry, IsLegal}
+use Rattle.desk_core.specs.History.{IsPlanning, script_of, entries_of, turns_of, read_at, replay, AreTurnsOf, AnswersPrefix, HasTaken, IsReply}
+use Rattle.desk_core.specs.History.{IsEntry, IsLegal}
 use Rattle.desk_book.specs.Laws.{TextTellsHistory}
 use Rattle.desk_book.proofs.Turns.{answers_more}
 
@@ -47,10 +49,13 @@ prefix_then script l k w xs ys (done, inl p) = starts_publish k w ys (take_then 
 prefix_then script l k w xs ys (done, inr p) =
     let before : List (ℕ × What) = p.0 in
     let last : List (ℕ × What) = (done + 1, Publish) ∷ [] in
-    let whole : AreTurnsOf 1 (before ++ (done + 1, Take) ∷ last) (done + 1 + 1) = answers_more 1 (done + 1) (done + 1 + 1) before ((done + 1, Take) ∷ last) p.3 (refl, refl, refl) in
+    let whole : AreTurnsOf 1 (before ++ (done + 1, Take) ∷ last) (done + 1 + 1) =
+    answers_more 1 (done + 1) (done + 1 + 1) before ((done + 1, Take) ∷ last) p.3 (refl, refl, refl) in
     let same : before ++ (done + 1, Take) ∷ last ≡ xs ++ (l, Take) ∷ (k, w) ∷ (ys ++ last) =
-    sym (append_assoc before ((done + 1, Take) ∷ []) last) ∙ ap (λ (ts : List (ℕ × What)). ts ++ last) (sym p.2) ∙ append_assoc xs ((l, Take) ∷ (k, w) ∷ ys) last in
-    starts_publish k w (ys ++ last) (take_then 1 (done + 1 + 1) l xs ((k, w) ∷ (ys ++ last)) (subst (λ (ts : List (ℕ × What)). AreTurnsOf 1 ts (done + 1 + 1)) same whole))
+    sym (append_assoc before ((done + 1, Take) ∷ []) last) ∙ ap (λ (ts : List (ℕ × What)). ts ++ last) (sym p.2)
+    ∙ append_assoc xs ((l, Take) ∷ (k, w) ∷ ys) last in
+    starts_publish k w (ys ++ last)
+    (take_then 1 (done + 1 + 1) l xs ((k, w) ∷ (ys ++ last)) (subst (λ (ts : List (ℕ × What)). AreTurnsOf 1 ts (done + 1 + 1)) same whole))
 
 -- a list that has a last entry ends with it
 last_by : (x : EventEntry) (xs : List EventEntry) (t : EventEntry) → last_or (Some x) xs ≡ Some t → (front : List EventEntry) × (x ∷ xs ≡ front ++ t ∷ [])
@@ -72,7 +77,8 @@ take_at : (l : ℕ) (w : What) (xs ys : List (ℕ × What)) → w ≡ Take → x
 take_at l w xs ys h = ap (λ (x : What). xs ++ (l, x) ∷ ys) h
 
 -- the entry of a caller after its Take is a Publish
-after_take : (scripts : List (List ScriptLine)) (before rest : List EventEntry) (x : EventEntry) (v : ℕ) → IsLegal scripts (before ++ x ∷ rest) → HasTaken before x.caller v → x.what ≡ Publish
+after_take : (scripts : List (List ScriptLine)) (before rest : List EventEntry) (x : EventEntry) (v : ℕ) → IsLegal scripts (before ++ x ∷ rest)
+    → HasTaken before x.caller v → x.what ≡ Publish
 after_take scripts before rest x v legal taken =
     let caller : ℕ = x.caller in
     let t : EventEntry = taken.0 in
@@ -90,13 +96,15 @@ after_take scripts before rest x v legal taken =
 -- ---- which part of its line an entry is
 
 -- of a line that asks for a plan the desk is asked the same
-same_plan : (scripts : List (List ScriptLine)) (before : List EventEntry) (x y : EventEntry) → x.caller ≡ y.caller → x.line ≡ y.line → IsPlanning (replay scripts before) (read_at scripts x)
+same_plan : (scripts : List (List ScriptLine)) (before : List EventEntry) (x y : EventEntry) → x.caller ≡ y.caller → x.line ≡ y.line
+    → IsPlanning (replay scripts before) (read_at scripts x)
     → IsPlanning (replay scripts before) (read_at scripts y)
 same_plan scripts before x y caller line h =
     let read : read_at scripts x ≡ read_at scripts y = cc in
     subst (λ r. IsPlanning (replay scripts before) r) read h
 
-by_parts : (scripts : List (List ScriptLine)) (before h k : List EventEntry) (x y : EventEntry) (a b : What) → IsLegal scripts (before ++ x ∷ h) → IsLegal scripts (before ++ y ∷ k)
+by_parts : (scripts : List (List ScriptLine)) (before h k : List EventEntry) (x y : EventEntry) (a b : What) → IsLegal scripts (before ++ x ∷ h)
+    → IsLegal scripts (before ++ y ∷ k)
     → x.caller ≡ y.caller → x.line ≡ y.line → x.what ≡ a → y.what ≡ b → IsReply scripts before x a → IsReply scripts before y b → a ≡ b
 by_parts scripts before h k x y Line Line l m caller line is is' r s = refl
 by_parts scripts before h k x y Line Take l m caller line is is' r s = absurd (r.0 (same_plan scripts before y x (sym caller) (sym line) s.0))
@@ -112,7 +120,8 @@ by_parts scripts before h k x y Publish Take l m caller line is is' r s =
     let publish : y.what ≡ Publish = after_take scripts before k y r.0 m (subst (λ (c : ℕ). HasTaken before c r.0) caller r.1) in sym publish ∙ is'
 by_parts scripts before h k x y Publish Publish l m caller line is is' r s = refl
 
-one_what : (scripts : List (List ScriptLine)) (before h k : List EventEntry) (x y : EventEntry) → IsLegal scripts (before ++ x ∷ h) → IsLegal scripts (before ++ y ∷ k) → x.caller ≡ y.caller
+one_what : (scripts : List (List ScriptLine)) (before h k : List EventEntry) (x y : EventEntry) → IsLegal scripts (before ++ x ∷ h)
+    → IsLegal scripts (before ++ y ∷ k) → x.caller ≡ y.caller
     → x.line ≡ y.line → x.what ≡ y.what
 one_what scripts before h k x y l m caller line =
     let ex : IsEntry scripts before x = l.each before h x refl in
@@ -129,9 +138,11 @@ one_entry x y same what =
     let version : x.version ≡ y.version = ap (λ p. p.2) same in
     let reply : x.reply ≡ y.reply = ap (λ p. p.3) same in
     ap (λ c. make c x.line x.what x.version x.reply) caller ∙ ap (λ l. make y.caller l x.what x.version x.reply) line
-    ∙ ap (λ w. make y.caller y.line w x.version x.reply) what ∙ ap (λ v. make y.caller y.line y.what v x.reply) version ∙ ap (λ r. make y.caller y.line y.what y.version r) reply
+    ∙ ap (λ w. make y.caller y.line w x.version x.reply) what ∙ ap (λ v. make y.caller y.line y.what v x.reply) version
+    ∙ ap (λ r. make y.caller y.line y.what y.version r) reply
 
-same_from : (scripts : List (List ScriptLine)) (before h k : List EventEntry) → IsLegal scripts (before ++ h) → IsLegal scripts (before ++ k) → map told h ≡ map told k → h ≡ k
+same_from : (scripts : List (List ScriptLine)) (before h k : List EventEntry) → IsLegal scripts (before ++ h) → IsLegal scripts (before ++ k)
+    → map told h ≡ map told k → h ≡ k
 same_from scripts before [] [] l m same = refl
 same_from scripts before [] (y ∷ k) l m same = cc
 same_from scripts before (x ∷ h) [] l m same = cc
@@ -149,4 +160,5 @@ same_from scripts before (x ∷ h) (y ∷ k) l m same =
     ap (λ (e : EventEntry). e ∷ h) one ∙ ap (λ (es : List EventEntry). y ∷ es) rest
 
 pub text_tells_history : TextTellsHistory
-text_tells_history scripts history other legal lawful telling exact same = same_from scripts [] history other legal lawful (one_history history other telling exact same)
+text_tells_history scripts history other legal lawful telling exact same =
+    same_from scripts [] history other legal lawful (one_history history other telling exact same)

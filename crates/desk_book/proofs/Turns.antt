@@ -24,18 +24,21 @@ alone_other false e h = refl
 -- the caller's own entry comes last, and that of another isn't among its entries
 pub entries_mine : (caller : ℕ) (h : List EventEntry) (e : EventEntry) → e.caller ≡ caller → entries_of caller (h ++ e ∷ []) ≡ entries_of caller h ++ e ∷ []
 entries_mine caller h e is =
-    filter-append (λ x. x.caller == caller) h (e ∷ []) ∙ ap (λ (es : List EventEntry). entries_of caller h ++ es) (alone_mine (e.caller == caller) e (eq-eqb e.caller caller is))
+    filter-append (λ x. x.caller == caller) h (e ∷ [])
+    ∙ ap (λ (es : List EventEntry). entries_of caller h ++ es) (alone_mine (e.caller == caller) e (eq-eqb e.caller caller is))
 
 pub entries_other : (caller : ℕ) (h : List EventEntry) (e : EventEntry) → e.caller ≢ caller → entries_of caller (h ++ e ∷ []) ≡ entries_of caller h
 entries_other caller h e is =
-    filter-append (λ x. x.caller == caller) h (e ∷ []) ∙ ap (λ (es : List EventEntry). entries_of caller h ++ es) (alone_other (e.caller == caller) e (ne_eqb e.caller caller is))
+    filter-append (λ x. x.caller == caller) h (e ∷ [])
+    ∙ ap (λ (es : List EventEntry). entries_of caller h ++ es) (alone_other (e.caller == caller) e (ne_eqb e.caller caller is))
     ∙ append-nil (entries_of caller h)
 
 -- the turns of entries
 abbrev turns : List EventEntry → List (ℕ × What)
 turns es = map (λ e. (e.line, e.what)) es
 
-pub turns_mine : (caller : ℕ) (h : List EventEntry) (e : EventEntry) → e.caller ≡ caller → turns_of caller (h ++ e ∷ []) ≡ turns_of caller h ++ (e.line, e.what) ∷ []
+pub turns_mine : (caller : ℕ) (h : List EventEntry) (e : EventEntry) → e.caller ≡ caller
+    → turns_of caller (h ++ e ∷ []) ≡ turns_of caller h ++ (e.line, e.what) ∷ []
 turns_mine caller h e is = ap turns (entries_mine caller h e is) ∙ map-append (λ x. (x.line, x.what)) (entries_of caller h) (e ∷ [])
 
 pub turns_other : (caller : ℕ) (h : List EventEntry) (e : EventEntry) → e.caller ≢ caller → turns_of caller (h ++ e ∷ []) ≡ turns_of caller h
@@ -53,13 +56,17 @@ no_end : (b : Bool) (n : ℕ) → b ≡ false → n + (0 + cond b 1 0) ≡ n
 no_end true n h = cc
 no_end false n h = omega arith
 
-pub done_more : (caller : ℕ) (h : List EventEntry) (e : EventEntry) → e.caller ≡ caller → ends_line e.what ≡ true → done_of caller (h ++ e ∷ []) ≡ done_of caller h + 1
+pub done_more : (caller : ℕ) (h : List EventEntry) (e : EventEntry) → e.caller ≡ caller → ends_line e.what ≡ true
+    → done_of caller (h ++ e ∷ []) ≡ done_of caller h + 1
 done_more caller h e is last =
-    ap ends (entries_mine caller h e is) ∙ sum_by-append (λ x. cond (ends_line x.what) 1 0) (entries_of caller h) (e ∷ []) ∙ one_end (ends_line e.what) (done_of caller h) last
+    ap ends (entries_mine caller h e is) ∙ sum_by-append (λ x. cond (ends_line x.what) 1 0) (entries_of caller h) (e ∷ [])
+    ∙ one_end (ends_line e.what) (done_of caller h) last
 
-pub done_same : (caller : ℕ) (h : List EventEntry) (e : EventEntry) → e.caller ≡ caller → ends_line e.what ≡ false → done_of caller (h ++ e ∷ []) ≡ done_of caller h
+pub done_same : (caller : ℕ) (h : List EventEntry) (e : EventEntry) → e.caller ≡ caller → ends_line e.what ≡ false
+    → done_of caller (h ++ e ∷ []) ≡ done_of caller h
 done_same caller h e is more =
-    ap ends (entries_mine caller h e is) ∙ sum_by-append (λ x. cond (ends_line x.what) 1 0) (entries_of caller h) (e ∷ []) ∙ no_end (ends_line e.what) (done_of caller h) more
+    ap ends (entries_mine caller h e is) ∙ sum_by-append (λ x. cond (ends_line x.what) 1 0) (entries_of caller h) (e ∷ [])
+    ∙ no_end (ends_line e.what) (done_of caller h) more
 
 pub done_other : (caller : ℕ) (h : List EventEntry) (e : EventEntry) → e.caller ≢ caller → done_of caller (h ++ e ∷ []) ≡ done_of caller h
 done_other caller h e is = ap ends (entries_other caller h e is)

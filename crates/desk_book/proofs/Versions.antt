@@ -1,5 +1,6 @@
 -- The version of an entry counts the changes that were accepted before it.
-use Rattle.std.proofs.Common.{◌≡◌, ℕ, ◌+◌, List, [], ◌∷◌, ◌++◌, Bool, true, false, not, cond, nat_lt, nat_le, refl, sym, ◌∙◌, ap, arith, count_by, Option, Some, None, Result}
+use Rattle.std.proofs.Common.{◌≡◌, ℕ, ◌+◌, List, [], ◌∷◌, ◌++◌, Bool, true, false, not, cond, nat_lt, nat_le, refl, sym, ◌∙◌, ap, arith, count_by}
+use Rattle.std.proofs.Common.{Option, Some, None, Result}
 use Rattle.std.proofs.Common.{Ok, Err, append_assoc, append-nil, subst}
 use Rattle.std.proofs.lemmas.List.Sums.{sum_by-append}
 use Rattle.plan_base.specs.declared.claim.Claim.{Claim}
@@ -33,7 +34,8 @@ use Rattle.desk_core.specs.Timing.{on_clock, on_report, on_reported, on_refused,
 use Rattle.desk_core.specs.Publishing.{on_publish}
 use Rattle.desk_core.specs.Showing.{on_export, shown_group}
 use Rattle.desk_core.specs.Step.{step_by}
-use Rattle.desk_core.specs.History.{read_at, after_line, with_published, after_publish, after_what, replay, IsLineReply, IsPublication, IsReply, IsEntry, EachAfter}
+use Rattle.desk_core.specs.History.{read_at, after_line, with_published, after_publish, after_what, replay, IsLineReply, IsPublication, IsReply}
+use Rattle.desk_core.specs.History.{IsEntry, EachAfter}
 use Rattle.desk_book.specs.Laws.{is_change, VersionsCount}
 use Rattle.desk_book.proofs.Histories.{replay_more, each_front}
 use Rattle.desk_book.proofs.Stepping.{step_left}
@@ -52,7 +54,8 @@ one_change : (b : Bool) (n : ℕ) → b ≡ true → n + 1 ≡ n + cond b 1 0
 one_change true n h = refl
 one_change false n h = cc
 
-by_refusal : (s : StateSeen) (refusal : Option Refusal) (r : Reply) (e : DeskSeen) → is_change r ≡ true → Counts s (Some (decided s record { refusal = refusal; reply = r; desk = e }))
+by_refusal : (s : StateSeen) (refusal : Option Refusal) (r : Reply) (e : DeskSeen) → is_change r ≡ true
+    → Counts s (Some (decided s record { refusal = refusal; reply = r; desk = e }))
 by_refusal s None r e h = one_change (is_change r) s.version h
 by_refusal s (Some refusal) r e h = omega arith
 
@@ -65,16 +68,19 @@ made_change d document (Err refusal) = refl
 
 reported_by : (d : DeskSeen) (request : RequestNo) (percent used : ℕ) (p : Submitted × (Request × Wanted)) (a b c : Bool)
     → is_change
-    (cond (not a) (on_refused d request NotRunning) (cond b (on_refused d request (UsedTooLong p.1.0.seconds used)) (cond c (on_completed d request used p.0 p.1.1) (on_failed d request)))).reply
+    (cond (not a) (on_refused d request NotRunning)
+    (cond b (on_refused d request (UsedTooLong p.1.0.seconds used)) (cond c (on_completed d request used p.0 p.1.1) (on_failed d request)))).reply
     ≡ true
 reported_by d request percent used p false b c = refl
 reported_by d request percent used p true true c = refl
 reported_by d request percent used p true false true = refl
 reported_by d request percent used p true false false = refl
 
-reported_change : (d : DeskSeen) (request : RequestNo) (percent used : ℕ) (o : Option (Submitted × (Request × Wanted))) → is_change (on_reported d request percent used o).reply ≡ true
+reported_change : (d : DeskSeen) (request : RequestNo) (percent used : ℕ) (o : Option (Submitted × (Request × Wanted)))
+    → is_change (on_reported d request percent used o).reply ≡ true
 reported_change d request percent used None = refl
-reported_change d request percent used (Some p) = reported_by d request percent used p (is_placed d.progress.running request) (nat_lt p.1.0.seconds used) (nat_le p.1.1.threshold percent)
+reported_change d request percent used (Some p) = reported_by d request percent used p (is_placed d.progress.running request)
+    (nat_lt p.1.0.seconds used) (nat_le p.1.1.threshold percent)
 
 export_counts : (s : StateSeen) (o : Option PublicationSeen) → Counts s (Some (told s (on_export o)))
 export_counts s None = omega arith
@@ -116,7 +122,8 @@ step_counts v s (Some d) (command.Submit document) = decision s (on_submit d doc
 step_counts v s (Some d) (command.Amend old document) = decision s (on_amend d old document) refl
 step_counts v s (Some d) (command.Withdraw group) = decision s (on_withdraw d group) refl
 step_counts v s (Some d) (command.Clock at) = decision s (on_clock d at) refl
-step_counts v s (Some d) (command.Report request percent used) = decision s (on_report d request percent used) (reported_change d request percent used (request_with d request))
+step_counts v s (Some d) (command.Report request percent used) =
+    decision s (on_report d request percent used) (reported_change d request percent used (request_with d request))
 step_counts v s (Some d) command.Plan = tt
 step_counts v s (Some d) (command.Publish asked claim) = decision s (on_publish v s.version d asked claim) refl
 step_counts v s (Some d) command.Export = export_counts s d.published
@@ -171,7 +178,8 @@ abbrev changes_in : List EventEntry → ℕ
 changes_in history = count_by (λ (x : EventEntry). is_change x.reply) history
 
 -- the replay's version is the number of changes, whatever comes after
-replay_counts : (scripts : List (List ScriptLine)) (before rest : List EventEntry) → EachAfter (IsEntry scripts) (before ++ rest) → (replay scripts before).version ≡ changes_in before
+replay_counts : (scripts : List (List ScriptLine)) (before rest : List EventEntry) → EachAfter (IsEntry scripts) (before ++ rest)
+    → (replay scripts before).version ≡ changes_in before
     → (replay scripts (before ++ rest)).version ≡ changes_in (before ++ rest)
 replay_counts scripts before [] h e = subst (λ (xs : List EventEntry). (replay scripts xs).version ≡ changes_in xs) (sym (append-nil before)) e
 replay_counts scripts before (x ∷ xs) h e =
@@ -179,7 +187,8 @@ replay_counts scripts before (x ∷ xs) h e =
     let whole : (before ++ x ∷ []) ++ xs ≡ before ++ x ∷ xs = append_assoc before (x ∷ []) xs in
     let now : (replay scripts (before ++ x ∷ [])).version ≡ (replay scripts before).version + change_of x.reply =
     ap (λ (s : StateSeen). s.version) (replay_more scripts before x) ∙ what_counts scripts before x x.what one.reply in
-    let more : changes_in (before ++ x ∷ []) ≡ changes_in before + changes_in (x ∷ []) = sum_by-append (λ (y : EventEntry). change_of y.reply) before (x ∷ []) in
+    let more : changes_in (before ++ x ∷ []) ≡ changes_in before + changes_in (x ∷ []) =
+    sum_by-append (λ (y : EventEntry). change_of y.reply) before (x ∷ []) in
     let last : changes_in (x ∷ []) ≡ change_of x.reply = omega arith in
     subst (λ (ys : List EventEntry). (replay scripts ys).version ≡ changes_in ys) whole
     (replay_counts scripts (before ++ x ∷ []) xs (subst (λ (ys : List EventEntry). EachAfter (IsEntry scripts) ys) (sym whole) h) (omega arith))

@@ -14,7 +14,8 @@ none_left [] n h = omega arith
 none_left (x ∷ xs) zero h = cc
 none_left (x ∷ xs) (suc n) h = let less : length xs ≤ n = none_left xs n h in omega arith
 
-all_done : (script : List ScriptLine) (turns : List (ℕ × What)) (n : ℕ) → IsPlace script turns n false → slice_get script n ≡ None → AreTurnsOf 1 turns (length script + 1)
+all_done : (script : List ScriptLine) (turns : List (ℕ × What)) (n : ℕ) → IsPlace script turns n false → slice_get script n ≡ None
+    → AreTurnsOf 1 turns (length script + 1)
 all_done script turns n p h =
     let low : n ≤ length script = p.0 in
     let same : n + 1 ≡ length script + 1 = omega (arith, none_left script n h) in

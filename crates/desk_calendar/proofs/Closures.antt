@@ -1,5 +1,6 @@
 -- Which seconds are closed after a line, telescope by telescope.
-use Rattle.std.proofs.Common.{◌≡◌, ◌∙◌, ap, sym, refl, ℕ, zero, suc, ◌<◌, ◌≤◌, Bool, true, false, cond, not, ◌&&◌, ◌||◌, nat_lt, List, [], ◌∷◌, length, replicate, arith}
+use Rattle.std.proofs.Common.{◌≡◌, ◌∙◌, ap, sym, refl, ℕ, zero, suc, ◌<◌, ◌≤◌, Bool, true, false, cond, not, ◌&&◌, ◌||◌, nat_lt, List, [], ◌∷◌, length}
+use Rattle.std.proofs.Common.{replicate, arith}
 use Rattle.std.specs.Prelude.{IsTrue, if◌then◌else◌}
 use Rattle.std.proofs.lemmas.Bool.Decides.{nat_tests}
 use Rattle.plan_base.specs.declared.span.Span.{Span}
@@ -30,7 +31,8 @@ after_closing c codes old = closures_after c.change c.scope c.spans codes old
 
 decided : (change : Change) (old spans : List Span) (x : ℕ) (early was is : Bool) → early ≡ nat_lt x end_of_time → was ≡ has old x → is ≡ has spans x
     → (was ≡ true → early ≡ true) → (is ≡ true → early ≡ true) → (nat_lt x end_of_time && closed_after change old spans x) ≡ cond is (is_close change) was
-decided Close old spans x early was is e w s a b = ap (λ v. v && (has old x || has spans x)) (sym e) ∙ ap (λ v. early && (v || has spans x)) (sym w) ∙ ap (λ v. early && (was || v)) (sym s) ∙ by early was is a b
+decided Close old spans x early was is e w s a b = ap (λ v. v && (has old x || has spans x)) (sym e) ∙ ap (λ v. early && (v || has spans x)) (sym w)
+    ∙ ap (λ v. early && (was || v)) (sym s) ∙ by early was is a b
   where
     by : (early was is : Bool) → (was ≡ true → early ≡ true) → (is ≡ true → early ≡ true) → (early && (was || is)) ≡ cond is true was
     by true true true a b = refl
@@ -40,7 +42,8 @@ decided Close old spans x early was is e w s a b = ap (λ v. v && (has old x || 
     by false true is a b = let no = a refl in absurd (cc)
     by false false true a b = let no = b refl in absurd (cc)
     by false false false a b = refl
-decided Reopen old spans x early was is e w s a b = ap (λ v. v && (has old x && not (has spans x))) (sym e) ∙ ap (λ v. early && (v && not (has spans x))) (sym w) ∙ ap (λ v. early && (was && not v)) (sym s) ∙ by early was is a b
+decided Reopen old spans x early was is e w s a b = ap (λ v. v && (has old x && not (has spans x))) (sym e)
+    ∙ ap (λ v. early && (v && not (has spans x))) (sym w) ∙ ap (λ v. early && (was && not v)) (sym s) ∙ by early was is a b
   where
     by : (early was is : Bool) → (was ≡ true → early ≡ true) → (is ≡ true → early ≡ true) → (early && (was && not is)) ≡ cond is false was
     by true true true a b = refl
@@ -70,7 +73,8 @@ line_decides c [] old t x le early more = refl
 line_decides c (k ∷ codes) [] t x le early more = absurd (omega arith)
 line_decides c (k ∷ codes) (o ∷ old) zero x le early more = by (in_scope c.scope k)
   where
-    by : (b : Bool) → has (if b then spans_below (closed_after c.change o c.spans) end_of_time else o) x ≡ cond (b && has c.spans x) (is_close c.change) (has o x)
+    by : (b : Bool) → has (if b then spans_below (closed_after c.change o c.spans) end_of_time else o) x ≡ cond (b && has c.spans x)
+        (is_close c.change) (has o x)
     by true = changed_has c.change o c.spans x (early 0) more
     by false = refl
 line_decides c (k ∷ codes) (o ∷ old) (suc t) x le early more = line_decides c codes old t x (omega (arith, le)) (λ s. early (suc s)) more

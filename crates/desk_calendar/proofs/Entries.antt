@@ -67,7 +67,8 @@ report_stays d request percent used = by (request_with d request)
     at_least false w q = record { telescopes = refl; sites = refl; closures = refl; nights = refl; targets = ([], refl); skies = refl }
 
     not_long : (b : Bool) (p : Submitted × (Request × Wanted))
-        → Stays d.network (if b then on_refused d request (UsedTooLong p.1.0.seconds used) else (if nat_le p.1.1.threshold percent then on_completed d request used p.0 p.1.1 else on_failed d request)).desk.network
+        → Stays d.network (if b then on_refused d request (UsedTooLong p.1.0.seconds used)
+        else (if nat_le p.1.1.threshold percent then on_completed d request used p.0 p.1.1 else on_failed d request)).desk.network
     not_long true p = record { telescopes = refl; sites = refl; closures = refl; nights = refl; targets = ([], refl); skies = refl }
     not_long false p = at_least (nat_le p.1.1.threshold percent) p.0 p.1.1
 
@@ -96,11 +97,13 @@ decided_goes : (version : ℕ) (d : DeskSeen) (c : Command) (decision : Decision
     → Some (decided (opened version d) decision) ≡ Some stepped → (decision.refusal ≡ None → Goes (Ok c) decision.reply d.network decision.desk.network)
     → Goes (Ok c) stepped.reply d.network (network_of (decided (opened version d) decision).state)
 decided_goes version d c decision stepped is goes =
-    subst (λ (s : Stepped). Goes (Ok c) s.reply d.network (network_of (decided (opened version d) decision).state)) (same_Some (decided (opened version d) decision) stepped is)
+    subst (λ (s : Stepped). Goes (Ok c) s.reply d.network (network_of (decided (opened version d) decision).state))
+    (same_Some (decided (opened version d) decision) stepped is)
     (by decision.refusal goes)
   where
     by : (refusal : Option Refusal) → (refusal ≡ None → Goes (Ok c) decision.reply d.network decision.desk.network)
-        → (let s : Stepped = decided (opened version d) (record { refusal = refusal; reply = decision.reply; desk = decision.desk }) in Goes (Ok c) s.reply d.network (network_of s.state))
+        → (let s : Stepped = decided (opened version d) (record { refusal = refusal; reply = decision.reply; desk = decision.desk }) in
+        Goes (Ok c) s.reply d.network (network_of s.state))
     by None go = go refl
     by (Some r) go = quiet_goes (Ok c) (reply.Refused r) d.network d.network (quiet_refused (Ok c) r) (stays d.network)
 
@@ -183,8 +186,10 @@ line_unopened version c stepped is =
 
 -- ---- entries
 
-line_goes : (version : ℕ) (o : Option DeskSeen) (v w : Verdict) (c : Command) (stepped : Stepped) → IsCommand c → step_by v (record { version = version; desk = o }) o c ≡ Some stepped
-    → Goes (Ok c) stepped.reply (network_in o) (network_of (left_by (record { version = version; desk = o }) (step_by w (record { version = version; desk = o }) o c)))
+line_goes : (version : ℕ) (o : Option DeskSeen) (v w : Verdict) (c : Command) (stepped : Stepped) → IsCommand c
+    → step_by v (record { version = version; desk = o }) o c ≡ Some stepped
+    → Goes (Ok c) stepped.reply (network_in o)
+    (network_of (left_by (record { version = version; desk = o }) (step_by w (record { version = version; desk = o }) o c)))
 line_goes version None v w c stepped ranges is = line_unopened version c stepped is
 line_goes version (Some d) v w c stepped ranges is = line_opened version d v w c stepped ranges is
 
@@ -199,9 +204,11 @@ claim_stays : (s : StateSeen) (o : Option DeskSeen) (claim : Claim) → s.desk �
 claim_stays s None claim is = stays (network_of s)
 claim_stays s (Some d) claim is = subst (Stays (network_of s)) (ap network_in is) (stays (network_of s))
 
-published_entry : (s : StateSeen) (v : ℕ) (line : Result Command CommandFault) (answer : Reply) → IsPublication s v answer → Goes line answer (network_of s) (network_of (after_publish s answer))
+published_entry : (s : StateSeen) (v : ℕ) (line : Result Command CommandFault) (answer : Reply) → IsPublication s v answer
+    → Goes line answer (network_of s) (network_of (after_publish s answer))
 published_entry s v line (reply.Published claim) p =
-    quiet_goes line (reply.Published claim) (network_of s) (network_of (with_published s s.desk claim)) (quiet_published line claim) (claim_stays s s.desk claim refl)
+    quiet_goes line (reply.Published claim) (network_of s) (network_of (with_published s s.desk claim)) (quiet_published line claim)
+    (claim_stays s s.desk claim refl)
 published_entry s v line (reply.Refused r) p =
     quiet_goes line (reply.Refused r) (network_of s) (network_of s) (quiet_refused line r) (stays (network_of s))
 published_entry s v line _ p = absurd p

@@ -41,7 +41,8 @@ pub record IsTold (scripts : List (List ScriptLine)) (before : List EventEntry) 
   pub only : (t x : ℕ) → IsClosedByLatest scripts before t x → IsTrue (has (set_at closures t) x)
 
 -- an entry that tells no line leaves them
-none_more : (scripts : List (List ScriptLine)) (before : List EventEntry) (e : EventEntry) (closures : List (List Span)) → closing_told scripts e ≡ None → IsTold scripts before closures
+none_more : (scripts : List (List ScriptLine)) (before : List EventEntry) (e : EventEntry) (closures : List (List Span))
+    → closing_told scripts e ≡ None → IsTold scripts before closures
     → IsTold scripts (before ++ e ∷ []) closures
 none_more scripts before e closures none h =
     let away : (t x : ℕ) → IsNoneAbout scripts before e t x = λ t x change about. let says = about.says in absurd (cc) in
@@ -53,7 +54,8 @@ none_more scripts before e closures none h =
     }
 
 -- a line changes them
-line_more : (scripts : List (List ScriptLine)) (before : List EventEntry) (e : EventEntry) (c : Closing) (closures : List (List Span)) → closing_told scripts e ≡ Some c
+line_more : (scripts : List (List ScriptLine)) (before : List EventEntry) (e : EventEntry) (c : Closing) (closures : List (List Span))
+    → closing_told scripts e ≡ Some c
     → length (telescopes_told scripts before) ≤ most_telescopes → IsEarly c.spans → IsTold scripts before closures
     → IsTold scripts (before ++ e ∷ []) (after_closing c (telescopes_told scripts before) closures)
 line_more scripts before e c closures says few more h =
@@ -71,7 +73,8 @@ line_more scripts before e c closures says few more h =
     none : (t x : ℕ) → is_about c (telescopes_told scripts before) t x ≡ false → IsNoneAbout scripts before e t x
     none t x e' change about = true≢false (sym (about_only scripts before e c change t x says about) ∙ e')
 
-    early : (t x : ℕ) (b : Bool) → is_about c (telescopes_told scripts before) t x ≡ b → cond b (is_close c.change) (has (set_at closures t) x) ≡ true → x < end_of_time
+    early : (t x : ℕ) (b : Bool) → is_about c (telescopes_told scripts before) t x ≡ b
+        → cond b (is_close c.change) (has (set_at closures t) x) ≡ true → x < end_of_time
     early t x true e' is = more x (and_parts _ (has c.spans x) e').1
     early t x false e' is = h.early t x is
 
@@ -85,7 +88,8 @@ line_more scripts before e c closures says few more h =
     only t x true e' k = closes_if scripts before e c.change t x (about_if scripts before e c t x says e') k
     only t x false e' k = h.only t x (was_closed scripts before e t x (none t x e') k)
 
-closures_more : (scripts : List (List ScriptLine)) (before : List EventEntry) (e : EventEntry) (o : Option Closing) (closures : List (List Span)) → closing_told scripts e ≡ o
+closures_more : (scripts : List (List ScriptLine)) (before : List EventEntry) (e : EventEntry) (o : Option Closing) (closures : List (List Span))
+    → closing_told scripts e ≡ o
     → length (telescopes_told scripts before) ≤ most_telescopes → IfSome o (λ c. IsEarly c.spans) → IsTold scripts before closures
     → IsTold scripts (before ++ e ∷ []) (closures_by o (telescopes_told scripts before) closures)
 closures_more scripts before e None closures says few more h = none_more scripts before e closures says h
@@ -102,11 +106,13 @@ pub record AreTold (scripts : List (List ScriptLine)) (before : List EventEntry)
   pub nights : AreNights n.registry.sites n.calendar.nights (night_said scripts before)
   pub skies : AreSkies n.registry.targets n.registry.sites n.calendar.skies (sky_said scripts before)
 
-told_more : (scripts : List (List ScriptLine)) (before : List EventEntry) (e : EventEntry) (n m : NetworkSeen) → AreTold scripts before n → Goes (read_at scripts e) e.reply n m
+told_more : (scripts : List (List ScriptLine)) (before : List EventEntry) (e : EventEntry) (n m : NetworkSeen) → AreTold scripts before n
+    → Goes (read_at scripts e) e.reply n m
     → AreTold scripts (before ++ e ∷ []) m
 told_more scripts before e n m h g =
     let told : IsTold scripts (before ++ e ∷ []) (closures_by (closing_told scripts e) (telescopes_told scripts before) n.calendar.closures) =
-    closures_more scripts before e (closing_told scripts e) n.calendar.closures refl (subst (λ (l : List Code). length l ≤ most_telescopes) h.codes h.few) g.spans h.closures in
+    closures_more scripts before e (closing_told scripts e) n.calendar.closures refl
+    (subst (λ (l : List Code). length l ≤ most_telescopes) h.codes h.few) g.spans h.closures in
     record {
       codes = g.codes ∙ ap (λ (l : List Code). l ++ option_to_list (code_told scripts e)) h.codes ∙ sym (codes-push scripts before e);
       few = g.room h.few;
@@ -136,18 +142,22 @@ none_told scripts = record {
 -- ---- histories
 
 -- after one entry more
-entry_told : (scripts : List (List ScriptLine)) (before : List EventEntry) (e : EventEntry) → IsEntry scripts before e → AreTold scripts before (network_of (replay scripts before))
+entry_told : (scripts : List (List ScriptLine)) (before : List EventEntry) (e : EventEntry) → IsEntry scripts before e
+    → AreTold scripts before (network_of (replay scripts before))
     → AreTold scripts (before ++ e ∷ []) (network_of (replay scripts (before ++ e ∷ [])))
 entry_told scripts before e is h =
     subst (λ s. AreTold scripts (before ++ e ∷ []) (network_of s)) (sym (fold_push (after_entry scripts) start before e))
-    (told_more scripts before e (network_of (replay scripts before)) (network_of (after_entry scripts (replay scripts before) e)) h (what_goes scripts before e e.what is.reply))
+    (told_more scripts before e (network_of (replay scripts before)) (network_of (after_entry scripts (replay scripts before) e)) h
+    (what_goes scripts before e e.what is.reply))
 
 -- after all entries
 told_after : (scripts : List (List ScriptLine)) (history before after : List EventEntry) → EachAfter (IsEntry scripts) history → history ≡ before ++ after
     → AreTold scripts before (network_of (replay scripts before)) → AreTold scripts history (network_of (replay scripts history))
-told_after scripts history before [] each is h = subst (λ (l : List EventEntry). AreTold scripts l (network_of (replay scripts l))) (sym (is ∙ append-nil before)) h
+told_after scripts history before [] each is h = subst (λ (l : List EventEntry). AreTold scripts l (network_of (replay scripts l)))
+    (sym (is ∙ append-nil before)) h
 told_after scripts history before (e ∷ after) each is h =
-    told_after scripts history (before ++ e ∷ []) after each (is ∙ sym (append_assoc before (e ∷ []) after)) (entry_told scripts before e (each before after e is) h)
+    told_after scripts history (before ++ e ∷ []) after each (is ∙ sym (append_assoc before (e ∷ []) after))
+    (entry_told scripts before e (each before after e is) h)
 
 -- each entry of a beginning is one of the whole
 each_before : (R : List EventEntry → EventEntry → Type 0) (before after : List EventEntry) → EachAfter R (before ++ after) → EachAfter R before

@@ -1,5 +1,6 @@
 -- Which line is the latest that is about a second, in a history with one entry more.
-use Rattle.std.proofs.Common.{◌≡◌, ◌⊎◌, ◌∙◌, ap, sym, subst, refl, ℕ, Bool, true, false, inl, inr, List, [], ◌∷◌, ◌++◌, Option, Some, None, slice_get, true≢false}
+use Rattle.std.proofs.Common.{◌≡◌, ◌⊎◌, ◌∙◌, ap, sym, subst, refl, ℕ, Bool, true, false, inl, inr, List, [], ◌∷◌, ◌++◌, Option, Some, None, slice_get}
+use Rattle.std.proofs.Common.{true≢false}
 use Rattle.std.specs.Prelude.{◌&&◌}
 use Rattle.std.specs.Option.{option_map_or}
 use Rattle.std.proofs.lemmas.Bool.{and_parts}
@@ -59,16 +60,19 @@ about_if scripts before e c t x says is =
     record { scope = c.scope; spans = c.spans; says = says; code = found.0; registered = found.1; inside = found.2; second = parts.1 }
 
 -- and where it is, the test says so
-pub about_only : (scripts : List (List ScriptLine)) (before : List EventEntry) (e : EventEntry) (c : Closing) (change : Change) (t x : ℕ) → closing_told scripts e ≡ Some c
+pub about_only : (scripts : List (List ScriptLine)) (before : List EventEntry) (e : EventEntry) (c : Closing) (change : Change) (t x : ℕ)
+    → closing_told scripts e ≡ Some c
     → IsAbout scripts before e change t x → is_about c (telescopes_told scripts before) t x ≡ true
 about_only scripts before e c change t x says h =
     let own : Closing = record { change = change; scope = h.scope; spans = h.spans } in
     let same : own ≡ c = same_Some own c (sym h.says ∙ says) in
-    let there : is_inside h.scope (telescopes_told scripts before) t ≡ true = ap (λ (o : Option Code). option_map_or (in_scope h.scope) o false) h.registered ∙ h.inside in
+    let there : is_inside h.scope (telescopes_told scripts before) t ≡ true =
+    ap (λ (o : Option Code). option_map_or (in_scope h.scope) o false) h.registered ∙ h.inside in
     ap (λ (l : Closing). is_about l (telescopes_told scripts before) t x) (sym same) ∙ ap (λ (b : Bool). b && has h.spans x) there ∙ h.second
 
 -- a line doesn't close and reopen
-one_change : (scripts : List (List ScriptLine)) (before : List EventEntry) (e : EventEntry) (t x : ℕ) → IsAbout scripts before e Close t x → IsAbout scripts before e Reopen t x → ⊥
+one_change : (scripts : List (List ScriptLine)) (before : List EventEntry) (e : EventEntry) (t x : ℕ) → IsAbout scripts before e Close t x
+    → IsAbout scripts before e Reopen t x → ⊥
 one_change scripts before e t x h k =
     let closing : Closing = record { change = Close; scope = h.scope; spans = h.spans } in
     let reopening : Closing = record { change = Reopen; scope = k.scope; spans = k.spans } in
@@ -76,7 +80,8 @@ one_change scripts before e t x h k =
     true≢false (ap is_close same)
 
 -- the same entry after the same ones
-moved : (scripts : List (List ScriptLine)) (b c : List EventEntry) (e f : EventEntry) (change : Change) (t x : ℕ) → b ≡ c → e ≡ f → IsAbout scripts c f change t x
+moved : (scripts : List (List ScriptLine)) (b c : List EventEntry) (e f : EventEntry) (change : Change) (t x : ℕ) → b ≡ c → e ≡ f
+    → IsAbout scripts c f change t x
     → IsAbout scripts b e change t x
 moved scripts b c e f change t x same one h =
     subst (λ (l : List EventEntry). IsAbout scripts l e change t x) (sym same) (subst (λ (g : EventEntry). IsAbout scripts c g change t x) (sym one) h)
@@ -88,7 +93,8 @@ abbrev pub IsNoneAbout : List (List ScriptLine) → List EventEntry → EventEnt
 IsNoneAbout scripts before e t x = (change : Change) → IsAbout scripts before e change t x → ⊥
 
 -- a `close` that is about the second is the latest
-closed_now : (scripts : List (List ScriptLine)) (before : List EventEntry) (e : EventEntry) (t x : ℕ) → IsAbout scripts before e Close t x → IsClosedByLatest scripts (before ++ e ∷ []) t x
+closed_now : (scripts : List (List ScriptLine)) (before : List EventEntry) (e : EventEntry) (t x : ℕ) → IsAbout scripts before e Close t x
+    → IsClosedByLatest scripts (before ++ e ∷ []) t x
 closed_now scripts before e t x h = record {
   before = before;
   latest = e;
@@ -99,14 +105,16 @@ closed_now scripts before e t x h = record {
 }
 
 -- after a `reopen` that is about the second the latest is no `close`
-not_reopened : (scripts : List (List ScriptLine)) (before : List EventEntry) (e : EventEntry) (t x : ℕ) → IsAbout scripts before e Reopen t x → IsClosedByLatest scripts (before ++ e ∷ []) t x → ⊥
+not_reopened : (scripts : List (List ScriptLine)) (before : List EventEntry) (e : EventEntry) (t x : ℕ) → IsAbout scripts before e Reopen t x
+    → IsClosedByLatest scripts (before ++ e ∷ []) t x → ⊥
 not_reopened scripts before e t x h k = elim (split_last before k.before k.after e k.latest k.is) [
   | inl s ↦ one_change scripts before e t x (moved scripts before k.before e k.latest Close t x s.0 s.1 k.closes) h
   | inr s ↦ k.none s.0 [] e Reopen s.1 (subst (λ (l : List EventEntry). IsAbout scripts l e Reopen t x) s.2 h)
 ]
 
 -- a line that is about the second decides
-pub closed_by : (scripts : List (List ScriptLine)) (before : List EventEntry) (e : EventEntry) (change : Change) (t x : ℕ) → IsAbout scripts before e change t x → is_close change ≡ true
+pub closed_by : (scripts : List (List ScriptLine)) (before : List EventEntry) (e : EventEntry) (change : Change) (t x : ℕ)
+    → IsAbout scripts before e change t x → is_close change ≡ true
     → IsClosedByLatest scripts (before ++ e ∷ []) t x
 closed_by scripts before e Close t x h is = closed_now scripts before e t x h
 closed_by scripts before e Reopen t x h is = absurd (true≢false (sym is))
@@ -117,7 +125,8 @@ closes_if scripts before e Close t x h k = refl
 closes_if scripts before e Reopen t x h k = absurd (not_reopened scripts before e t x h k)
 
 -- an entry that is no line about the second leaves the latest
-pub still_closed : (scripts : List (List ScriptLine)) (before : List EventEntry) (e : EventEntry) (t x : ℕ) → IsNoneAbout scripts before e t x → IsClosedByLatest scripts before t x
+pub still_closed : (scripts : List (List ScriptLine)) (before : List EventEntry) (e : EventEntry) (t x : ℕ) → IsNoneAbout scripts before e t x
+    → IsClosedByLatest scripts before t x
     → IsClosedByLatest scripts (before ++ e ∷ []) t x
 still_closed scripts before e t x away k = record {
   before = k.before;
@@ -126,12 +135,14 @@ still_closed scripts before e t x away k = record {
   is = ap (λ (l : List EventEntry). l ++ e ∷ []) k.is ∙ append_assoc k.before (k.latest ∷ k.after) (e ∷ []);
   closes = k.closes;
   none = λ b a f change is about. elim (split_last k.after b a e f is) [
-    | inl s ↦ away change (moved scripts before (k.before ++ k.latest ∷ b) e f change t x (k.is ∙ ap (λ (l : List EventEntry). k.before ++ k.latest ∷ l) s.0) s.1 about)
+    | inl s ↦ away change (moved scripts before (k.before ++ k.latest ∷ b) e f change t x
+        (k.is ∙ ap (λ (l : List EventEntry). k.before ++ k.latest ∷ l) s.0) s.1 about)
     | inr s ↦ k.none b s.0 f change s.2 about
   ];
 }
 
-pub was_closed : (scripts : List (List ScriptLine)) (before : List EventEntry) (e : EventEntry) (t x : ℕ) → IsNoneAbout scripts before e t x → IsClosedByLatest scripts (before ++ e ∷ []) t x
+pub was_closed : (scripts : List (List ScriptLine)) (before : List EventEntry) (e : EventEntry) (t x : ℕ) → IsNoneAbout scripts before e t x
+    → IsClosedByLatest scripts (before ++ e ∷ []) t x
     → IsClosedByLatest scripts before t x
 was_closed scripts before e t x away k = elim (split_last before k.before k.after e k.latest k.is) [
   | inl s ↦ absurd (away Close (moved scripts before k.before e k.latest Close t x s.0 s.1 k.closes))
@@ -141,7 +152,8 @@ was_closed scripts before e t x away k = elim (split_last before k.before k.afte
     after = s.0;
     is = s.2;
     closes = k.closes;
-    none = λ b a f change is about. k.none b (a ++ e ∷ []) f change (s.1 ∙ ap (λ (l : List EventEntry). l ++ e ∷ []) is ∙ append_assoc b (f ∷ a) (e ∷ [])) about;
+    none = λ b a f change is about. k.none b (a ++ e ∷ []) f change (s.1 ∙ ap (λ (l : List EventEntry). l ++ e ∷ []) is
+        ∙ append_assoc b (f ∷ a) (e ∷ [])) about;
   }
 ]
 

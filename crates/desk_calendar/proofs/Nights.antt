@@ -1,5 +1,6 @@
 -- Which seconds the nights of sites have after a line, name by name.
-use Rattle.std.proofs.Common.{◌≡◌, ◌≢◌, ◌∙◌, ap, sym, refl, ℕ, ◌+◌, ◌<◌, ◌≤◌, ◌&&◌, Bool, true, false, cond, nat_lt, List, [], ◌∷◌, ◌++◌, length, get_or, Option, Some, None, true≢false, arith, inl, inr}
+use Rattle.std.proofs.Common.{◌≡◌, ◌≢◌, ◌∙◌, ap, sym, refl, ℕ, ◌+◌, ◌<◌, ◌≤◌, ◌&&◌, Bool, true, false, cond, nat_lt, List, [], ◌∷◌, ◌++◌, length}
+use Rattle.std.proofs.Common.{get_or, Option, Some, None, true≢false, arith, inl, inr}
 use Rattle.std.proofs.Common.{get_or-set_same, get_or-set_other, length-append, length-set}
 use Rattle.std.specs.Prelude.{if◌then◌else◌, slice_set}
 use Rattle.std.specs.Option.{option_map_or}
@@ -31,7 +32,8 @@ kept_seconds spans x early = (set_below (has spans) end_of_time).seconds x ∙ b
 -- ---- names that are new
 
 -- a name that had no number, and has one with another name, has none of the old numbers
-pub new_number : (names : List (List ℕ)) (new other : List ℕ) (n : ℕ) → number_of names other ≡ None → number_of (numbered names new) other ≡ Some n → length names ≤ n
+pub new_number : (names : List (List ℕ)) (new other : List ℕ) (n : ℕ) → number_of names other ≡ None
+    → number_of (numbered names new) other ≡ Some n → length names ≤ n
 new_number names new other n none some = by (is_named names new) some
   where
     far : number_of (names ++ new ∷ []) other ≡ Some n → n < length names → ⊥
@@ -64,7 +66,8 @@ nights_by None sites nights = nights
 nights_by (Some night) sites nights = option_map_or (λ s. slice_set nights s (spans_of night.spans)) (number_of sites night.site) nights
 
 -- another night of a site is that of its name alone
-night_with : (sites : List (List ℕ)) (nights : List (List Span)) (name : List ℕ) (s : ℕ) (new : List Span) (site : List ℕ) (x : ℕ) → number_of sites name ≡ Some s → s < length nights
+night_with : (sites : List (List ℕ)) (nights : List (List Span)) (name : List ℕ) (s : ℕ) (new : List Span) (site : List ℕ) (x : ℕ)
+    → number_of sites name ≡ Some s → s < length nights
     → night_has sites (slice_set nights s new) site x ≡ cond (is_name site name) (has new x) (night_has sites nights site x)
 night_with sites nights name s new site x there lt = by (number_of sites site) refl (is_name site name) refl
   where
@@ -94,12 +97,15 @@ pub record AreNights (sites : List (List ℕ)) (nights : List (List Span)) (told
   pub is : (site : List ℕ) (x : ℕ) → night_has sites nights site x ≡ told site x
 
 -- after a line
-pub with_line : (sites : List (List ℕ)) (nights : List (List Span)) (told : List ℕ → ℕ → Bool) (night : SiteNight) → IsEarly night.spans → is_named sites night.site ≡ true
-    → AreNights sites nights told → AreNights sites (nights_by (Some night) sites nights) (λ site x. cond (is_name site night.site) (has night.spans x) (told site x))
+pub with_line : (sites : List (List ℕ)) (nights : List (List Span)) (told : List ℕ → ℕ → Bool) (night : SiteNight) → IsEarly night.spans
+    → is_named sites night.site ≡ true
+    → AreNights sites nights told → AreNights sites (nights_by (Some night) sites nights)
+    (λ site x. cond (is_name site night.site) (has night.spans x) (told site x))
 with_line sites nights told night early named h = by (number_of sites night.site) refl
   where
     by : (o : Option ℕ) → number_of sites night.site ≡ o
-        → AreNights sites (option_map_or (λ s. slice_set nights s (spans_of night.spans)) o nights) (λ site x. cond (is_name site night.site) (has night.spans x) (told site x))
+        → AreNights sites (option_map_or (λ s. slice_set nights s (spans_of night.spans)) o nights)
+        (λ site x. cond (is_name site night.site) (has night.spans x) (told site x))
     by None at = absurd (true≢false (sym named ∙ list_any-none (is_name night.site) sites at))
     by (Some s) at =
         let below : s < length sites = number_within sites night.site s at in
@@ -108,7 +114,8 @@ with_line sites nights told night early named h = by (number_of sites night.site
         record {
           few = h.few;
           places = length-set nights s (spans_of night.spans) ∙ h.places;
-          empty = λ k x far. ap (λ l. has l x) (get_or-set_other nights s k (spans_of night.spans) [] (λ same. absurd (omega (arith, far, below, same)))) ∙ h.empty k x far;
+          empty = λ k x far. ap (λ l. has l x)
+              (get_or-set_other nights s k (spans_of night.spans) [] (λ same. absurd (omega (arith, far, below, same)))) ∙ h.empty k x far;
           is = λ site x.
               night_with sites nights night.site s (spans_of night.spans) site x at (omega (arith, below, few, places))
               ∙ ap (λ v. cond (is_name site night.site) v (night_has sites nights site x)) (kept_seconds night.spans x early)
@@ -129,10 +136,12 @@ with_site sites nights told new few h = record {
     longer true = omega arith
     longer false = let long : length (sites ++ new ∷ []) ≡ length sites + 1 = length-append sites (new ∷ []) in omega (arith, long)
 
-    fresh : (site : List ℕ) (x : ℕ) (o : Option ℕ) → number_of sites site ≡ None → number_of (numbered sites new) site ≡ o → option_map_or (λ k. has (set_at nights k) x) o false ≡ false
+    fresh : (site : List ℕ) (x : ℕ) (o : Option ℕ) → number_of sites site ≡ None → number_of (numbered sites new) site ≡ o
+        → option_map_or (λ k. has (set_at nights k) x) o false ≡ false
     fresh site x None none at = refl
     fresh site x (Some n) none at = h.empty n x (new_number sites new site n none at)
 
-    by : (site : List ℕ) (x : ℕ) (o : Option ℕ) → number_of sites site ≡ o → night_has (numbered sites new) nights site x ≡ option_map_or (λ k. has (set_at nights k) x) o false
+    by : (site : List ℕ) (x : ℕ) (o : Option ℕ) → number_of sites site ≡ o
+        → night_has (numbered sites new) nights site x ≡ option_map_or (λ k. has (set_at nights k) x) o false
     by site x None at = fresh site x (number_of (numbered sites new) site) at refl
     by site x (Some n) at = ap (λ o. option_map_or (λ k. has (set_at nights k) x) o false) (number_kept sites new site n at)

@@ -38,7 +38,8 @@ site_more None codes = ap sites_in (append-nil codes)
 site_more (Some code) codes =
     ap (fold numbered []) (map-append (λ (c : Code). c.site) codes (code ∷ [])) ∙ fold_push numbered [] (map (λ (c : Code). c.site) codes) code.site
 
-pub sites-push : (scripts : List (List ScriptLine)) (before : List EventEntry) (e : EventEntry) → sites_told scripts (before ++ e ∷ []) ≡ sites_by (code_told scripts e) (sites_told scripts before)
+pub sites-push : (scripts : List (List ScriptLine)) (before : List EventEntry) (e : EventEntry)
+    → sites_told scripts (before ++ e ∷ []) ≡ sites_by (code_told scripts e) (sites_told scripts before)
 sites-push scripts before e = ap sites_in (codes-push scripts before e) ∙ site_more (code_told scripts e) (telescopes_told scripts before)
 
 -- ---- each telescope's site has a number
@@ -81,6 +82,7 @@ each_there (c ∷ codes) names zero code at =
 each_there (c ∷ codes) names (suc t) code at = each_there codes (numbered names c.site) t code at
 
 -- the site of a telescope that is told has a number
-pub site_there : (scripts : List (List ScriptLine)) (history : List EventEntry) (t : ℕ) (code : Code) → slice_get (telescopes_told scripts history) t ≡ Some code
+pub site_there : (scripts : List (List ScriptLine)) (history : List EventEntry) (t : ℕ) (code : Code)
+    → slice_get (telescopes_told scripts history) t ≡ Some code
     → (n : ℕ) × (number_of (sites_told scripts history) code.site ≡ Some n)
 site_there scripts history t code at = each_there (telescopes_told scripts history) [] t code at

@@ -42,7 +42,8 @@ use Rattle.desk_calendar.proofs.Skies.{skies_by, key_at, key_of}
 use Rattle.desk_calendar.proofs.Sites.{now_there}
 
 -- a telescope that isn't refused has a number below the most
-has_room : (r : RegistrySeen) (code : Code) (given : List (List ℕ)) → option_and_then refusal_of_site (telescope_refusal r code given) ≡ None → length r.telescopes < most_telescopes
+has_room : (r : RegistrySeen) (code : Code) (given : List (List ℕ)) → option_and_then refusal_of_site (telescope_refusal r code given) ≡ None
+    → length r.telescopes < most_telescopes
 has_room r code given e = by (first_unnamed (instrument_names r) given) (is_coded r code) (nat_le most_telescopes (length r.telescopes)) refl e
   where
     by : (o : Option ℕ) (coded many : Bool) → nat_le most_telescopes (length r.telescopes) ≡ many
@@ -55,20 +56,24 @@ has_room r code given e = by (first_unnamed (instrument_names r) given) (is_code
     by None false false is none = grind (arith, nat_tests, is)
 
 -- nor has its site one that is above the most
-has_place : (r : RegistrySeen) (code : Code) (given : List (List ℕ)) → option_and_then refusal_of_site (telescope_refusal r code given) ≡ None → length r.sites ≤ most_sites
+has_place : (r : RegistrySeen) (code : Code) (given : List (List ℕ)) → option_and_then refusal_of_site (telescope_refusal r code given) ≡ None
+    → length r.sites ≤ most_sites
     → length (numbered r.sites code.site) ≤ most_sites
-has_place r code given e few = by (first_unnamed (instrument_names r) given) (is_coded r code) (nat_le most_telescopes (length r.telescopes)) (is_named r.sites code.site) (nat_le most_sites (length r.sites)) refl e
+has_place r code given e few = by (first_unnamed (instrument_names r) given) (is_coded r code) (nat_le most_telescopes (length r.telescopes))
+    (is_named r.sites code.site) (nat_le most_sites (length r.sites)) refl e
   where
     by : (o : Option ℕ) (coded many named crowded : Bool) → nat_le most_sites (length r.sites) ≡ crowded
         → option_and_then refusal_of_site (option_or (option_map (λ i. NoSuchInstrument (min i most_index)) o)
-        (if coded then Some Repeated else option_or (if many then Some (full Telescopes) else None) (if named then None else (if crowded then Some (full Sites) else None)))) ≡ None
+        (if coded then Some Repeated else option_or (if many then Some (full Telescopes) else None)
+        (if named then None else (if crowded then Some (full Sites) else None)))) ≡ None
         → length (if named then r.sites else r.sites ++ code.site ∷ []) ≤ most_sites
     by (Some i) coded many named crowded is none = absurd (cc)
     by None true many named crowded is none = absurd (cc)
     by None false true named crowded is none = absurd (cc)
     by None false false true crowded is none = few
     by None false false false true is none = absurd (cc)
-    by None false false false false is none = let long = length-append r.sites (code.site ∷ []) in let low : length r.sites < most_sites = grind (arith, nat_tests, is) in omega (arith, low, long)
+    by None false false false false is none = let long = length-append r.sites (code.site ∷ []) in
+        let low : length r.sites < most_sites = grind (arith, nat_tests, is) in omega (arith, low, long)
 
 -- `telescope`
 pub telescope_goes : (d : DeskSeen) (site enclosure telescope class : List ℕ) (instruments : List (List ℕ))
@@ -79,8 +84,10 @@ telescope_goes d site enclosure telescope class instruments none =
     let one : TelescopeSeen = record { code = code; class = class; instruments = instruments } in
     let r : RegistrySeen = d.network.registry in
     let room : length r.telescopes < most_telescopes = has_room r code instruments none in
-    let more : codes_of d.network.registry ++ code ∷ [] ≡ map (λ t. t.code) (r.telescopes ++ one ∷ []) = sym (map-append (λ (t : TelescopeSeen). t.code) r.telescopes (one ∷ [])) in
-    let count : length (map (λ (t : TelescopeSeen). t.code) (r.telescopes ++ one ∷ [])) ≡ length (r.telescopes ++ one ∷ []) = length-map (r.telescopes ++ one ∷ []) (λ (t : TelescopeSeen). t.code) in
+    let more : codes_of d.network.registry ++ code ∷ [] ≡ map (λ t. t.code) (r.telescopes ++ one ∷ []) =
+    sym (map-append (λ (t : TelescopeSeen). t.code) r.telescopes (one ∷ [])) in
+    let count : length (map (λ (t : TelescopeSeen). t.code) (r.telescopes ++ one ∷ [])) ≡ length (r.telescopes ++ one ∷ []) =
+    length-map (r.telescopes ++ one ∷ []) (λ (t : TelescopeSeen). t.code) in
     let next : length (r.telescopes ++ one ∷ []) ≡ length r.telescopes + 1 = length-append r.telescopes (one ∷ []) in
     let own : length (codes_of r) ≡ length r.telescopes = length-map r.telescopes (λ (t : TelescopeSeen). t.code) in
     record {
@@ -104,7 +111,8 @@ telescope_goes d site enclosure telescope class instruments none =
 -- `close` and `reopen`
 pub closure_goes : (d : DeskSeen) (c : Command) (change : Change) (scope : Scope) (spans : List Span) (done : Reply) → AreSpans spans
     → code_in (Ok c) done ≡ None → night_in (Ok c) done ≡ None → sky_in (Ok c) done ≡ None
-    → closing_in (Ok c) done ≡ Some record { change = change; scope = scope; spans = spans } → Goes (Ok c) done d.network (on_closure d change scope spans done).desk.network
+    → closing_in (Ok c) done ≡ Some record { change = change; scope = scope; spans = spans }
+    → Goes (Ok c) done d.network (on_closure d change scope spans done).desk.network
 closure_goes d c change scope spans done are no_code no_night no_sky says =
     let n : NetworkSeen = d.network in
     record {

@@ -92,11 +92,16 @@ pub by_number_told : UsableByNumber
 by_number_told scripts history d site t x h is =
     let told : IsTold scripts history d.network.calendar.closures = (desk_told scripts history d h is).closures in (
       λ usable.
-          let night = and_parts (has (set_at d.network.calendar.nights site) x) (not (has (set_at d.network.calendar.closures t) x) && not (has (observed_on d t) x)) usable in
-          let free = and_parts (not (has (set_at d.network.calendar.closures t) x)) (not (has (observed_on d t) x)) night.1 in
-          (night.0, λ k. no_less (has (set_at d.network.calendar.closures t) x) (told.only t x k) free.0, λ runs. no_less (has (observed_on d t) x) runs free.1),
+          let night = and_parts (has (set_at d.network.calendar.nights site) x)
+          (not (has (set_at d.network.calendar.closures t) x) && not (has (observed_on d t) x)) usable in
+          let free = and_parts (not (has (set_at d.network.calendar.closures t) x)) (not (has (observed_on d t) x)) night.1 in (
+            night.0,
+            λ k. no_less (has (set_at d.network.calendar.closures t) x) (told.only t x k) free.0,
+            λ runs. no_less (has (observed_on d t) x) runs free.1,
+          ),
       λ p.
-          by (has (set_at d.network.calendar.nights site) x) (has (set_at d.network.calendar.closures t) x) (has (observed_on d t) x) p.0 (λ c. p.1 (told.closed t x c)) p.2,
+          by (has (set_at d.network.calendar.nights site) x) (has (set_at d.network.calendar.closures t) x) (has (observed_on d t) x) p.0
+          (λ c. p.1 (told.closed t x c)) p.2,
     )
   where
     no_less : (b : Bool) → b ≡ true → not b ≡ true → ⊥
@@ -110,13 +115,15 @@ by_number_told scripts history d site t x h is =
     by false b c a b' c' = absurd (true≢false (sym a))
 
 -- where the telescope's site has this number
-usable_at : (scripts : List (List ScriptLine)) (history : List EventEntry) (d : DeskSeen) (site : List ℕ) (s t x : ℕ) → IsLegal scripts history → (replay scripts history).desk ≡ Some d
+usable_at : (scripts : List (List ScriptLine)) (history : List EventEntry) (d : DeskSeen) (site : List ℕ) (s t x : ℕ) → IsLegal scripts history
+    → (replay scripts history).desk ≡ Some d
     → number_of (sites_told scripts history) site ≡ Some s
     → IsTrue (is_usable d s t x) ↔ (IsNightByLatest scripts history site x × ¬ IsClosedByLatest scripts history t x × ¬ IsTrue (has (observed_on d t) x))
 usable_at scripts history d site s t x h is at =
     let kept = by_number_told scripts history d s t x h is in
     let night = nights_told_so scripts history d site x h is in
-    let known : IsSomeAnd (number_of (sites_told scripts history) site) (λ k. IsTrue (has (set_at d.network.calendar.nights k) x)) ≡ IsTrue (has (set_at d.network.calendar.nights s) x) =
+    let known : IsSomeAnd (number_of (sites_told scripts history) site) (λ k. IsTrue (has (set_at d.network.calendar.nights k) x))
+    ≡ IsTrue (has (set_at d.network.calendar.nights s) x) =
     ap (λ (o : Option ℕ). IsSomeAnd o (λ k. IsTrue (has (set_at d.network.calendar.nights k) x))) at in (
       λ usable. let parts = kept.0 usable in (night.1 (subst (λ A. A) (sym known) parts.0), parts.1, parts.2),
       λ p. kept.1 (subst (λ A. A) known (night.0 p.0), p.1, p.2),
@@ -146,5 +153,6 @@ usable_told scripts history d code t x h is there = by (slice_get d.network.regi
         ↔ (IsNightByLatest scripts history code.site x × ¬ IsClosedByLatest scripts history t x × ¬ IsTrue (has (observed_on d t) x)))
     by None at = let none : None ≡ Some code = ap (option_map (λ (k : TelescopeSeen). k.code)) (sym at) ∙ coded in absurd (cc)
     by (Some telescope) at =
-        subst (λ s. IsTrue (is_usable d s t x) ↔ (IsNightByLatest scripts history code.site x × ¬ IsClosedByLatest scripts history t x × ¬ IsTrue (has (observed_on d t) x)))
+        subst (λ s. IsTrue (is_usable d s t x)
+        ↔ (IsNightByLatest scripts history code.site x × ¬ IsClosedByLatest scripts history t x × ¬ IsTrue (has (observed_on d t) x)))
         (sym (place telescope at)) (usable_at scripts history d code.site number.0 t x h is number.1)

@@ -1,5 +1,6 @@
 -- The books, once groups have gone on.
-use Rattle.std.proofs.Common.{◌≡◌, ◌≢◌, ℕ, ◌+◌, ◌<◌, ◌≤◌, ◌^◌, Bool, true, false, cond, not, ◌&&◌, List, [], ◌∷◌, ◌++◌, length, map, filter, fold, All, get_or, refl, sym, ◌∙◌, ap, subst, arith, inl, inr, Option, Some, None}
+use Rattle.std.proofs.Common.{◌≡◌, ◌≢◌, ℕ, ◌+◌, ◌<◌, ◌≤◌, ◌^◌, Bool, true, false, cond, not, ◌&&◌, List, [], ◌∷◌, ◌++◌, length, map, filter, fold, All}
+use Rattle.std.proofs.Common.{get_or, refl, sym, ◌∙◌, ap, subst, arith, inl, inr, Option, Some, None}
 use Rattle.std.specs.List.{AllZip, Any}
 use Rattle.std.specs.Option.{option_to_list, option_map_or, IfSome}
 use Rattle.std.proofs.lemmas.Bool.{cases_Bool, and_parts, and_cases}
@@ -22,7 +23,22 @@ use Rattle.desk_core.specs.Holds.{held_by, is_refunded, after_group}
 use Rattle.desk_core.specs.Kept.{standing, IsHeldFor}
 use Rattle.desk_core.specs.Endings.{ending_of, endings_of, ended, CanEnd, CanEndAll}
 use Rattle.desk_core.proofs.Fewer.{IsLess, group_less}
-pub use Rattle.desk_core.proofs.OneAlong.{books_at, ipp_at, entry_after, more_after, IsThere, after_at, ended_at, charge_in, seconds_in, all_seconds, seconds_at, total_at, no_more_at, released_at}
+pub use Rattle.desk_core.proofs.OneAlong.{
+  books_at,
+  ipp_at,
+  entry_after,
+  more_after,
+  IsThere,
+  after_at,
+  ended_at,
+  charge_in,
+  seconds_in,
+  all_seconds,
+  seconds_at,
+  total_at,
+  no_more_at,
+  released_at,
+}
 
 -- ---- all groups
 
@@ -50,9 +66,11 @@ above b (p ∷ ps) (e ∷ es) h c =
     let first : p.1.0.number.0 ≡ b + 1 = counted_head b p.1.0.number.0 (map (λ q. q.1.0.number.0) ps) c in
     let same : e.group.0 ≡ p.1.0.number.0 = ap (λ (n : GroupNo). n.0) h.0.group in
     All-cons (λ x. b < x.group.0) e es (omega arith)
-    (All-weaker (λ x. b + 1 < x.group.0) (λ x. b < x.group.0) (λ x l. omega arith) es (above (b + 1) ps es h.1 (counted_tail b p.1.0.number.0 (map (λ q. q.1.0.number.0) ps) c)))
+    (All-weaker (λ x. b + 1 < x.group.0) (λ x. b < x.group.0) (λ x l. omega arith) es
+    (above (b + 1) ps es h.1 (counted_tail b p.1.0.number.0 (map (λ q. q.1.0.number.0) ps) c)))
 
-pub there_at : (b : ℕ) (front : List GroupHolds) (p : Submitted × (Group × Group)) (ps : List (Submitted × (Group × Group))) (e : GroupHolds) (es : List GroupHolds)
+pub there_at : (b : ℕ) (front : List GroupHolds) (p : Submitted × (Group × Group)) (ps : List (Submitted × (Group × Group)))
+    (e : GroupHolds) (es : List GroupHolds)
     → All (λ x. x.group.0 ≤ b) front → AreAlong b (p ∷ ps) (e ∷ es) → IsThere p front e es
 there_at b front p ps e es low h =
     let later : IsLater p.1.0 p.1.1 = All-head (λ q. IsLater q.1.0 q.1.1) p ps h.later in
@@ -65,11 +83,13 @@ there_at b front p ps e es low h =
           (above (b + 1) ps es h.held.1 (counted_tail b p.1.0.number.0 (map (λ q. q.1.0.number.0) ps) h.counted));
     }
 
-pub moved_at : (b : ℕ) (xs : List Entry) (front : List GroupHolds) (p : Submitted × (Group × Group)) (ps : List (Submitted × (Group × Group))) (e : GroupHolds) (es : List GroupHolds) → All (λ x. x.group.0 ≤ b) front → AreAlong b (p ∷ ps) (e ∷ es)
+pub moved_at : (b : ℕ) (xs : List Entry) (front : List GroupHolds) (p : Submitted × (Group × Group)) (ps : List (Submitted × (Group × Group)))
+    (e : GroupHolds) (es : List GroupHolds) → All (λ x. x.group.0 ≤ b) front → AreAlong b (p ∷ ps) (e ∷ es)
     → after_group (books_at xs front (e ∷ es)) p ≡ books_at (xs ++ more_after p e) (front ++ entry_after p e ∷ []) es
 moved_at b xs front p ps e es low h =
     after_at p xs front e es (there_at b front p ps e es low h)
-    ∙ ap (λ (l : List GroupHolds). let c : Books = record { entries = xs ++ more_after p e; holds = l } in c) (sym (append_assoc front (entry_after p e ∷ []) es))
+    ∙ ap (λ (l : List GroupHolds). let c : Books = record { entries = xs ++ more_after p e; holds = l } in
+    c) (sym (append_assoc front (entry_after p e ∷ []) es))
 
 pub group_after : (p : Submitted × (Group × Group)) (e : GroupHolds) → (entry_after p e).group ≡ e.group
 group_after p e = by (is_open p.1.0) (is_refunded p.1.0 p.1.1)
@@ -80,7 +100,8 @@ group_after p e = by (is_open p.1.0) (is_refunded p.1.0 p.1.1)
     by false b = refl
 
 -- the entries so far have the numbers so far
-pub low_at : (b : ℕ) (front : List GroupHolds) (p : Submitted × (Group × Group)) (ps : List (Submitted × (Group × Group))) (e : GroupHolds) (es : List GroupHolds) (x : GroupHolds) → All (λ y. y.group.0 ≤ b) front → AreAlong b (p ∷ ps) (e ∷ es) → x.group ≡ e.group
+pub low_at : (b : ℕ) (front : List GroupHolds) (p : Submitted × (Group × Group)) (ps : List (Submitted × (Group × Group))) (e : GroupHolds)
+    (es : List GroupHolds) (x : GroupHolds) → All (λ y. y.group.0 ≤ b) front → AreAlong b (p ∷ ps) (e ∷ es) → x.group ≡ e.group
     → All (λ y. y.group.0 ≤ b + 1) (front ++ x ∷ [])
 low_at b front p ps e es x low h same =
     let first : p.1.0.number.0 ≡ b + 1 = counted_head b p.1.0.number.0 (map (λ q. q.1.0.number.0) ps) h.counted in
@@ -158,7 +179,8 @@ self_entry w g e held =
     none true = refl
     none false = refl
 
-passed_by : (p : Submitted × (Group × Group)) (t : Bool) (e : GroupHolds) → (t && is_open p.1.0) ≡ false → (t ≡ false → p.1.1 ≡ p.1.0) → IsHeldFor (p.0, p.1.0) e
+passed_by : (p : Submitted × (Group × Group)) (t : Bool) (e : GroupHolds) → (t && is_open p.1.0) ≡ false → (t ≡ false → p.1.1 ≡ p.1.0)
+    → IsHeldFor (p.0, p.1.0) e
     → (entry_after p e ≡ e) × (more_after p e ≡ [])
 passed_by p t e neither other held = elim (and_cases t (is_open p.1.0) neither) [
   | inl untold ↦
@@ -172,20 +194,24 @@ passed_by p t e neither other held = elim (and_cases t (is_open p.1.0) neither) 
 
 -- ---- endings
 
-pub ending_more : (t : Submitted × (Group × Group) → Bool) (p : Submitted × (Group × Group)) (ps : List (Submitted × (Group × Group))) → t p ≡ true → is_open p.1.0 ≡ true
+pub ending_more : (t : Submitted × (Group × Group) → Bool) (p : Submitted × (Group × Group)) (ps : List (Submitted × (Group × Group)))
+    → t p ≡ true → is_open p.1.0 ≡ true
     → endings_of (filter t (p ∷ ps)) ≡ ending_of p ∷ endings_of (filter t ps)
 ending_more t p ps told opened =
     ap (λ (b : Bool). endings_of (cond b (p ∷ filter t ps) (filter t ps))) told
     ∙ ap (λ (b : Bool). map ending_of (cond b (p ∷ filter (λ q. is_open q.1.0) (filter t ps)) (filter (λ q. is_open q.1.0) (filter t ps)))) opened
 
-pub ending_none : (t : Submitted × (Group × Group) → Bool) (p : Submitted × (Group × Group)) (ps : List (Submitted × (Group × Group))) → (t p && is_open p.1.0) ≡ false
+pub ending_none : (t : Submitted × (Group × Group) → Bool) (p : Submitted × (Group × Group)) (ps : List (Submitted × (Group × Group)))
+    → (t p && is_open p.1.0) ≡ false
     → endings_of (filter t (p ∷ ps)) ≡ endings_of (filter t ps)
 ending_none t p ps neither = elim (and_cases (t p) (is_open p.1.0) neither) [
   | inl untold ↦ ap (λ (b : Bool). endings_of (cond b (p ∷ filter t ps) (filter t ps))) untold
-  | inr closed ↦ either (t p) (ap (λ (b : Bool). map ending_of (cond b (p ∷ filter (λ q. is_open q.1.0) (filter t ps)) (filter (λ q. is_open q.1.0) (filter t ps)))) closed)
+  | inr closed ↦ either (t p) (ap
+      (λ (b : Bool). map ending_of (cond b (p ∷ filter (λ q. is_open q.1.0) (filter t ps)) (filter (λ q. is_open q.1.0) (filter t ps)))) closed)
 ]
   where
-    either : (b : Bool) → endings_of (p ∷ filter t ps) ≡ endings_of (filter t ps) → endings_of (cond b (p ∷ filter t ps) (filter t ps)) ≡ endings_of (filter t ps)
+    either : (b : Bool) → endings_of (p ∷ filter t ps) ≡ endings_of (filter t ps)
+        → endings_of (cond b (p ∷ filter t ps) (filter t ps)) ≡ endings_of (filter t ps)
     either true e = e
     either false e = refl
 
@@ -198,7 +224,8 @@ pub record EndsAll (books : Books) (ps some : List (Submitted × (Group × Group
   pub can : CanEndAll books (endings_of some)
   pub seconds : all_seconds (fold after_group books ps) ≤ all_seconds books
 
-pub ends_all : (t : Submitted × (Group × Group) → Bool) (b : ℕ) (xs : List Entry) (front : List GroupHolds) (ps : List (Submitted × (Group × Group))) (es : List GroupHolds) → All (λ x. x.group.0 ≤ b) front → AreAlong b ps es
+pub ends_all : (t : Submitted × (Group × Group) → Bool) (b : ℕ) (xs : List Entry) (front : List GroupHolds) (ps : List (Submitted × (Group × Group)))
+    (es : List GroupHolds) → All (λ x. x.group.0 ≤ b) front → AreAlong b ps es
     → All (λ p. t p ≡ false → p.1.1 ≡ p.1.0) ps → all_seconds (books_at xs front es) ≤ 10 ^ 18 → EndsAll (books_at xs front es) ps (filter t ps)
 ends_all t b xs front [] [] low h others few = record { same = refl; can = tt; seconds = omega arith }
 ends_all t b xs front [] (e ∷ es) low h others few = absurd h.held
@@ -211,7 +238,8 @@ ends_all t b xs front (p ∷ ps) (e ∷ es) low h others few =
     let ys : List Entry = xs ++ more_after p e in
     let before : Books = books_at xs front (e ∷ es) in
     let between : Books = books_at ys (front ++ x ∷ []) es in
-    let reach : books_at ys front (x ∷ es) ≡ between = ap (λ (l : List GroupHolds). let c : Books = record { entries = ys; holds = l } in c) (sym (append_assoc front (x ∷ []) es)) in
+    let reach : books_at ys front (x ∷ es) ≡ between = ap (λ (l : List GroupHolds). let c : Books = record { entries = ys; holds = l } in
+    c) (sym (append_assoc front (x ∷ []) es)) in
     let moved : after_group before p ≡ between = moved_at b xs front p ps e es low h in
     let low_too : All (λ y. y.group.0 ≤ b + 1) (front ++ x ∷ []) = low_at b front p ps e es x low h (group_after p e) in
     let fewer : all_seconds between ≤ all_seconds before =
@@ -221,9 +249,11 @@ ends_all t b xs front (p ∷ ps) (e ∷ es) low h others few =
     let f = sum_by-append (λ (y : Entry). y.seconds) xs (more_after p e) in
     let g = no_more_at p e later held in
     omega (arith, a, c, d, f, g) in
-    let rest : EndsAll between ps (filter t ps) = ends_all t (b + 1) ys (front ++ x ∷ []) ps es low_too (along_tail b p ps e es h) (All-tail (λ q. t q ≡ false → q.1.1 ≡ q.1.0) p ps others) (omega (arith, fewer, few)) in
+    let rest : EndsAll between ps (filter t ps) = ends_all t (b + 1) ys (front ++ x ∷ []) ps es low_too (along_tail b p ps e es h)
+    (All-tail (λ q. t q ≡ false → q.1.1 ≡ q.1.0) p ps others) (omega (arith, fewer, few)) in
     let on : fold after_group before (p ∷ ps) ≡ fold after_group between ps = ap (λ (z : Books). fold after_group z ps) moved in
-    let seconds : all_seconds (fold after_group before (p ∷ ps)) ≤ all_seconds before = let a = ap all_seconds on in let c = rest.seconds in omega (arith, a, c, fewer) in
+    let seconds : all_seconds (fold after_group before (p ∷ ps)) ≤ all_seconds before = let a = ap all_seconds on in let c = rest.seconds in
+    omega (arith, a, c, fewer) in
     elim (cases_Bool (t p && is_open p.1.0)) [
       | inl both ↦
           let parts = and_parts (t p) (is_open p.1.0) both in
@@ -231,14 +261,18 @@ ends_all t b xs front (p ∷ ps) (e ∷ es) low h others few =
           let step : ended before (ending_of p) ≡ between = sym (ended_at p xs front e es there parts.1 (held.charge parts.1)) ∙ moved in
           record {
             same = on ∙ rest.same ∙ ap (λ (z : Books). fold ended z (endings_of (filter t ps))) (sym step) ∙ ap (fold ended before) (sym more);
-            can = subst (CanEndAll before) (sym more) (can_at p xs front e es there parts.1 later held few, subst (λ (z : Books). CanEndAll z (endings_of (filter t ps))) (sym step) rest.can);
+            can = subst (CanEndAll before) (sym more) (
+              can_at p xs front e es there parts.1 later held few,
+              subst (λ (z : Books). CanEndAll z (endings_of (filter t ps))) (sym step) rest.can,
+            );
             seconds = seconds;
           }
       | inr neither ↦
           let none : endings_of (filter t (p ∷ ps)) ≡ endings_of (filter t ps) = ending_none t p ps neither in
           let stays = passed_by p (t p) e neither (All-head (λ q. t q ≡ false → q.1.1 ≡ q.1.0) p ps others) held in
           let back : between ≡ before =
-          sym reach ∙ ap (λ (l : List Entry). books_at (xs ++ l) front (x ∷ es)) stays.1 ∙ ap (λ (l : List Entry). books_at l front (x ∷ es)) (append-nil xs) ∙ ap (λ (y : GroupHolds). books_at xs front (y ∷ es)) stays.0 in
+          sym reach ∙ ap (λ (l : List Entry). books_at (xs ++ l) front (x ∷ es)) stays.1
+          ∙ ap (λ (l : List Entry). books_at l front (x ∷ es)) (append-nil xs) ∙ ap (λ (y : GroupHolds). books_at xs front (y ∷ es)) stays.0 in
           record {
             same = on ∙ rest.same ∙ ap (λ (z : Books). fold ended z (endings_of (filter t ps))) back ∙ ap (fold ended before) (sym none);
             can = subst (CanEndAll before) (sym none) (subst (λ (z : Books). CanEndAll z (endings_of (filter t ps))) back rest.can);

@@ -1,5 +1,7 @@
 -- A group that is amended: where it stands, and what is left of the books once it is withdrawn.
-use Rattle.std.proofs.Common.{◌≡◌, ◌∙◌, ap, sym, subst, refl, ℕ, zero, suc, ◌+◌, ◌-◌, ◌<◌, ◌≤◌, ◌^◌, ◌==◌, nat_lt, Bool, true, false, cond, not, ◌&&◌, ◌||◌, List, [], ◌∷◌, ◌++◌, length, map, filter, fold, sum_by, drop, All, get_or, Option, Some, None, arith, inl, inr, ◌⊎◌}
+use Rattle.std.proofs.Common.{◌≡◌, ◌∙◌, ap, sym, subst, refl, ℕ, zero, suc, ◌+◌, ◌-◌, ◌<◌, ◌≤◌, ◌^◌, ◌==◌, nat_lt, Bool, true, false, cond, not, ◌&&◌}
+use Rattle.std.proofs.Common.{◌||◌, List, [], ◌∷◌, ◌++◌, length, map, filter, fold, sum_by, drop, All, get_or, Option, Some, None, arith, inl, inr}
+use Rattle.std.proofs.Common.{◌⊎◌}
 use Rattle.std.specs.List.{AllZip, zip, list_any, slice_get, find, cons_option}
 use Rattle.std.specs.Option.{option_or, option_map, option_to_list}
 use Rattle.std.specs.Prelude.{option_and_then}
@@ -77,7 +79,9 @@ none_pending : (qs : List Request) → list_any (λ q. is_pending q.state) (map 
 none_pending [] = refl
 none_pending (q ∷ qs) = by (is_pending q.state) refl (none_pending qs)
   where
-    by : (b : Bool) → is_pending q.state ≡ b → list_any (λ q. is_pending q.state) (map (λ q. cond (is_pending q.state) (with_state Canceled q) q) qs) ≡ false → (is_pending (cond b (with_state Canceled q) q).state || list_any (λ q. is_pending q.state) (map (λ q. cond (is_pending q.state) (with_state Canceled q) q) qs)) ≡ false
+    by : (b : Bool) → is_pending q.state ≡ b → list_any (λ q. is_pending q.state) (map (λ q. cond (is_pending q.state) (with_state Canceled q) q) qs)
+        ≡ false → (is_pending (cond b (with_state Canceled q) q).state
+        || list_any (λ q. is_pending q.state) (map (λ q. cond (is_pending q.state) (with_state Canceled q) q) qs)) ≡ false
     by true e rest = rest
     by false e rest = ap (λ (b : Bool). b || list_any (λ q. is_pending q.state) (map (λ q. cond (is_pending q.state) (with_state Canceled q) q) qs)) e ∙ rest
 
@@ -89,12 +93,14 @@ canceled_none : (g : Group) → pending_of (canceled g) ≡ 0
 canceled_none g = none_count (λ q. is_pending q.state) (canceled g).requests (canceled_closed g)
 
 -- a sum over a list of which those that pass are changed
-swapped : {X : Type 0} (h : X → ℕ) (p : X → Bool) (f : X → X) (xs : List X) → sum_by h (map (λ x. cond (p x) (f x) x) xs) + sum_by h (filter p xs) ≡ sum_by h xs + sum_by h (map f (filter p xs))
+swapped : {X : Type 0} (h : X → ℕ) (p : X → Bool) (f : X → X) (xs : List X)
+    → sum_by h (map (λ x. cond (p x) (f x) x) xs) + sum_by h (filter p xs) ≡ sum_by h xs + sum_by h (map f (filter p xs))
 swapped h p f [] = refl
 swapped h p f (x ∷ xs) = by (p x) (swapped h p f xs)
   where
     by : (b : Bool) → sum_by h (map (λ x. cond (p x) (f x) x) xs) + sum_by h (filter p xs) ≡ sum_by h xs + sum_by h (map f (filter p xs))
-        → sum_by h (cond b (f x) x ∷ map (λ x. cond (p x) (f x) x) xs) + sum_by h (cond b (x ∷ filter p xs) (filter p xs)) ≡ sum_by h (x ∷ xs) + sum_by h (map f (cond b (x ∷ filter p xs) (filter p xs)))
+        → sum_by h (cond b (f x) x ∷ map (λ x. cond (p x) (f x) x) xs) + sum_by h (cond b (x ∷ filter p xs) (filter p xs)) ≡ sum_by h (x ∷ xs)
+        + sum_by h (map f (cond b (x ∷ filter p xs) (filter p xs)))
     by true rest =
         let a = sum_by-cons h (f x) (map (λ x. cond (p x) (f x) x) xs) in
         let b = sum_by-cons h x (filter p xs) in
@@ -106,12 +112,14 @@ swapped h p f (x ∷ xs) = by (p x) (swapped h p f xs)
         let c = sum_by-cons h x xs in
         omega (arith, rest, a, c)
 
-pub pending_without : (s : Progress) (n : GroupNo) (g : Group) → IsSound s → group_at s.groups n ≡ Some g → pending_count (withdrawn n s).groups + pending_of g ≡ pending_count s.groups
+pub pending_without : (s : Progress) (n : GroupNo) (g : Group) → IsSound s → group_at s.groups n ≡ Some g
+    → pending_count (withdrawn n s).groups + pending_of g ≡ pending_count s.groups
 pending_without s n g h e =
     let pick : filter (is_group n) s.groups ≡ g ∷ [] = picked_from 0 s.groups n g (counted_from (map (λ x. x.number.0) s.groups) h.numbered.groups) e in
     let sums = swapped pending_of (is_group n) canceled s.groups in
     let before : sum_by pending_of (filter (is_group n) s.groups) ≡ pending_of g = ap (sum_by pending_of) pick ∙ one pending_of g in
-    let after : sum_by pending_of (map canceled (filter (is_group n) s.groups)) ≡ 0 = ap (λ (l : List Group). sum_by pending_of (map canceled l)) pick ∙ one pending_of (canceled g) ∙ canceled_none g in
+    let after : sum_by pending_of (map canceled (filter (is_group n) s.groups)) ≡ 0 = ap (λ (l : List Group). sum_by pending_of (map canceled l)) pick
+    ∙ one pending_of (canceled g) ∙ canceled_none g in
     let left = pending_sum (withdrawn n s).groups in
     let all = pending_sum s.groups in
     omega (arith, sums, before, after, left, all)
@@ -125,31 +133,43 @@ pending_without s n g h e =
 pub next_without : (op : Op) (asks : List Ask) (s : Progress) (n : GroupNo) → next_group op asks (withdrawn n s) ≡ next_group op asks s
 next_without op asks s n =
     let later = (withdrawal_goes_on s n).later in
-    ap (λ (k : ℕ). let x : Group = record { number = record { 0 = k + 1 }; op = op; requests = requests_from (length (requests_of (withdrawn n s).groups) + 1) asks } in x) (as_many s.groups (withdrawn n s).groups later)
-    ∙ ap (λ (k : ℕ). let x : Group = record { number = record { 0 = length s.groups + 1 }; op = op; requests = requests_from (k + 1) asks } in x) (as_many_requests s.groups (withdrawn n s).groups later)
+    ap (λ (k : ℕ). let x : Group = record {
+      number = record { 0 = k + 1 };
+      op = op;
+      requests = requests_from (length (requests_of (withdrawn n s).groups) + 1) asks;
+    } in x) (as_many s.groups (withdrawn n s).groups later)
+    ∙ ap (λ (k : ℕ). let x : Group = record { number = record { 0 = length s.groups + 1 }; op = op; requests = requests_from (k + 1) asks } in
+    x) (as_many_requests s.groups (withdrawn n s).groups later)
 
 -- the old one may still be withdrawn beside it
 pub still_withdrawable : (op : Op) (asks : List Ask) (s : Progress) (n : GroupNo) → IsAmendable n s → IsWithdrawable n (with_group op asks s)
 still_withdrawable op asks s n h = record {
   group = h.group;
-  there = find-append (is_group n) s.groups (next_group op asks s ∷ []) ∙ ap (λ (o : Option Group). option_or o (find (is_group n) (next_group op asks s ∷ []))) h.there;
+  there = find-append (is_group n) s.groups (next_group op asks s ∷ [])
+      ∙ ap (λ (o : Option Group). option_or o (find (is_group n) (next_group op asks s ∷ []))) h.there;
   idle = h.idle;
 }
 
 -- ---- the books without it
 
 -- where no charge of a group stands, none is given back
-no_charge : (n : GroupNo) (es : List GroupHolds) → All (λ e. (e.group.0 == n.0) ≡ true → e.ipp ≡ None) es → (ipp_of n (change_group n (with_holds []) es) ≡ None) × (change_group n without_ipp (change_group n (with_holds []) es) ≡ change_group n (with_holds []) es)
+no_charge : (n : GroupNo) (es : List GroupHolds) → All (λ e. (e.group.0 == n.0) ≡ true → e.ipp ≡ None) es
+    → (ipp_of n (change_group n (with_holds []) es) ≡ None)
+    × (change_group n without_ipp (change_group n (with_holds []) es) ≡ change_group n (with_holds []) es)
 no_charge n [] h = (refl, refl)
-no_charge n (e ∷ es) h = by (e.group.0 == n.0) refl (All-head (λ e. (e.group.0 == n.0) ≡ true → e.ipp ≡ None) e es h) (no_charge n es (All-tail (λ e. (e.group.0 == n.0) ≡ true → e.ipp ≡ None) e es h))
+no_charge n (e ∷ es) h = by (e.group.0 == n.0) refl (All-head (λ e. (e.group.0 == n.0) ≡ true → e.ipp ≡ None) e es h)
+    (no_charge n es (All-tail (λ e. (e.group.0 == n.0) ≡ true → e.ipp ≡ None) e es h))
   where
-    by : (b : Bool) → (e.group.0 == n.0) ≡ b → ((e.group.0 == n.0) ≡ true → e.ipp ≡ None) → (ipp_of n (change_group n (with_holds []) es) ≡ None) × (change_group n without_ipp (change_group n (with_holds []) es) ≡ change_group n (with_holds []) es)
-        → (ipp_of n (change_group n (with_holds []) (e ∷ es)) ≡ None) × (change_group n without_ipp (change_group n (with_holds []) (e ∷ es)) ≡ change_group n (with_holds []) (e ∷ es))
+    by : (b : Bool) → (e.group.0 == n.0) ≡ b → ((e.group.0 == n.0) ≡ true → e.ipp ≡ None) → (ipp_of n (change_group n (with_holds []) es) ≡ None)
+        × (change_group n without_ipp (change_group n (with_holds []) es) ≡ change_group n (with_holds []) es)
+        → (ipp_of n (change_group n (with_holds []) (e ∷ es)) ≡ None)
+        × (change_group n without_ipp (change_group n (with_holds []) (e ∷ es)) ≡ change_group n (with_holds []) (e ∷ es))
     by true t first rest =
         let others : List GroupHolds = change_group n (with_holds []) es in
         let head : GroupHolds = with_holds [] e in
         let list : change_group n (with_holds []) (e ∷ es) ≡ head ∷ others = ap (λ (b : Bool). cond b head e ∷ others) t in
-        let settled : without_ipp head ≡ head = ap (λ (o : Option Hold). let g : GroupHolds = record { group = e.group; holds = []; ipp = o } in g) (sym (first t)) in (
+        let settled : without_ipp head ≡ head =
+        ap (λ (o : Option Hold). let g : GroupHolds = record { group = e.group; holds = []; ipp = o } in g) (sym (first t)) in (
           ap (ipp_of n) list ∙ ap (λ (b : Bool). option_and_then (λ g. g.ipp) (cond b (Some head) (find (λ g. g.group.0 == n.0) others))) t ∙ first t,
           ap (change_group n without_ipp) list ∙ ap (λ (b : Bool). cond b (without_ipp head) head ∷ change_group n without_ipp others) t
               ∙ ap (λ (g : GroupHolds). g ∷ change_group n without_ipp others) settled ∙ ap (λ (l : List GroupHolds). head ∷ l) rest.1 ∙ sym list,
@@ -163,23 +183,31 @@ no_charge n (e ∷ es) h = by (e.group.0 == n.0) refl (All-head (λ e. (e.group.
         )
 
 -- a group that holds nothing, and whose charge is given back where it stands, is free
-ended_free : (books : Books) (n : GroupNo) (proposal : List ℕ) (charged : ℕ) → (nat_lt 0 charged ≡ false → All (λ e. (e.group.0 == n.0) ≡ true → e.ipp ≡ None) books.holds)
+ended_free : (books : Books) (n : GroupNo) (proposal : List ℕ) (charged : ℕ)
+    → (nat_lt 0 charged ≡ false → All (λ e. (e.group.0 == n.0) ≡ true → e.ipp ≡ None) books.holds)
     → ended books (record { group = n; holds = []; refund = standing proposal charged }) ≡ freed n books
 ended_free books n proposal charged none = by (nat_lt 0 charged) refl
   where
     by : (b : Bool) → nat_lt 0 charged ≡ b → ended books (record { group = n; holds = []; refund = standing proposal charged }) ≡ freed n books
-    by true t = ap (λ (b : Bool). ended books (record { group = n; holds = []; refund = cond b (Some record { key = ipp_key proposal; seconds = charged }) None })) t
+    by true t = ap (λ (b : Bool). ended books
+        (record { group = n; holds = []; refund = cond b (Some record { key = ipp_key proposal; seconds = charged }) None })) t
     by false t =
         let same = no_charge n books.holds (none t) in
         let of : List Entry → List GroupHolds → Books = λ xs es. record { entries = xs; holds = es } in
         let gone : freed n books ≡ released n [] books =
-        ap (λ (o : Option Hold). of (books.entries ++ map (refund_entry n) (option_to_list o)) (change_group n without_ipp (change_group n (with_holds []) books.holds))) same.0
+        ap (λ (o : Option Hold). of (books.entries ++ map (refund_entry n) (option_to_list o))
+        (change_group n without_ipp (change_group n (with_holds []) books.holds))) same.0
         ∙ ap (λ (xs : List Entry). of xs (change_group n without_ipp (change_group n (with_holds []) books.holds))) (append-nil books.entries)
         ∙ ap (of books.entries) same.1 in
-        ap (λ (b : Bool). ended books (record { group = n; holds = []; refund = cond b (Some record { key = ipp_key proposal; seconds = charged }) None })) t ∙ sym gone
+        ap (λ (b : Bool). ended books (record {
+          group = n;
+          holds = [];
+          refund = cond b (Some record { key = ipp_key proposal; seconds = charged }) None;
+        })) t ∙ sym gone
 
 -- the entries of the books are those of the groups
-stands_none : (n : ℕ) (ws : List Submitted) (gs : List Group) (es : List GroupHolds) → AllZip IsHeldFor (zip ws gs) es → All (λ p. p.1.number.0 ≡ n → (is_open p.1 ≡ true) × (standing p.0.document.proposal p.0.charged ≡ None)) (zip ws gs)
+stands_none : (n : ℕ) (ws : List Submitted) (gs : List Group) (es : List GroupHolds) → AllZip IsHeldFor (zip ws gs) es
+    → All (λ p. p.1.number.0 ≡ n → (is_open p.1 ≡ true) × (standing p.0.document.proposal p.0.charged ≡ None)) (zip ws gs)
     → All (λ e. (e.group.0 == n) ≡ true → e.ipp ≡ None) es
 stands_none n [] gs [] h a = All-nil (λ e. (e.group.0 == n) ≡ true → e.ipp ≡ None)
 stands_none n [] gs (e ∷ es) h a = absurd h
@@ -189,19 +217,23 @@ stands_none n (w ∷ ws) (g ∷ gs) [] h a = absurd h
 stands_none n (w ∷ ws) (g ∷ gs) (e ∷ es) h a =
     let P : Submitted × Group → Type 0 = λ p. p.1.number.0 ≡ n → (is_open p.1 ≡ true) × (standing p.0.document.proposal p.0.charged ≡ None) in
     All-cons (λ e. (e.group.0 == n) ≡ true → e.ipp ≡ None) e es
-    (λ t. let is : e.group.0 ≡ n = eqb-true e.group.0 n t in let none = All-head P (w, g) (zip ws gs) a (ap (λ (k : GroupNo). k.0) (sym h.0.group) ∙ is) in h.0.charge none.0 ∙ none.1)
+    (λ t. let is : e.group.0 ≡ n = eqb-true e.group.0 n t in
+    let none = All-head P (w, g) (zip ws gs) a (ap (λ (k : GroupNo). k.0) (sym h.0.group) ∙ is) in h.0.charge none.0 ∙ none.1)
     (stands_none n ws gs es h.1 (All-tail P (w, g) (zip ws gs) a))
 
 -- ---- what ends
 
-none_completed : (qs : List Request) → list_any (λ q. is_completed q.state) qs ≡ false → list_any (λ q. is_completed q.state) (map (λ q. cond (is_pending q.state) (with_state Canceled q) q) qs) ≡ false
+none_completed : (qs : List Request) → list_any (λ q. is_completed q.state) qs ≡ false
+    → list_any (λ q. is_completed q.state) (map (λ q. cond (is_pending q.state) (with_state Canceled q) q) qs) ≡ false
 none_completed [] e = refl
 none_completed (q ∷ qs) e =
     let parts = or_parts (is_completed q.state) (list_any (λ q. is_completed q.state) qs) e in
     by (is_pending q.state) parts.0 (none_completed qs parts.1)
   where
-    by : (b : Bool) → is_completed q.state ≡ false → list_any (λ q. is_completed q.state) (map (λ q. cond (is_pending q.state) (with_state Canceled q) q) qs) ≡ false
-        → (is_completed (cond b (with_state Canceled q) q).state || list_any (λ q. is_completed q.state) (map (λ q. cond (is_pending q.state) (with_state Canceled q) q) qs)) ≡ false
+    by : (b : Bool) → is_completed q.state ≡ false
+        → list_any (λ q. is_completed q.state) (map (λ q. cond (is_pending q.state) (with_state Canceled q) q) qs) ≡ false
+        → (is_completed (cond b (with_state Canceled q) q).state
+        || list_any (λ q. is_completed q.state) (map (λ q. cond (is_pending q.state) (with_state Canceled q) q) qs)) ≡ false
     by true e rest = rest
     by false e rest = ap (λ (b : Bool). b || list_any (λ q. is_completed q.state) (map (λ q. cond (is_pending q.state) (with_state Canceled q) q) qs)) e ∙ rest
 
@@ -212,17 +244,20 @@ canceled_refunded g opened none =
     ∙ ap (λ (b : Bool). true && not false && not b) (none_completed g.requests none)
 
 -- what becomes of what the group holds
-ending_is : (w : Submitted) (g : Group) (n : GroupNo) → g.number ≡ n → is_open g ≡ true → any_in is_completed g ≡ false → ending_of (w, (g, canceled g)) ≡ record { group = n; holds = []; refund = standing w.document.proposal w.charged }
+ending_is : (w : Submitted) (g : Group) (n : GroupNo) → g.number ≡ n → is_open g ≡ true → any_in is_completed g ≡ false
+    → ending_of (w, (g, canceled g)) ≡ record { group = n; holds = []; refund = standing w.document.proposal w.charged }
 ending_is w g n number opened none =
     let of : GroupNo → List Hold → Bool → Ending = λ k hs b. record { group = k; holds = hs; refund = cond b (standing w.document.proposal w.charged) None } in
     ap (λ (k : GroupNo). of k (held_by w (canceled g)) (is_refunded g (canceled g))) number
     ∙ ap (λ (hs : List Hold). of n hs (is_refunded g (canceled g))) (closed_holds w (canceled g) (canceled_closed g))
     ∙ ap (of n []) (canceled_refunded g opened none)
 
-told_refund : (n : GroupNo) (proposal : List ℕ) (charged : ℕ) → refunds_in (record { group = n; holds = []; refund = standing proposal charged } ∷ []) ≡ refund_for n charged
+told_refund : (n : GroupNo) (proposal : List ℕ) (charged : ℕ)
+    → refunds_in (record { group = n; holds = []; refund = standing proposal charged } ∷ []) ≡ refund_for n charged
 told_refund n proposal charged = by (nat_lt 0 charged)
   where
-    by : (b : Bool) → cons_option (option_map (λ h. let r : GroupRefund = record { group = n; seconds = h.seconds } in r) (cond b (Some (let x : Hold = record { key = ipp_key proposal; seconds = charged } in x)) None)) []
+    by : (b : Bool) → cons_option (option_map (λ h. let r : GroupRefund = record { group = n; seconds = h.seconds } in
+        r) (cond b (Some (let x : Hold = record { key = ipp_key proposal; seconds = charged } in x)) None)) []
         ≡ cond b ((let r : GroupRefund = record { group = n; seconds = charged } in r) ∷ []) []
     by true = refl
     by false = refl
@@ -232,7 +267,8 @@ one_of x [] e n = absurd (omega (arith, n))
 one_of x (y ∷ []) e n = e
 one_of x (y ∷ z ∷ zs) e n = absurd (omega (arith, n))
 
-pair_at : (ws : List Submitted) (gs : List Group) (i : ℕ) (q : Submitted × Group) (w : Submitted) (g : Group) → i < length (zip ws gs) → slice_get ws i ≡ Some w → slice_get gs i ≡ Some g → get_or (zip ws gs) i q ≡ (w, g)
+pair_at : (ws : List Submitted) (gs : List Group) (i : ℕ) (q : Submitted × Group) (w : Submitted) (g : Group) → i < length (zip ws gs)
+    → slice_get ws i ≡ Some w → slice_get gs i ≡ Some g → get_or (zip ws gs) i q ≡ (w, g)
 pair_at [] gs i q w g l a b = absurd (omega (arith, l))
 pair_at (x ∷ ws) [] i q w g l a b = absurd (omega (arith, l))
 pair_at (x ∷ ws) (y ∷ gs) zero q w g l a b =
@@ -268,7 +304,8 @@ is_freed d n h a few =
     let kept : List Observation = filter (λ o. not (is_among o.request over)) s.kept in
     let c : Change = record { now = s.moment; groups = canceled g ∷ []; kept = kept; running = s.running } in
     let w : IsWithdrawal s n c = withdrawal s n g kept over h.sound a.there a.idle refl refl in
-    let pick : filter (is_group n) s.groups ≡ g ∷ [] = picked_from 0 s.groups n g (counted_from (map (λ x. x.number.0) s.groups) h.sound.numbered.groups) a.there in
+    let pick : filter (is_group n) s.groups ≡ g ∷ [] =
+    picked_from 0 s.groups n g (counted_from (map (λ x. x.number.0) s.groups) h.sound.numbered.groups) a.there in
     let number : g.number.0 ≡ n.0 = eqb-true g.number.0 n.0 (picked_passes (is_group n) s.groups g pick) in
     let same_number : g.number ≡ n = ap (λ (k : ℕ). let m : GroupNo = record { 0 = k } in m) number in
     let ps : List (Submitted × (Group × Group)) = told_along (canceled g ∷ []) d (changed s c) in
@@ -276,8 +313,10 @@ is_freed d n h a few =
     let p : Submitted × (Group × Group) = one.one in
     let was : slice_get d.groups (n.0 - 1) ≡ Some p.0 = ap (λ (k : ℕ). slice_get d.groups (k - 1)) (sym number) ∙ one.told.submitted in
     let list : ps ≡ p ∷ [] = one_of p ps one.rest (told_length d c h w.can) in
-    let ending : ending_of (p.0, (g, canceled g)) ≡ record { group = n; holds = []; refund = standing p.0.document.proposal p.0.charged } = ending_is p.0 g n same_number a.opened a.none in
-    let stands : g ≡ group_of s.groups g.number = sym (get_or_from_slice_get s.groups (g.number.0 - 1) g no_group (ap (λ (k : ℕ). slice_get s.groups (k - 1)) number ∙ at.there)) in
+    let ending : ending_of (p.0, (g, canceled g)) ≡ record { group = n; holds = []; refund = standing p.0.document.proposal p.0.charged } =
+    ending_is p.0 g n same_number a.opened a.none in
+    let stands : g ≡ group_of s.groups g.number =
+    sym (get_or_from_slice_get s.groups (g.number.0 - 1) g no_group (ap (λ (k : ℕ). slice_get s.groups (k - 1)) number ∙ at.there)) in
     let endings : endings_of ps ≡ ending_of (p.0, (g, canceled g)) ∷ [] =
     ap endings_of list ∙ one_ends d p p.0 g (canceled g) one.told one.told.submitted stands a.opened in
     let all = ends_of d (changed s c) (canceled g ∷ []) h w.can.later w.can.told few in
@@ -285,7 +324,8 @@ is_freed d n h a few =
     all.same ∙ ap (fold ended d.books) endings ∙ ap (ended d.books) ending
     ∙ ended_free d.books n p.0.document.proposal p.0.charged (λ t. stands_none n.0 d.groups s.groups d.books.holds h.held (λ i q l e.
     let short = short_zip d.groups s.groups in
-    let pair : get_or (zip d.groups s.groups) i q ≡ (p.0, g) = here d.groups s.groups i q p.0 g n.0 l (omega (arith, short)) h.sound.numbered.groups e was at.there in
+    let pair : get_or (zip d.groups s.groups) i q ≡ (p.0, g) =
+    here d.groups s.groups i q p.0 g n.0 l (omega (arith, short)) h.sound.numbered.groups e was at.there in
     subst (λ (x : Submitted × Group). (is_open x.1 ≡ true) × (standing x.0.document.proposal x.0.charged ≡ None)) (sym pair)
     (a.opened, ap (λ (b : Bool). cond b (Some (let x : Hold = record { key = ipp_key p.0.document.proposal; seconds = p.0.charged } in x)) None) t))) in
     record {
@@ -303,7 +343,9 @@ is_freed d n h a few =
           ∙ ap (λ (e : Ending). refunds_in (e ∷ [])) ending ∙ told_refund n p.0.document.proposal p.0.charged;
     }
   where
-    here : (ws : List Submitted) (gs : List Group) (i : ℕ) (q : Submitted × Group) (w : Submitted) (g : Group) (n : ℕ) → i < length (zip ws gs) → i < length gs → IsCounted (map (λ x. x.number.0) gs) → (get_or (zip ws gs) i q).1.number.0 ≡ n → slice_get ws (n - 1) ≡ Some w → slice_get gs (n - 1) ≡ Some g → get_or (zip ws gs) i q ≡ (w, g)
+    here : (ws : List Submitted) (gs : List Group) (i : ℕ) (q : Submitted × Group) (w : Submitted) (g : Group) (n : ℕ) → i < length (zip ws gs)
+        → i < length gs → IsCounted (map (λ x. x.number.0) gs) → (get_or (zip ws gs) i q).1.number.0 ≡ n → slice_get ws (n - 1) ≡ Some w
+        → slice_get gs (n - 1) ≡ Some g → get_or (zip ws gs) i q ≡ (w, g)
     here ws gs i q w g n l m counted e a b =
         let second : (get_or (zip ws gs) i q).1 ≡ get_or gs i q.1 = second_at ws gs i q l in
         let number = number_at gs i q.1 counted m in
@@ -311,7 +353,8 @@ is_freed d n h a few =
         let place : i ≡ n - 1 = omega (arith, number, same, e) in
         pair_at ws gs i q w g l (ap (slice_get ws) place ∙ a) (ap (slice_get gs) place ∙ b)
       where
-        second_at : (ws : List Submitted) (gs : List Group) (i : ℕ) (q : Submitted × Group) → i < length (zip ws gs) → (get_or (zip ws gs) i q).1 ≡ get_or gs i q.1
+        second_at : (ws : List Submitted) (gs : List Group) (i : ℕ) (q : Submitted × Group) → i < length (zip ws gs)
+            → (get_or (zip ws gs) i q).1 ≡ get_or gs i q.1
         second_at [] gs i q l = absurd (omega (arith, l))
         second_at (x ∷ ws) [] i q l = absurd (omega (arith, l))
         second_at (x ∷ ws) (y ∷ gs) zero q l = refl

@@ -1,5 +1,6 @@
 -- What a report may charge.
-use Rattle.std.proofs.Common.{◌≡◌, ℕ, zero, suc, ◌+◌, ◌<◌, ◌≤◌, ◌==◌, max, Bool, true, false, cond, not, ◌&&◌, ◌||◌, List, [], ◌∷◌, length, map, fold, All, get_or, refl, sym, ◌∙◌, ap, arith, inl, inr, Some}
+use Rattle.std.proofs.Common.{◌≡◌, ℕ, zero, suc, ◌+◌, ◌<◌, ◌≤◌, ◌==◌, max, Bool, true, false, cond, not, ◌&&◌, ◌||◌, List, [], ◌∷◌, length, map, fold}
+use Rattle.std.proofs.Common.{All, get_or, refl, sym, ◌∙◌, ap, arith, inl, inr, Some}
 use Rattle.std.specs.List.{AllZip, Contains, zip, find, list_any}
 use Rattle.std.proofs.lemmas.Bool.{and_parts, and_left, and_right, or_cases, or_parts, or_left, or_right, cases_Bool, false_from_ne_true}
 use Rattle.std.proofs.lemmas.List.Elements.{All-head, All-tail}
@@ -38,7 +39,8 @@ use Rattle.desk_core.specs.declared.desk.Submitted.{Submitted}
 use Rattle.desk_core.specs.declared.desk.Wanted.{Wanted}
 use Rattle.desk_core.specs.Holds.{key_of, needs_of, keys_in, greatest_in, held_for, holds_of, held_by}
 use Rattle.desk_core.proofs.KeySets.{is_on, on_from, from_on, not_less, rises_head, rises_tail}
-use Rattle.desk_core.proofs.Fewer.{need_of, hold_of, needs_step, part_needs, on_part, held_part, held_for_part, keys_rise, closed_holds, greater, greatest_least}
+use Rattle.desk_core.proofs.Fewer.{need_of, hold_of, needs_step, part_needs, on_part, held_part, held_for_part, keys_rise, closed_holds, greater}
+use Rattle.desk_core.proofs.Fewer.{greatest_least}
 use Rattle.desk_core.proofs.Pends.{pair_parts}
 
 -- ---- what it needs
@@ -56,8 +58,10 @@ on_need document (x ∷ qs) (w ∷ ws) n q v f p =
         → is_on (key_of document v) (cond b (need_of document x w ∷ needs_of document (zip qs ws)) (needs_of document (zip qs ws))) ≡ true
     by true k true is rest =
         let same : w ≡ v = (pair_parts x q w v k).1 in
-        or_left (is_key (key_of document w) (key_of document v)) (is_on (key_of document v) (needs_of document (zip qs ws))) (ap (λ (y : Wanted). is_key (key_of document w) (key_of document y)) (sym same) ∙ is_key-refl (key_of document w))
-    by true k false is rest = let same : x ≡ q = (pair_parts x q w v k).0 in let bad : false ≡ true = sym is ∙ ap (λ (y : Request). is_pending y.state) same ∙ p in cc
+        or_left (is_key (key_of document w) (key_of document v)) (is_on (key_of document v) (needs_of document (zip qs ws)))
+        (ap (λ (y : Wanted). is_key (key_of document w) (key_of document y)) (sym same) ∙ is_key-refl (key_of document w))
+    by true k false is rest = let same : x ≡ q = (pair_parts x q w v k).0 in
+        let bad : false ≡ true = sym is ∙ ap (λ (y : Request). is_pending y.state) same ∙ p in cc
     by false k true is rest = or_right (is_key (key_of document w) (key_of document v)) (is_on (key_of document v) (needs_of document (zip qs ws))) (rest k)
     by false k false is rest = rest k
 
@@ -92,14 +96,18 @@ sum_less document (x ∷ qs) (r ∷ rs) (w ∷ ws) n q v z f p e =
     let after = ap (held_in key) (needs_step document (is_pending r.state) r w (zip rs ws) ns refl) in
     let parts = or_parts (is_pending_request n r) (list_any (is_pending_request n) rs) e in
     let fewer : held_in key ns ≤ held_in key ms = held_part key ns ms (part_needs document qs rs ws z.1) in
-    let less : q.seconds + held_in key (cond (is_pending r.state) (need_of document r w ∷ ns) ns) ≤ held_in key (cond (is_pending x.state) (need_of document x w ∷ ms) ms) =
+    let less : q.seconds + held_in key (cond (is_pending r.state) (need_of document r w ∷ ns) ns)
+    ≤ held_in key (cond (is_pending x.state) (need_of document x w ∷ ms) ms) =
     by (is_request n x) refl f (λ k. sum_less document qs rs ws n q v z.1 k p parts.1) fewer parts.0 in
     omega (arith, before, after, less)
   where
     by : (t : Bool) → is_request n x ≡ t → cond t (Some (x, w)) (find (λ m. is_request n m.0) (zip qs ws)) ≡ Some (q, v)
-        → (find (λ m. is_request n m.0) (zip qs ws) ≡ Some (q, v) → q.seconds + held_in (key_of document v) (needs_of document (zip rs ws)) ≤ held_in (key_of document v) (needs_of document (zip qs ws)))
-        → held_in (key_of document v) (needs_of document (zip rs ws)) ≤ held_in (key_of document v) (needs_of document (zip qs ws)) → is_pending_request n r ≡ false
-        → q.seconds + held_in (key_of document v) (cond (is_pending r.state) (need_of document r w ∷ needs_of document (zip rs ws)) (needs_of document (zip rs ws)))
+        → (find (λ m. is_request n m.0) (zip qs ws) ≡ Some (q, v)
+        → q.seconds + held_in (key_of document v) (needs_of document (zip rs ws)) ≤ held_in (key_of document v) (needs_of document (zip qs ws)))
+        → held_in (key_of document v) (needs_of document (zip rs ws)) ≤ held_in (key_of document v) (needs_of document (zip qs ws))
+        → is_pending_request n r ≡ false
+        → q.seconds + held_in (key_of document v)
+        (cond (is_pending r.state) (need_of document r w ∷ needs_of document (zip rs ws)) (needs_of document (zip rs ws)))
         ≤ held_in (key_of document v) (cond (is_pending x.state) (need_of document x w ∷ needs_of document (zip qs ws)) (needs_of document (zip qs ws)))
     by true is k rest fewer none =
         let key : Key = key_of document v in
@@ -109,18 +117,23 @@ sum_less document (x ∷ qs) (r ∷ rs) (w ∷ ws) n q v z f p e =
         let same_too : w ≡ v = (pair_parts x q w v k).1 in
         let open_before : is_pending x.state ≡ true = ap (λ (y : Request). is_pending y.state) same ∙ p in
         let number : is_request n r ≡ true = ap (λ (m : RequestNo). m.0 == n.0) z.0.number ∙ is in
-        let closed : is_pending r.state ≡ false = false_from_ne_true (is_pending r.state) (λ o. let bad : false ≡ true = sym none ∙ ap (λ (b : Bool). b && is_pending r.state) number ∙ o in cc) in
+        let closed : is_pending r.state ≡ false =
+        false_from_ne_true (is_pending r.state) (λ o. let bad : false ≡ true = sym none ∙ ap (λ (b : Bool). b && is_pending r.state) number ∙ o in
+        cc) in
         let f : Hold → ℕ = λ y. cond (is_key y.key key) y.seconds 0 in
         let sum = sum_by-cons f (need_of document x w) ms in
-        let on : is_key (key_of document w) key ≡ true = ap (λ (y : Wanted). is_key (key_of document w) (key_of document y)) (sym same_too) ∙ is_key-refl (key_of document w) in
+        let on : is_key (key_of document w) key ≡ true = ap (λ (y : Wanted). is_key (key_of document w) (key_of document y)) (sym same_too)
+        ∙ is_key-refl (key_of document w) in
         let here : f (need_of document x w) ≡ x.seconds = ap (λ (b : Bool). cond b x.seconds 0) on in
         let worth : x.seconds ≡ q.seconds = ap (λ (y : Request). y.seconds) same in
         let a = ap (λ (b : Bool). held_in key (cond b (need_of document r w ∷ ns) ns)) closed in
         let b = ap (λ (c : Bool). held_in key (cond c (need_of document x w ∷ ms) ms)) open_before in
         omega (arith, sum, here, worth, a, b, fewer)
     by false is k rest fewer none =
-        keep_less (is_pending x.state) (is_pending r.state) (key_of document v) (need_of document x w) (need_of document r w) (needs_of document (zip qs ws)) (needs_of document (zip rs ws)) q.seconds
-        (λ o. ap is_pending (sym (z.0.pending o)) ∙ o) (ap (λ (m : ℕ). let y : Hold = record { key = key_of document w; seconds = m } in y) z.0.seconds) (rest k)
+        keep_less (is_pending x.state) (is_pending r.state) (key_of document v) (need_of document x w) (need_of document r w)
+        (needs_of document (zip qs ws)) (needs_of document (zip rs ws)) q.seconds
+        (λ o. ap is_pending (sym (z.0.pending o)) ∙ o)
+        (ap (λ (m : ℕ). let y : Hold = record { key = key_of document w; seconds = m } in y) z.0.seconds) (rest k)
 
 greatest_has : (document : GroupDoc) (qs : List Request) (ws : List Wanted) (n : RequestNo) (q : Request) (v : Wanted) (a : ℕ)
     → find (λ m. is_request n m.0) (zip qs ws) ≡ Some (q, v) → is_pending q.state ≡ true
@@ -129,7 +142,8 @@ greatest_has document [] ws n q v a f p = cc
 greatest_has document (x ∷ qs) [] n q v a f p = cc
 greatest_has document (x ∷ qs) (w ∷ ws) n q v a f p =
     let step = ap (fold (greater (key_of document v)) a) (needs_step document (is_pending x.state) x w (zip qs ws) (needs_of document (zip qs ws)) refl) in
-    let less : q.seconds ≤ fold (greater (key_of document v)) a (cond (is_pending x.state) (need_of document x w ∷ needs_of document (zip qs ws)) (needs_of document (zip qs ws))) =
+    let less : q.seconds ≤ fold (greater (key_of document v)) a
+    (cond (is_pending x.state) (need_of document x w ∷ needs_of document (zip qs ws)) (needs_of document (zip qs ws))) =
     by (is_request n x) f (is_pending x.state) refl (λ c k. greatest_has document qs ws n q v c k p) in
     omega (arith, step, less)
   where
@@ -139,11 +153,14 @@ greatest_has document (x ∷ qs) (w ∷ ws) n q v a f p =
     by true k true is rest =
         let same : x ≡ q = (pair_parts x q w v k).0 in
         let same_too : w ≡ v = (pair_parts x q w v k).1 in
-        let on : is_key (key_of document w) (key_of document v) ≡ true = ap (λ (y : Wanted). is_key (key_of document w) (key_of document y)) (sym same_too) ∙ is_key-refl (key_of document w) in
+        let on : is_key (key_of document w) (key_of document v) ≡ true =
+        ap (λ (y : Wanted). is_key (key_of document w) (key_of document y)) (sym same_too) ∙ is_key-refl (key_of document w) in
         let worth : x.seconds ≡ q.seconds = ap (λ (y : Request). y.seconds) same in
         let here : greater (key_of document v) a (need_of document x w) ≡ max a x.seconds = ap (λ (b : Bool). cond b (max a x.seconds) a) on in
-        greatest_least (key_of document v) (needs_of document (zip qs ws)) q.seconds (greater (key_of document v) a (need_of document x w)) (omega (arith, worth, here))
-    by true k false is rest = let same : x ≡ q = (pair_parts x q w v k).0 in let bad : false ≡ true = sym is ∙ ap (λ (y : Request). is_pending y.state) same ∙ p in cc
+        greatest_least (key_of document v) (needs_of document (zip qs ws)) q.seconds (greater (key_of document v) a (need_of document x w))
+        (omega (arith, worth, here))
+    by true k false is rest = let same : x ≡ q = (pair_parts x q w v k).0 in
+        let bad : false ≡ true = sym is ∙ ap (λ (y : Request). is_pending y.state) same ∙ p in cc
     by false k true is rest = rest (greater (key_of document v) a (need_of document x w)) k
     by false k false is rest = rest a k
 
@@ -225,7 +242,8 @@ group_no_more w g h key later =
 -- and less, once a request of it is completed or all are over
 pub group_less_by : (w : Submitted) (g h : Group) (n : RequestNo) (q : Request) (v : Wanted) → IsLater g h
     → find (λ m. is_request n m.0) (zip g.requests w.requests) ≡ Some (q, v) → is_pending q.state ≡ true
-    → (is_oneof g.op ≡ true → is_open h ≡ false) → list_any (is_pending_request n) h.requests ≡ false → q.seconds + held_in (key_of w.document v) (held_by w h) ≤ held_in (key_of w.document v) (held_by w g)
+    → (is_oneof g.op ≡ true → is_open h ≡ false) → list_any (is_pending_request n) h.requests ≡ false
+    → q.seconds + held_in (key_of w.document v) (held_by w h) ≤ held_in (key_of w.document v) (held_by w g)
 group_less_by w g h n q v later f p one none =
     let key : Key = key_of w.document v in
     let ms : List Hold = needs_of w.document (zip g.requests w.requests) in
@@ -249,7 +267,8 @@ group_less_by w g h n q v later f p one none =
 
 -- ---- a completed request
 
-any_map : (p t : Request → Bool) (f : Request → Request) → ((x : Request) → p x ≡ true → t (f x) ≡ true) → (xs : List Request) → list_any p xs ≡ true → list_any t (map f xs) ≡ true
+any_map : (p t : Request → Bool) (f : Request → Request) → ((x : Request) → p x ≡ true → t (f x) ≡ true) → (xs : List Request) → list_any p xs ≡ true
+    → list_any t (map f xs) ≡ true
 any_map p t f h [] e = cc
 any_map p t f h (x ∷ xs) e = elim (or_cases (p x) (list_any p xs) e) [
   | inl here ↦ or_left (t (f x)) (list_any t (map f xs)) (h x here)
@@ -263,7 +282,8 @@ not_both WindowExpired e = cc
 not_both Canceled e = cc
 
 -- completed members stay so where only pending ones change
-stays_done : (test : Request → Bool) (state : RequestState) → ((x : Request) → is_pending x.state ≡ false → test x ≡ false) → (g : Group) → any_in is_completed g ≡ true
+stays_done : (test : Request → Bool) (state : RequestState) → ((x : Request) → is_pending x.state ≡ false → test x ≡ false) → (g : Group)
+    → any_in is_completed g ≡ true
     → any_in is_completed (change_requests test state g) ≡ true
 stays_done test state only g e =
     any_kept (λ q. is_completed q.state) (λ q. cond (test q) (with_state state q) q)
@@ -273,15 +293,20 @@ completed_in : (n : RequestNo) (g : Group) → has_request n g ≡ true → any_
 completed_in n g has =
     let h : Group = change_requests (is_request n) Completed g in
     let first : any_in is_completed h ≡ true =
-    any_map (is_request n) (λ q. is_completed q.state) (λ q. cond (is_request n q) (with_state Completed q) q) (λ x e. ap (λ (b : Bool). is_completed (cond b (with_state Completed x) x).state) e) g.requests has in
-    of_choice (λ (x : Group). any_in is_completed x ≡ true) (is_oneof g.op) (canceled h) h (λ t. stays_done (λ q. is_pending q.state) Canceled (λ x e. e) h first) (λ f. first)
+    any_map (is_request n) (λ q. is_completed q.state) (λ q. cond (is_request n q) (with_state Completed q) q)
+    (λ x e. ap (λ (b : Bool). is_completed (cond b (with_state Completed x) x).state) e) g.requests has in
+    of_choice (λ (x : Group). any_in is_completed x ≡ true) (is_oneof g.op) (canceled h) h
+    (λ t. stays_done (λ q. is_pending q.state) Canceled (λ x e. e) h first) (λ f. first)
 
 turned_in : (running : List Observation) (now : Sec) (g : Group) → any_in is_completed g ≡ true → any_in is_completed (turned running now g) ≡ true
 turned_in running now g e =
-    let waits : (x : Request) → is_pending x.state ≡ false → is_waiting running x ≡ false = λ x no_more. and_left (is_pending x.state) (not (is_placed running x.number)) no_more in
+    let waits : (x : Request) → is_pending x.state ≡ false → is_waiting running x ≡ false =
+    λ x no_more. and_left (is_pending x.state) (not (is_placed running x.number)) no_more in
     let past : Group = with_past running now g in
-    let first : any_in is_completed past ≡ true = stays_done (is_past running now) WindowExpired (λ x no_more. and_right _ (is_waiting running x) (waits x no_more)) g e in
-    of_choice (λ (x : Group). any_in is_completed x ≡ true) (is_lost past) (change_requests (is_waiting running) WindowExpired past) past (λ t. stays_done (is_waiting running) WindowExpired waits past first) (λ f. first)
+    let first : any_in is_completed past ≡ true =
+    stays_done (is_past running now) WindowExpired (λ x no_more. and_right _ (is_waiting running x) (waits x no_more)) g e in
+    of_choice (λ (x : Group). any_in is_completed x ≡ true) (is_lost past) (change_requests (is_waiting running) WindowExpired past) past
+    (λ t. stays_done (is_waiting running) WindowExpired waits past first) (λ f. first)
 
 none_map : (t : Request → Bool) (f : Request → Request) → ((x : Request) → t (f x) ≡ false) → (xs : List Request) → list_any t (map f xs) ≡ false
 none_map t f h [] = refl
@@ -300,15 +325,19 @@ completed_none : (n : RequestNo) (g : Group) → list_any (is_pending_request n)
 completed_none n g =
     let h : Group = change_requests (is_request n) Completed g in
     of_choice (λ (x : Group). list_any (is_pending_request n) x.requests ≡ false) (is_oneof g.op) (canceled h) h
-    (λ t. none_map (is_pending_request n) (λ q. cond (is_pending q.state) (with_state Canceled q) q) (λ x. and_right (is_request n (cond (is_pending x.state) (with_state Canceled x) x)) (is_pending (cond (is_pending x.state) (with_state Canceled x) x).state) (not_pending x)) h.requests)
+    (λ t. none_map (is_pending_request n) (λ q. cond (is_pending q.state) (with_state Canceled q) q)
+    (λ x. and_right (is_request n (cond (is_pending x.state) (with_state Canceled x) x))
+    (is_pending (cond (is_pending x.state) (with_state Canceled x) x).state) (not_pending x)) h.requests)
     (λ f. none_map (is_pending_request n) (λ q. cond (is_request n q) (with_state Completed q) q) (not_one n) g.requests)
 
 completed_closed : (n : RequestNo) (g : Group) → is_oneof g.op ≡ true → is_open (completed n g) ≡ false
 completed_closed n g one =
     let h : Group = change_requests (is_request n) Completed g in
-    ap (λ (b : Bool). is_open (cond b (canceled h) h)) one ∙ none_map (λ q. is_pending q.state) (λ q. cond (is_pending q.state) (with_state Canceled q) q) not_pending h.requests
+    ap (λ (b : Bool). is_open (cond b (canceled h) h)) one
+    ∙ none_map (λ q. is_pending q.state) (λ q. cond (is_pending q.state) (with_state Canceled q) q) not_pending h.requests
 
-pend_back : (n : RequestNo) (xs ys : List Request) → AllZip IsLaterRequest xs ys → list_any (is_pending_request n) ys ≡ true → list_any (is_pending_request n) xs ≡ true
+pend_back : (n : RequestNo) (xs ys : List Request) → AllZip IsLaterRequest xs ys → list_any (is_pending_request n) ys ≡ true
+    → list_any (is_pending_request n) xs ≡ true
 pend_back n [] [] z e = e
 pend_back n [] (y ∷ ys) z e = absurd z
 pend_back n (x ∷ xs) [] z e = absurd z
@@ -316,7 +345,8 @@ pend_back n (x ∷ xs) (y ∷ ys) z e = elim (or_cases (is_pending_request n y) 
   | inl here ↦
       let parts = and_parts (is_request n y) (is_pending y.state) here in
       or_left (is_pending_request n x) (list_any (is_pending_request n) xs)
-      (ap (λ (m : RequestNo). (m.0 == n.0) && is_pending x.state) (sym z.0.number) ∙ ap (λ (b : Bool). b && is_pending x.state) parts.0 ∙ ap is_pending (sym (z.0.pending parts.1)) ∙ parts.1)
+      (ap (λ (m : RequestNo). (m.0 == n.0) && is_pending x.state) (sym z.0.number) ∙ ap (λ (b : Bool). b && is_pending x.state) parts.0
+      ∙ ap is_pending (sym (z.0.pending parts.1)) ∙ parts.1)
   | inr later ↦ or_right (is_pending_request n x) (list_any (is_pending_request n) xs) (pend_back n xs ys z.1 later)
 ]
 
@@ -335,6 +365,7 @@ settled_done n s g has =
     record {
       later = later_settled n true s g;
       completed_too = turned_in (others n s.running) s.moment c (completed_in n g has);
-      none = false_from_ne_true (list_any (is_pending_request n) h.requests) (λ o. let bad : false ≡ true = sym (completed_none n g) ∙ pend_back n c.requests h.requests on.requests o in cc);
+      none = false_from_ne_true (list_any (is_pending_request n) h.requests) (λ o. let bad : false ≡ true = sym (completed_none n g)
+          ∙ pend_back n c.requests h.requests on.requests o in cc);
       closed = λ one. false_from_ne_true (is_open h) (λ o. let bad : false ≡ true = sym (completed_closed n g one) ∙ open_back c h on o in cc);
     }

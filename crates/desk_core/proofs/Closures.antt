@@ -1,5 +1,6 @@
 -- The closures that a line leaves are those of its definition.
-use Rattle.std.proofs.Common.{◌≡◌, ◌≢◌, ◌∙◌, ℕ, zero, suc, ◌<◌, ◌≤◌, refl, ap, sym, subst, Bool, true, false, not, ◌&&◌, ◌||◌, inl, inr, List, [], ◌∷◌, length, get_or, map, All, Option, Some, None, slice_get, arith, nat_lt, true≢false, Result, Ok}
+use Rattle.std.proofs.Common.{◌≡◌, ◌≢◌, ◌∙◌, ℕ, zero, suc, ◌<◌, ◌≤◌, refl, ap, sym, subst, Bool, true, false, not, ◌&&◌, ◌||◌, inl, inr, List, [], ◌∷◌}
+use Rattle.std.proofs.Common.{length, get_or, map, All, Option, Some, None, slice_get, arith, nat_lt, true≢false, Result, Ok}
 use Rattle.std.specs.Prelude.{IsTrue, if◌then◌else◌}
 use Rattle.std.specs.Result.{IsErrAnd}
 use Rattle.std.specs.List.{list_any}
@@ -57,15 +58,18 @@ same_seconds spans early x = (set_below (has spans) end_of_time).seconds x ∙ k
     kept false e = grind (arith, nat_tests)
 
 -- what a line makes of the closures of a telescope is the one list of its seconds
-changed_is : (change : Change) (old spans new : List Span) → IsEarly old → IsEarly spans → IsChanged change old (spans_of spans) new → new ≡ spans_below (closed_after change old spans) end_of_time
+changed_is : (change : Change) (old spans new : List Span) → IsEarly old → IsEarly spans → IsChanged change old (spans_of spans) new
+    → new ≡ spans_below (closed_after change old spans) end_of_time
 changed_is Close old spans new early more h =
-    let set : IsSetOf (closed_after Close old spans) new = record { seconds = λ x. h.seconds x ∙ ap (λ b. has old x || b) (same_seconds spans more x); sorted = h.sorted } in
+    let set : IsSetOf (closed_after Close old spans) new =
+    record { seconds = λ x. h.seconds x ∙ ap (λ b. has old x || b) (same_seconds spans more x); sorted = h.sorted } in
     all_below_is (closed_after Close old spans) end_of_time new set (λ x closed. elim (or_cases (has old x) (has spans x) closed) [
       | inl e ↦ early x e
       | inr e ↦ more x e
     ])
 changed_is Reopen old spans new early more h =
-    let set : IsSetOf (closed_after Reopen old spans) new = record { seconds = λ x. h.seconds x ∙ ap (λ b. has old x && not b) (same_seconds spans more x); sorted = h.sorted } in
+    let set : IsSetOf (closed_after Reopen old spans) new =
+    record { seconds = λ x. h.seconds x ∙ ap (λ b. has old x && not b) (same_seconds spans more x); sorted = h.sorted } in
     all_below_is (closed_after Reopen old spans) end_of_time new set (λ x closed. early x (and_parts (has old x) (not (has spans x)) closed).0)
 
 -- ---- the telescopes in the scope
@@ -74,11 +78,13 @@ changed_is Reopen old spans new early more h =
 abbrev is_inside : Scope → List Code → ℕ → Bool
 is_inside scope codes t = option_map_or (in_scope scope) (slice_get codes t) false
 
-of_code : (codes : List Code) (code : Code) (t : ℕ) (o : Option Code) → slice_get codes t ≡ o → option_map_or (is_code code) o false ≡ true → slice_get codes t ≡ Some code
+of_code : (codes : List Code) (code : Code) (t : ℕ) (o : Option Code) → slice_get codes t ≡ o → option_map_or (is_code code) o false ≡ true
+    → slice_get codes t ≡ Some code
 of_code codes code t None at is = absurd (cc)
 of_code codes code t (Some c) at is = at ∙ ap (λ x. Some x) (sym (code_same code c is))
 
-of_site : (codes : List Code) (name : List ℕ) (t : ℕ) (o : Option Code) → slice_get codes t ≡ o → option_map_or (λ c. is_name name c.site) o false ≡ true → slice_get (map (λ c. c.site) codes) t ≡ Some name
+of_site : (codes : List Code) (name : List ℕ) (t : ℕ) (o : Option Code) → slice_get codes t ≡ o
+    → option_map_or (λ c. is_name name c.site) o false ≡ true → slice_get (map (λ c. c.site) codes) t ≡ Some name
 of_site codes name t None at is = absurd (cc)
 of_site codes name t (Some c) at is = slice_get-map (λ c. c.site) codes t ∙ ap (option_map (λ c. c.site)) at ∙ ap (λ x. Some x) (sym (name_same name c.site is))
 
@@ -101,18 +107,21 @@ scoped_is r (Site name) t h = site_itself name (slice_get (codes_of r) t) (sym (
 scoped_within : (r : RegistrySeen) (scope : Scope) (t : ℕ) → InScope r scope t → t < length r.telescopes
 scoped_within r (Telescope code) t h = subst (λ n. t < n) (length-map r.telescopes (λ x. x.code)) (slice_get_within (codes_of r) t code h)
 scoped_within r (Site name) t h =
-    subst (λ n. t < n) (length-map (codes_of r) (λ c. c.site) ∙ length-map r.telescopes (λ x. x.code)) (slice_get_within (map (λ c. c.site) (codes_of r)) t name h)
+    subst (λ n. t < n) (length-map (codes_of r) (λ c. c.site) ∙ length-map r.telescopes (λ x. x.code))
+    (slice_get_within (map (λ c. c.site) (codes_of r)) t name h)
 
 -- ---- the closures that a line leaves
 
-pub length_after : (change : Change) (scope : Scope) (spans : List Span) (codes : List Code) (old : List (List Span)) → length (closures_after change scope spans codes old) ≡ length old
+pub length_after : (change : Change) (scope : Scope) (spans : List Span) (codes : List Code) (old : List (List Span))
+    → length (closures_after change scope spans codes old) ≡ length old
 length_after change scope spans [] old = refl
 length_after change scope spans (c ∷ codes) [] = refl
 length_after change scope spans (c ∷ codes) (x ∷ old) = ap suc (length_after change scope spans codes old)
 
 -- at each place
 set_after : (change : Change) (scope : Scope) (spans : List Span) (codes : List Code) (old : List (List Span)) (t : ℕ) → t < length old
-    → set_at (closures_after change scope spans codes old) t ≡ (if is_inside scope codes t then spans_below (closed_after change (set_at old t) spans) end_of_time else set_at old t)
+    → set_at (closures_after change scope spans codes old) t
+    ≡ (if is_inside scope codes t then spans_below (closed_after change (set_at old t) spans) end_of_time else set_at old t)
 set_after change scope spans [] old t l = refl
 set_after change scope spans (c ∷ codes) [] t l = absurd (omega arith)
 set_after change scope spans (c ∷ codes) (x ∷ old) zero l = refl
@@ -126,9 +135,11 @@ pub closures_are : (change : Change) (scope : Scope) (spans : List Span) (r : Re
     → IsClosureLine change (InScope r scope) (spans_of spans) old new → new ≡ closures_after change scope spans (codes_of r) old
 closures_are change scope spans r old new more early h =
     ext_get_or [] new (closures_after change scope spans (codes_of r) old) (h.places ∙ sym (length_after change scope spans (codes_of r) old))
-    (λ t l. let within : t < length old = subst (λ n. t < n) h.places l in by t within (is_inside scope (codes_of r) t) refl ∙ sym (set_after change scope spans (codes_of r) old t within))
+    (λ t l. let within : t < length old = subst (λ n. t < n) h.places l in
+    by t within (is_inside scope (codes_of r) t) refl ∙ sym (set_after change scope spans (codes_of r) old t within))
   where
-    by : (t : ℕ) → t < length old → (b : Bool) → is_inside scope (codes_of r) t ≡ b → set_at new t ≡ (if b then spans_below (closed_after change (set_at old t) spans) end_of_time else set_at old t)
+    by : (t : ℕ) → t < length old → (b : Bool) → is_inside scope (codes_of r) t ≡ b
+        → set_at new t ≡ (if b then spans_below (closed_after change (set_at old t) spans) end_of_time else set_at old t)
     by t l true e = changed_is change (set_at old t) spans (set_at new t) (early_at old early t l) more (h.inside t (inside_is r scope t e))
     by t l false e = h.outside t (λ inside. true≢false (sym (scoped_is r scope t inside) ∙ e))
 
@@ -147,11 +158,14 @@ few_after change scope spans r old new few h t d l =
 pub none_full : (closures : List (List Span)) → All (λ c. length c ≤ most_closures) closures → closures_refusal closures ≡ None
 none_full closures few =
     ap (λ b. if b then Some (Full most_closures Closures) else None)
-    (list_any_none (λ c. nat_lt most_closures (length c)) closures (All-weaker (λ c. length c ≤ most_closures) (λ c. nat_lt most_closures (length c) ≡ false) (λ c le. grind (arith, nat_tests)) closures few))
+    (list_any_none (λ c. nat_lt most_closures (length c)) closures
+    (All-weaker (λ c. length c ≤ most_closures) (λ c. nat_lt most_closures (length c) ≡ false) (λ c le. grind (arith, nat_tests)) closures few))
 
 -- where one of them would have too many pieces, the line is refused
-pub one_full : (change : Change) (scope : Scope) (spans : List Span) (r : RegistrySeen) (old : List (List Span)) (fault : SiteFault) → IsEarly spans → AreClosures (length r.telescopes) old
-    → IsFullClosure change (InScope r scope) (spans_of spans) old fault → closures_refusal (closures_after change scope spans (codes_of r) old) ≡ Some (Full most_closures Closures)
+pub one_full : (change : Change) (scope : Scope) (spans : List Span) (r : RegistrySeen) (old : List (List Span)) (fault : SiteFault) → IsEarly spans
+    → AreClosures (length r.telescopes) old
+    → IsFullClosure change (InScope r scope) (spans_of spans) old fault
+    → closures_refusal (closures_after change scope spans (codes_of r) old) ≡ Some (Full most_closures Closures)
 one_full change scope spans r old fault more are h =
     let t = h.telescope in
     let after = closures_after change scope spans (codes_of r) old in
@@ -172,13 +186,16 @@ one_full change scope spans r old fault more are h =
 -- ---- the answers
 
 -- a line that was accepted
-pub closed : (d : DeskSeen) (change : Change) (scope : Scope) (spans set : List Span) (done : Reply) (after : NetworkSeen) → AreClosures (length d.network.registry.telescopes) d.network.calendar.closures
-    → IsEarly spans → set ≡ spans_of spans → ChangesClosures change scope set d.network after → Decides (on_closure d change scope spans done) d (with_network after d) (Ok done)
+pub closed : (d : DeskSeen) (change : Change) (scope : Scope) (spans set : List Span) (done : Reply) (after : NetworkSeen)
+    → AreClosures (length d.network.registry.telescopes) d.network.calendar.closures
+    → IsEarly spans → set ≡ spans_of spans → ChangesClosures change scope set d.network after
+    → Decides (on_closure d change scope spans done) d (with_network after d) (Ok done)
 closed d change scope spans set done after are more is h =
     let r = d.network.registry in
     let old = d.network.calendar.closures in
     let line = subst (λ s. IsClosureLine change (InScope r scope) s old after.calendar.closures) is h.closures in
-    let same : after.calendar.closures ≡ closures_after change scope spans (codes_of r) old = closures_are change scope spans r old after.calendar.closures more are.early line in
+    let same : after.calendar.closures ≡ closures_after change scope spans (codes_of r) old =
+    closures_are change scope spans r old after.calendar.closures more are.early line in
     record {
       ok = (
         ap (λ o. option_or (option_and_then refusal_of_site o) (closures_refusal (closures_after change scope spans (codes_of r) old))) h.allowed
@@ -192,11 +209,15 @@ closed d change scope spans set done after are more is h =
     }
 
 -- a line that was refused, or found no memory
-pub not_closed : (d : DeskSeen) (change : Change) (scope : Scope) (spans set : List Span) (done : Reply) (after : NetworkSeen) (fault : SiteFault) (result : Result Reply CommandFault)
-    → AreClosures (length d.network.registry.telescopes) d.network.calendar.closures → IsEarly spans → set ≡ spans_of spans → IsErrAnd result (λ f. f ≡ of_network fault)
-    → (fault ≢ NoMemory → IsClosureRefusal change scope set d.network fault) → after ≡ d.network → Decides (on_closure d change scope spans done) d (with_network after d) result
+pub not_closed : (d : DeskSeen) (change : Change) (scope : Scope) (spans set : List Span) (done : Reply) (after : NetworkSeen) (fault : SiteFault)
+    (result : Result Reply CommandFault)
+    → AreClosures (length d.network.registry.telescopes) d.network.calendar.closures → IsEarly spans → set ≡ spans_of spans
+    → IsErrAnd result (λ f. f ≡ of_network fault)
+    → (fault ≢ NoMemory → IsClosureRefusal change scope set d.network fault) → after ≡ d.network
+    → Decides (on_closure d change scope spans done) d (with_network after d) result
 not_closed d change scope spans set done after fault result are more is gives refused same =
-    network_refused (on_closure d change scope spans done) d (with_network after d) fault result gives (λ memory. by (named_refusal fault memory) (refused memory)) (ap (λ n. with_network n d) same)
+    network_refused (on_closure d change scope spans done) d (with_network after d) fault result gives
+    (λ memory. by (named_refusal fault memory) (refused memory)) (ap (λ n. with_network n d) same)
   where
     r : RegistrySeen
     r = d.network.registry
@@ -204,11 +225,13 @@ not_closed d change scope spans set done after fault result are more is gives re
     full : Option Refusal
     full = closures_refusal (closures_after change scope spans (codes_of r) d.network.calendar.closures)
 
-    by : ((x : Refusal) × (refusal_of_site fault ≡ Some x)) → IsClosureRefusal change scope set d.network fault → (on_closure d change scope spans done).refusal ≡ refusal_of_site fault
+    by : ((x : Refusal) × (refusal_of_site fault ≡ Some x)) → IsClosureRefusal change scope set d.network fault
+        → (on_closure d change scope spans done).refusal ≡ refusal_of_site fault
     by x (inl out) = ap (λ o. option_or (option_and_then refusal_of_site o) full) out ∙ ap (λ o. option_or o full) x.1 ∙ sym x.1
     by x (inr fills) =
         ap (λ o. option_or (option_and_then refusal_of_site o) full) fills.allowed
-        ∙ one_full change scope spans r d.network.calendar.closures fault more are (subst (λ s. IsFullClosure change (InScope r scope) s d.network.calendar.closures fault) is fills.full)
+        ∙ one_full change scope spans r d.network.calendar.closures fault more are
+        (subst (λ s. IsFullClosure change (InScope r scope) s d.network.calendar.closures fault) is fills.full)
         ∙ ap refusal_of_site (sym fills.full.full)
 
 -- ---- what isn't refused
@@ -219,7 +242,8 @@ pub few_unrefused : (d : DeskSeen) (change : Change) (scope : Scope) (spans : Li
 few_unrefused d change scope spans done e =
     few_each (closures_after change scope spans (codes_of d.network.registry) d.network.calendar.closures)
     (none_many (list_any (λ c. nat_lt most_closures (length c)) (closures_after change scope spans (codes_of d.network.registry) d.network.calendar.closures))
-    (last_none (option_and_then refusal_of_site (scope_refusal d.network.registry scope)) (closures_refusal (closures_after change scope spans (codes_of d.network.registry) d.network.calendar.closures)) e))
+    (last_none (option_and_then refusal_of_site (scope_refusal d.network.registry scope))
+    (closures_refusal (closures_after change scope spans (codes_of d.network.registry) d.network.calendar.closures)) e))
   where
     last_none : (o p : Option Refusal) → option_or o p ≡ None → p ≡ None
     last_none None p f = f

@@ -9,7 +9,8 @@ use Rattle.desk_core.specs.Seconds.{end_of_time}
 
 -- a second of a window is before the end of time
 early_in : (w : Span) (x : ℕ) → IsWindow w → span_has w x ≡ true → x < end_of_time
-early_in w x window h = let before : x < w.to.0 = ltb-true x w.to.0 (and_parts (nat_le w.from.0 x) (nat_lt x w.to.0) h).1 in let last = window.last in omega arith
+early_in w x window h = let before : x < w.to.0 = ltb-true x w.to.0 (and_parts (nat_le w.from.0 x) (nat_lt x w.to.0) h).1 in
+    let last = window.last in omega arith
 
 -- so is each second of windows
 pub early : (spans : List Span) → All IsWindow spans → (x : ℕ) → has spans x ≡ true → x < end_of_time

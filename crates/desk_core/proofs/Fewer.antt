@@ -1,5 +1,6 @@
 -- What groups hold, once they have gone on.
-use Rattle.std.proofs.Common.{◌≡◌, ℕ, zero, suc, ◌+◌, ◌<◌, ◌≤◌, max, Bool, true, false, cond, List, [], ◌∷◌, length, map, filter, fold, sum_by, All, get_or, refl, sym, ◌∙◌, ap, subst, arith, inl, inr, ◌⊎◌}
+use Rattle.std.proofs.Common.{◌≡◌, ℕ, zero, suc, ◌+◌, ◌<◌, ◌≤◌, max, Bool, true, false, cond, List, [], ◌∷◌, length, map, filter, fold, sum_by, All}
+use Rattle.std.proofs.Common.{get_or, refl, sym, ◌∙◌, ap, subst, arith, inl, inr, ◌⊎◌}
 use Rattle.std.specs.List.{zip, AllZip, Any, Contains, list_any}
 use Rattle.std.proofs.lemmas.Bool.{or_cases, or_left, or_right, or_parts}
 use Rattle.std.proofs.lemmas.List.{length-map, get_or-map}
@@ -40,7 +41,9 @@ abbrev pub need_of : GroupDoc → Request → Wanted → Hold
 need_of document q w = record { key = key_of document w; seconds = q.seconds }
 
 pub needs_step : (document : GroupDoc) (b : Bool) (q : Request) (w : Wanted) (qs : List (Request × Wanted)) (rest : List Hold) → needs_of document qs ≡ rest
-    → map (λ p. let h : Hold = record { key = key_of document p.1; seconds = p.0.seconds } in h) (cond b ((q, w) ∷ filter (λ p. is_pending p.0.state) qs) (filter (λ p. is_pending p.0.state) qs)) ≡ cond b (need_of document q w ∷ rest) rest
+    → map (λ p. let h : Hold = record { key = key_of document p.1; seconds = p.0.seconds } in
+    h) (cond b ((q, w) ∷ filter (λ p. is_pending p.0.state) qs) (filter (λ p. is_pending p.0.state) qs))
+    ≡ cond b (need_of document q w ∷ rest) rest
 needs_step document true q w qs rest e = ap (λ (l : List Hold). need_of document q w ∷ l) e
 needs_step document false q w qs rest e = e
 
@@ -62,7 +65,8 @@ part_needs document (q ∷ qs) (r ∷ rs) (w ∷ ws) z =
     let ns : List Hold = needs_of document (zip rs ws) in
     let same : need_of document r w ≡ need_of document q w = ap (λ (n : ℕ). let h : Hold = record { key = key_of document w; seconds = n } in h) z.0.seconds in
     let step : IsPart (cond (is_pending r.state) (need_of document r w ∷ ns) ns) (cond (is_pending q.state) (need_of document q w ∷ ms) ms) =
-    part_step (is_pending q.state) (is_pending r.state) (need_of document q w) (need_of document r w) ms ns (λ e. ap is_pending (sym (z.0.pending e)) ∙ e) same (part_needs document qs rs ws z.1) in
+    part_step (is_pending q.state) (is_pending r.state) (need_of document q w) (need_of document r w) ms ns
+    (λ e. ap is_pending (sym (z.0.pending e)) ∙ e) same (part_needs document qs rs ws z.1) in
     subst (λ (l : List Hold). IsPart l (needs_of document (zip (q ∷ qs) (w ∷ ws)))) (sym (needs_step document (is_pending r.state) r w (zip rs ws) ns refl))
     (subst (IsPart (cond (is_pending r.state) (need_of document r w ∷ ns) ns)) (sym (needs_step document (is_pending q.state) q w (zip qs ws) ms refl)) step)
 
@@ -107,7 +111,8 @@ greater_least false m x = omega arith
 
 pub greatest_least : (key : Key) (ms : List Hold) (a b : ℕ) → a ≤ b → a ≤ fold (greater key) b ms
 greatest_least key [] a b h = h
-greatest_least key (m ∷ ms) a b h = greatest_least key ms a (greater key b m) (let more : b ≤ greater key b m = greater_least (is_key m.key key) b m.seconds in omega arith)
+greatest_least key (m ∷ ms) a b h =
+    greatest_least key ms a (greater key b m) (let more : b ≤ greater key b m = greater_least (is_key m.key key) b m.seconds in omega arith)
 
 greatest_part : (key : Key) (ns ms : List Hold) (a b : ℕ) → a ≤ b → IsPart ns ms → fold (greater key) a ns ≤ fold (greater key) b ms
 greatest_part key [] ms a b l h = greatest_least key ms a b l
@@ -178,10 +183,14 @@ held_less op ns ms h = record {
       ));
   rising = subst (Rises key_cmp) (sym (keys_of op ns (keys_in ns))) (keys_rise ns);
   seconds =
-      let less : seconds_of_holds (holds_of op ns) ≡ sum_by (held_for op ns) (keys_in ns) = sum_by_mapped (λ x. x.seconds) (held_for op ns) (hold_of op ns) (keys_in ns) (λ k d l. refl) in
-      let more : seconds_of_holds (holds_of op ms) ≡ sum_by (held_for op ms) (keys_in ms) = sum_by_mapped (λ x. x.seconds) (held_for op ms) (hold_of op ms) (keys_in ms) (λ k d l. refl) in
-      let each : sum_by (held_for op ns) (keys_in ns) ≤ sum_by (held_for op ms) (keys_in ns) = sum_by-le-sum_by (held_for op ns) (held_for op ms) (keys_in ns) (λ key. held_for_part op key ns ms h) in
-      let some : sum_by (held_for op ms) (keys_in ns) ≤ sum_by (held_for op ms) (keys_in ms) = sum_of_some (held_for op ms) (keys_in ns) (keys_in ms) (keys_rise ns) (keys_rise ms) (keys_part ns ms h) in
+      let less : seconds_of_holds (holds_of op ns) ≡ sum_by (held_for op ns) (keys_in ns) =
+      sum_by_mapped (λ x. x.seconds) (held_for op ns) (hold_of op ns) (keys_in ns) (λ k d l. refl) in
+      let more : seconds_of_holds (holds_of op ms) ≡ sum_by (held_for op ms) (keys_in ms) =
+      sum_by_mapped (λ x. x.seconds) (held_for op ms) (hold_of op ms) (keys_in ms) (λ k d l. refl) in
+      let each : sum_by (held_for op ns) (keys_in ns) ≤ sum_by (held_for op ms) (keys_in ns) =
+      sum_by-le-sum_by (held_for op ns) (held_for op ms) (keys_in ns) (λ key. held_for_part op key ns ms h) in
+      let some : sum_by (held_for op ms) (keys_in ns) ≤ sum_by (held_for op ms) (keys_in ms) =
+      sum_of_some (held_for op ms) (keys_in ns) (keys_in ms) (keys_rise ns) (keys_rise ms) (keys_part ns ms h) in
       omega (arith, less, more, each, some);
 }
   where
@@ -194,7 +203,8 @@ held_less op ns ms h = record {
 pub group_less : (w : Submitted) (g h : Group) → IsLater g h → IsLess (held_by w h) (held_by w g)
 group_less w g h later =
     subst (λ (op : Op). IsLess (holds_of op (needs_of w.document (zip h.requests w.requests))) (held_by w g)) (sym later.op)
-    (held_less g.op (needs_of w.document (zip h.requests w.requests)) (needs_of w.document (zip g.requests w.requests)) (part_needs w.document g.requests h.requests w.requests later.requests))
+    (held_less g.op (needs_of w.document (zip h.requests w.requests)) (needs_of w.document (zip g.requests w.requests))
+    (part_needs w.document g.requests h.requests w.requests later.requests))
 
 -- ---- a group that is closed holds nothing
 

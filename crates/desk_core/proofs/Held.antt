@@ -1,5 +1,6 @@
 -- What is held for needs: of each account once, of one proposal, and no more than is needed.
-use Rattle.std.proofs.Common.{◌≡◌, ◌≢◌, ◌∙◌, ap, sym, subst, refl, ℕ, suc, ◌+◌, ◌<◌, ◌≤◌, max, Bool, true, false, cond, List, [], ◌∷◌, length, map, filter, fold, sum_by, All, get_or, arith}
+use Rattle.std.proofs.Common.{◌≡◌, ◌≢◌, ◌∙◌, ap, sym, subst, refl, ℕ, suc, ◌+◌, ◌<◌, ◌≤◌, max, Bool, true, false, cond, List, [], ◌∷◌, length, map}
+use Rattle.std.proofs.Common.{filter, fold, sum_by, All, get_or, arith}
 use Rattle.std.specs.List.{Contains}
 use Rattle.std.specs.Ordering.{is_eq}
 use Rattle.std.specs.BTreeSet.{insert_key}
@@ -39,7 +40,9 @@ one_key x s (k ∷ ks) r = by (is_key x k) refl (one_key x s ks (λ i j d l m. r
   where
     by : (b : Bool) → is_key x k ≡ b → sum_by (λ k. cond (is_key x k) s 0) ks ≤ s → sum_by (λ k. cond (is_key x k) s 0) (k ∷ ks) ≤ s
     by true e rest =
-        let none : All (λ y. cond (is_key x y) s 0 ≤ 0) ks = λ i d l. other (get_or ks i d) (ap is_eq (ap (λ (z : Key). key_cmp z (get_or ks i d)) (is_key-true x k e) ∙ r 0 (suc i) d (omega arith) (omega arith))) in
+        let none : All (λ y. cond (is_key x y) s 0 ≤ 0) ks =
+        λ i d l. other (get_or ks i d) (ap is_eq (ap (λ (z : Key). key_cmp z (get_or ks i d)) (is_key-true x k e)
+        ∙ r 0 (suc i) d (omega arith) (omega arith))) in
         let sum = sum_by-cons (λ k. cond (is_key x k) s 0) k ks in
         let later = sum_by-le (λ k. cond (is_key x k) s 0) 0 ks none in
         let here : cond (is_key x k) s 0 ≡ s = ap (λ (b : Bool). cond b s 0) e in
@@ -66,7 +69,8 @@ sums_over [] ks r = let most = sum_by-le (λ k. held_in k []) 0 ks (λ i d l. om
 sums_over (n ∷ ns) ks r =
     let here : Key → ℕ = λ k. cond (is_key n.key k) n.seconds 0 in
     let later : Key → ℕ = λ k. held_in k ns in
-    let parts = sum_by-le-sum_by (λ k. held_in k (n ∷ ns)) (λ k. here k + later k) ks (λ k. let e = sum_by-cons (λ h. cond (is_key h.key k) h.seconds 0) n ns in omega (arith, e)) in
+    let parts = sum_by-le-sum_by (λ k. held_in k (n ∷ ns)) (λ k. here k + later k) ks
+    (λ k. let e = sum_by-cons (λ h. cond (is_key h.key k) h.seconds 0) n ns in omega (arith, e)) in
     let both = sum_of_both here later ks in
     let first = one_key n.key n.seconds ks r in
     let rest = sums_over ns ks r in
@@ -77,7 +81,9 @@ greatest_from : (key : Key) (a : ℕ) (needs : List Hold) → fold (λ most h. c
 greatest_from key a [] = omega arith
 greatest_from key a (n ∷ ns) = by (is_key n.key key) refl (greatest_from key (cond (is_key n.key key) (max a n.seconds) a) ns)
   where
-    by : (b : Bool) → is_key n.key key ≡ b → fold (λ most h. cond (is_key h.key key) (max most h.seconds) most) a (n ∷ ns) ≤ cond (is_key n.key key) (max a n.seconds) a + held_in key ns → fold (λ most h. cond (is_key h.key key) (max most h.seconds) most) a (n ∷ ns) ≤ a + held_in key (n ∷ ns)
+    by : (b : Bool) → is_key n.key key ≡ b → fold (λ most h. cond (is_key h.key key) (max most h.seconds) most) a (n ∷ ns) ≤ cond (is_key n.key key)
+        (max a n.seconds) a + held_in key ns → fold (λ most h. cond (is_key h.key key) (max most h.seconds) most) a (n ∷ ns)
+        ≤ a + held_in key (n ∷ ns)
     by true e rest =
         let here : cond (is_key n.key key) n.seconds 0 ≡ n.seconds = ap (λ (b : Bool). cond b n.seconds 0) e in
         let next : cond (is_key n.key key) (max a n.seconds) a ≡ max a n.seconds = ap (λ (b : Bool). cond b (max a n.seconds) a) e in
@@ -116,16 +122,19 @@ keys_held op needs = same (keys_in needs)
 -- what is so of the keys of needs is so of those that are held
 keys_all : (P : Key → Type 0) (ks : List Key) (needs : List Hold) → All P ks → All (λ h. P h.key) needs → All P (keys_from ks needs)
 keys_all P ks [] a h = a
-keys_all P ks (n ∷ ns) a h = keys_all P (insert_key key_cmp ks n.key) ns (All-insert_key key_cmp n.key P ks a (All-head (λ h. P h.key) n ns h)) (All-tail (λ h. P h.key) n ns h)
+keys_all P ks (n ∷ ns) a h = keys_all P (insert_key key_cmp ks n.key) ns (All-insert_key key_cmp n.key P ks a (All-head (λ h. P h.key) n ns h))
+    (All-tail (λ h. P h.key) n ns h)
 
 -- a key of the document's proposal, on the account of its observation type
 pub record IsOf (document : GroupDoc) (key : Key) : Type 0 where
   pub proposal : key.proposal ≡ document.proposal
   pub account : key.account ≡ account_of document.kind
 
-needs_are : (document : GroupDoc) (ps : List (Request × Wanted)) → All (λ h. IsOf document h.key) (map (λ p. let h : Hold = record { key = key_of document p.1; seconds = p.0.seconds } in h) ps)
+needs_are : (document : GroupDoc) (ps : List (Request × Wanted))
+    → All (λ h. IsOf document h.key) (map (λ p. let h : Hold = record { key = key_of document p.1; seconds = p.0.seconds } in h) ps)
 needs_are document [] = All-nil (λ h. IsOf document h.key)
-needs_are document (p ∷ ps) = All-cons (λ h. IsOf document h.key) record { key = key_of document p.1; seconds = p.0.seconds } _ (record { proposal = refl; account = refl }) (needs_are document ps)
+needs_are document (p ∷ ps) = All-cons (λ h. IsOf document h.key) record { key = key_of document p.1; seconds = p.0.seconds } _
+    (record { proposal = refl; account = refl }) (needs_are document ps)
 
 not_ipp : (k : ObsKind) → account_of k ≢ Ipp
 not_ipp kind.Normal e = absurd (cc)
@@ -134,18 +143,21 @@ not_ipp kind.RapidResponse e = absurd (cc)
 
 held_are : (op : Op) (document : GroupDoc) (needs : List Hold) → All (λ h. IsOf document h.key) needs → All (λ h. IsOf document h.key) (holds_of op needs)
 held_are op document needs of =
-    All-map (λ h. IsOf document h.key) (λ k. let h : Hold = record { key = k; seconds = held_for op needs k } in h) (keys_in needs) (keys_all (IsOf document) [] needs (All-nil (IsOf document)) of)
+    All-map (λ h. IsOf document h.key) (λ k. let h : Hold = record { key = k; seconds = held_for op needs k } in
+    h) (keys_in needs) (keys_all (IsOf document) [] needs (All-nil (IsOf document)) of)
 
 some_held : (op : Op) (needs : List Hold) → 1 ≤ length needs → 1 ≤ length (holds_of op needs)
 some_held op [] some = absurd (omega arith)
 some_held op (n ∷ ns) some =
     let first : Contains (keys_in (n ∷ ns)) n.key = on_from [] (n ∷ ns) n.key (or_left (is_key n.key n.key) _ (is_key-refl n.key)) in
-    let count : length (holds_of op (n ∷ ns)) ≡ length (keys_in (n ∷ ns)) = length-map (keys_in (n ∷ ns)) (λ k. let h : Hold = record { key = k; seconds = held_for op (n ∷ ns) k } in h) in
+    let count : length (holds_of op (n ∷ ns)) ≡ length (keys_in (n ∷ ns)) =
+    length-map (keys_in (n ∷ ns)) (λ k. let h : Hold = record { key = k; seconds = held_for op (n ∷ ns) k } in h) in
     let within : first.0 < length (keys_in (n ∷ ns)) = first.1 in
     omega (arith, within, count)
 
 -- the holds for what requests need are a list that can be booked
-pub is_hold_list : (op : Op) (document : GroupDoc) (ps : List (Request × Wanted)) → 1 ≤ length (needs_of document ps) → IsHoldList (holds_of op (needs_of document ps))
+pub is_hold_list : (op : Op) (document : GroupDoc) (ps : List (Request × Wanted)) → 1 ≤ length (needs_of document ps)
+    → IsHoldList (holds_of op (needs_of document ps))
 is_hold_list op document ps some = is (needs_of document ps) some (needs_are document (filter (λ p. is_pending p.0.state) ps))
   where
     is : (needs : List Hold) → 1 ≤ length needs → All (λ h. IsOf document h.key) needs → IsHoldList (holds_of op needs)
@@ -159,9 +171,11 @@ is_hold_list op document ps some = is (needs_of document ps) some (needs_are doc
         }
 
 -- they are of the document's proposal
-pub proposal_held : (op : Op) (document : GroupDoc) (ps : List (Request × Wanted)) → 1 ≤ length (needs_of document ps) → proposal_of (holds_of op (needs_of document ps)) ≡ document.proposal
+pub proposal_held : (op : Op) (document : GroupDoc) (ps : List (Request × Wanted)) → 1 ≤ length (needs_of document ps)
+    → proposal_of (holds_of op (needs_of document ps)) ≡ document.proposal
 proposal_held op document ps some =
-    first (holds_of op (needs_of document ps)) (some_held op (needs_of document ps) some) (held_are op document (needs_of document ps) (needs_are document (filter (λ p. is_pending p.0.state) ps)))
+    first (holds_of op (needs_of document ps)) (some_held op (needs_of document ps) some)
+    (held_are op document (needs_of document ps) (needs_are document (filter (λ p. is_pending p.0.state) ps)))
   where
     first : (hs : List Hold) → 1 ≤ length hs → All (λ h. IsOf document h.key) hs → proposal_of hs ≡ document.proposal
     first [] n h = absurd (omega arith)

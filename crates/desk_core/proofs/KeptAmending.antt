@@ -30,15 +30,18 @@ none_begun : (p : Request → Bool) (qs : List Request) → option_map (λ q. Gr
 none_begun p [] e = All-nil (λ q. p q ≡ false)
 none_begun p (q ∷ qs) e = by (p q) refl e (none_begun p qs)
   where
-    by : (b : Bool) → p q ≡ b → option_map (λ x. GroupStarted x.number) (cond b (Some q) (find p qs)) ≡ None → (option_map (λ x. GroupStarted x.number) (find p qs) ≡ None → All (λ x. p x ≡ false) qs) → All (λ x. p x ≡ false) (q ∷ qs)
+    by : (b : Bool) → p q ≡ b → option_map (λ x. GroupStarted x.number) (cond b (Some q) (find p qs)) ≡ None
+        → (option_map (λ x. GroupStarted x.number) (find p qs) ≡ None → All (λ x. p x ≡ false) qs) → All (λ x. p x ≡ false) (q ∷ qs)
     by true is f rest = cc
     by false is f rest = All-cons (λ x. p x ≡ false) q qs is (rest f)
 
 -- a group that isn't refused may be withdrawn
-pub may_amend : (d : DeskSeen) (number : GroupNo) → ending_refusal (begun_member d) (group_at d.progress.groups number) ≡ None → IsWithdrawable number d.progress
+pub may_amend : (d : DeskSeen) (number : GroupNo) → ending_refusal (begun_member d) (group_at d.progress.groups number) ≡ None
+    → IsWithdrawable number d.progress
 may_amend d number e = by (group_at d.progress.groups number) refl e
   where
-    open_one : (g : Group) (b : Bool) → (let o : Option Refusal = cond b (begun_member d g) (Some (GroupClosed (state_of g))) in o) ≡ None → begun_member d g ≡ None
+    open_one : (g : Group) (b : Bool) → (let o : Option Refusal = cond b (begun_member d g) (Some (GroupClosed (state_of g))) in o) ≡ None
+        → begun_member d g ≡ None
     open_one g true f = f
     open_one g false f = cc
 
@@ -57,13 +60,15 @@ neither : (a b : Option Refusal) → option_or a b ≡ None → (a ≡ None) × 
 neither None b e = (refl, e)
 neither (Some r) b e = absurd (cc)
 
-pub amend_keeps : (d : DeskSeen) (old : GroupNo) (document : GroupDoc) → IsDesk d → IsGroup document → (on_amend d old document).refusal ≡ None → IsDesk (on_amend d old document).desk
+pub amend_keeps : (d : DeskSeen) (old : GroupNo) (document : GroupDoc) → IsDesk d → IsGroup document → (on_amend d old document).refusal ≡ None
+    → IsDesk (on_amend d old document).desk
 amend_keeps d old document h g e =
     let freed : DeskSeen = without_group old d in
     let none = neither (ending_refusal (begun_member d) (group_at d.progress.groups old)) (on_submit freed document).refusal e in
     submit_keeps freed document (without_keeps d old h (may_amend d old none.0)) g none.1
 
-pub amend_seconds : (d : DeskSeen) (old : GroupNo) (document : GroupDoc) → IsDesk d → IsGroup document → all_seconds d.books ≤ 10 ^ 18 → (on_amend d old document).refusal ≡ None → all_seconds (on_amend d old document).desk.books ≤ all_seconds d.books + most_added
+pub amend_seconds : (d : DeskSeen) (old : GroupNo) (document : GroupDoc) → IsDesk d → IsGroup document → all_seconds d.books ≤ 10 ^ 18
+    → (on_amend d old document).refusal ≡ None → all_seconds (on_amend d old document).desk.books ≤ all_seconds d.books + most_added
 amend_seconds d old document h g few e =
     let freed : DeskSeen = without_group old d in
     let none = neither (ending_refusal (begun_member d) (group_at d.progress.groups old)) (on_submit freed document).refusal e in

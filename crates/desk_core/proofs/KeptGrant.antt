@@ -26,7 +26,8 @@ use Rattle.desk_core.proofs.Along.{all_seconds}
 
 -- ---- grants
 
-charged_more : (entries more : List Entry) (o : Option Hold) → IfSome o (λ h. IsTrue (has_grant entries h.key)) → IfSome o (λ h. IsTrue (has_grant (entries ++ more) h.key))
+charged_more : (entries more : List Entry) (o : Option Hold) → IfSome o (λ h. IsTrue (has_grant entries h.key))
+    → IfSome o (λ h. IsTrue (has_grant (entries ++ more) h.key))
 charged_more entries more None h = tt
 charged_more entries more (Some x) h = has_grant-append entries more x.key h
 
@@ -46,7 +47,8 @@ grant_keeps d key seconds h =
       held = h.held;
       granted =
           All-weaker (λ g. All (λ x. IsTrue (has_grant entries x.key)) g.holds) (λ g. All (λ x. IsTrue (has_grant (entries ++ more) x.key)) g.holds)
-          (λ g all. All-weaker (λ x. IsTrue (has_grant entries x.key)) (λ x. IsTrue (has_grant (entries ++ more) x.key)) (λ x is. has_grant-append entries more x.key is) g.holds all)
+          (λ g all. All-weaker (λ x. IsTrue (has_grant entries x.key)) (λ x. IsTrue (has_grant (entries ++ more) x.key))
+          (λ x is. has_grant-append entries more x.key is) g.holds all)
           d.books.holds h.granted;
       charged =
           All-weaker (λ g. IfSome g.ipp (λ x. IsTrue (has_grant entries x.key))) (λ g. IfSome g.ipp (λ x. IsTrue (has_grant (entries ++ more) x.key)))
@@ -58,7 +60,8 @@ grant_keeps d key seconds h =
 -- the books have as many seconds more
 pub grant_seconds : (d : DeskSeen) (key : Key) (seconds : ℕ) → all_seconds (on_grant d key seconds).desk.books ≡ all_seconds d.books + seconds
 grant_seconds d key seconds =
-    let sums : sum_by (λ e. e.seconds) (d.books.entries ++ grant_entry key seconds ∷ []) ≡ sum_by (λ e. e.seconds) d.books.entries + sum_by (λ e. e.seconds) (grant_entry key seconds ∷ []) =
+    let sums : sum_by (λ e. e.seconds) (d.books.entries ++ grant_entry key seconds ∷ []) ≡ sum_by (λ e. e.seconds) d.books.entries
+    + sum_by (λ e. e.seconds) (grant_entry key seconds ∷ []) =
     sum_by-append (λ (e : Entry). e.seconds) d.books.entries (grant_entry key seconds ∷ []) in
     let one : sum_by (λ e. e.seconds) (grant_entry key seconds ∷ []) ≡ seconds = omega arith in
     omega (arith, sums, one)

@@ -1,5 +1,6 @@
 -- The lines that say what there is keep the desk.
-use Rattle.std.proofs.Common.{◌≡◌, ◌∙◌, ℕ, ◌<◌, ◌≤◌, refl, sym, Bool, true, false, nat_lt, nat_le, min, List, [], ◌∷◌, ◌++◌, length, length-append, All, Option, Some, None, arith}
+use Rattle.std.proofs.Common.{◌≡◌, ◌∙◌, ℕ, ◌<◌, ◌≤◌, refl, sym, Bool, true, false, nat_lt, nat_le, min, List, [], ◌∷◌, ◌++◌, length, length-append}
+use Rattle.std.proofs.Common.{All, Option, Some, None, arith}
 use Rattle.std.specs.Prelude.{if◌then◌else◌}
 use Rattle.std.specs.List.{AllZip}
 use Rattle.std.specs.Option.{option_map, option_map_or, option_or, option_and_then}
@@ -61,7 +62,8 @@ along_more n m (w ∷ ws) (g ∷ gs) le h =
     (one, along_more n m ws gs le h.1)
 
 -- a desk is one with another network, which has no fewer targets, and closures in order
-pub network_keeps : (d : DeskSeen) (n : NetworkSeen) → IsDesk d → length d.network.registry.targets ≤ length n.registry.targets → AreClosures (length n.registry.telescopes) n.calendar.closures
+pub network_keeps : (d : DeskSeen) (n : NetworkSeen) → IsDesk d → length d.network.registry.targets ≤ length n.registry.targets
+    → AreClosures (length n.registry.telescopes) n.calendar.closures
     → IsDesk (with_network n d)
 network_keeps d n h more closures = record {
   opening = h.opening;
@@ -86,7 +88,8 @@ instrument_keeps d name times h = network_keeps d (on_instrument d name times).d
 pub night_keeps : (d : DeskSeen) (site : List ℕ) (spans : List Span) → IsDesk d → IsDesk (on_night d site spans).desk
 night_keeps d site spans h = by (number_of d.network.registry.sites site)
   where
-    by : (o : Option ℕ) → IsDesk (with_network (option_map_or (λ s. record d.network { calendar = with_night d.network.calendar s (spans_of spans) }) o d.network) d)
+    by : (o : Option ℕ) → IsDesk (with_network
+        (option_map_or (λ s. record d.network { calendar = with_night d.network.calendar s (spans_of spans) }) o d.network) d)
     by None = network_keeps d d.network h (omega arith) h.closures
     by (Some s) = network_keeps d (record d.network { calendar = with_night d.network.calendar s (spans_of spans) }) h (omega arith) h.closures
 
@@ -102,7 +105,9 @@ pub visibility_keeps : (d : DeskSeen) (target site : List ℕ) (spans : List Spa
 visibility_keeps d target site spans h = by (sky_key (with_target d.network.registry target) target site)
   where
     by : (o : Option SkyKey)
-        → IsDesk (with_network (option_map_or (λ key. record { registry = with_target d.network.registry target; calendar = with_sky d.network.calendar key (spans_of spans) }) o d.network) d)
+        → IsDesk (with_network (option_map_or
+        (λ key. record { registry = with_target d.network.registry target; calendar = with_sky d.network.calendar key (spans_of spans) }) o
+        d.network) d)
     by None = network_keeps d d.network h (omega arith) h.closures
     by (Some key) =
         network_keeps d record { registry = with_target d.network.registry target; calendar = with_sky d.network.calendar key (spans_of spans) } h
@@ -111,7 +116,8 @@ visibility_keeps d target site spans h = by (sky_key (with_target d.network.regi
 -- ---- telescopes
 
 -- a telescope that isn't refused has a number below the most
-has_room : (r : RegistrySeen) (code : Code) (given : List (List ℕ)) → option_and_then refusal_of_site (telescope_refusal r code given) ≡ None → length r.telescopes < most_telescopes
+has_room : (r : RegistrySeen) (code : Code) (given : List (List ℕ)) → option_and_then refusal_of_site (telescope_refusal r code given) ≡ None
+    → length r.telescopes < most_telescopes
 has_room r code given e = by (first_unnamed (instrument_names r) given) (is_coded r code) (nat_le most_telescopes (length r.telescopes)) refl e
   where
     by : (o : Option ℕ) (coded many : Bool) → nat_le most_telescopes (length r.telescopes) ≡ many
@@ -123,7 +129,8 @@ has_room r code given e = by (first_unnamed (instrument_names r) given) (is_code
     by None false true is none = absurd (cc)
     by None false false is none = grind (arith, nat_tests, is)
 
-pub telescope_keeps : (d : DeskSeen) (code : Code) (class : List ℕ) (instruments : List (List ℕ)) → IsDesk d → (on_telescope d code class instruments).refusal ≡ None
+pub telescope_keeps : (d : DeskSeen) (code : Code) (class : List ℕ) (instruments : List (List ℕ)) → IsDesk d
+    → (on_telescope d code class instruments).refusal ≡ None
     → IsDesk (on_telescope d code class instruments).desk
 telescope_keeps d code class instruments h e =
     let r = d.network.registry in
@@ -142,18 +149,21 @@ telescope_keeps d code class instruments h e =
 early_below : (test : ℕ → Bool) → IsEarly (spans_below test end_of_time)
 early_below test x h = ltb-true x end_of_time (and_parts (nat_lt x end_of_time) (test x) (sym ((set_below test end_of_time).seconds x) ∙ h)).0
 
-all_early : (change : Change) (scope : Scope) (spans : List Span) (codes : List Code) (old : List (List Span)) → All IsEarly old → All IsEarly (closures_after change scope spans codes old)
+all_early : (change : Change) (scope : Scope) (spans : List Span) (codes : List Code) (old : List (List Span)) → All IsEarly old
+    → All IsEarly (closures_after change scope spans codes old)
 all_early change scope spans [] old h = h
 all_early change scope spans (c ∷ codes) [] h = All-nil IsEarly
 all_early change scope spans (c ∷ codes) (x ∷ old) h =
-    All-cons IsEarly (if in_scope scope c then spans_below (closed_after change x spans) end_of_time else x) (closures_after change scope spans codes old) (by (in_scope scope c))
+    All-cons IsEarly (if in_scope scope c then spans_below (closed_after change x spans) end_of_time else x)
+    (closures_after change scope spans codes old) (by (in_scope scope c))
     (all_early change scope spans codes old (All-tail IsEarly x old h))
   where
     by : (b : Bool) → IsEarly (if b then spans_below (closed_after change x spans) end_of_time else x)
     by true = early_below (closed_after change x spans)
     by false = All-head IsEarly x old h
 
-pub closure_keeps : (d : DeskSeen) (change : Change) (scope : Scope) (spans : List Span) (done : Reply) → IsDesk d → (on_closure d change scope spans done).refusal ≡ None
+pub closure_keeps : (d : DeskSeen) (change : Change) (scope : Scope) (spans : List Span) (done : Reply) → IsDesk d
+    → (on_closure d change scope spans done).refusal ≡ None
     → IsDesk (on_closure d change scope spans done).desk
 closure_keeps d change scope spans done h e =
     let old = d.network.calendar.closures in

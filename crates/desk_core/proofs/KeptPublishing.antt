@@ -18,7 +18,8 @@ snapshot_is s version d parts is of =
     let same : of.0 ≡ d = cc in
     of.2 ∙ ap (λ (t : StateSeen). snapshot_of t.version of.0) is ∙ ap (snapshot_of version) same
 
-pub published_keeps : (s : StateSeen) (version : ℕ) (d e : DeskSeen) (parts : Parts) (claim : Claim) → version < 524288 → IsState (opened version d) → s ≡ opened version d
+pub published_keeps : (s : StateSeen) (version : ℕ) (d e : DeskSeen) (parts : Parts) (claim : Claim) → version < 524288
+    → IsState (opened version d) → s ≡ opened version d
     → IsSnapshotOf s parts → IsCertified parts claim → e ≡ with_publication parts.version claim d → IsState (opened (version + 1) e)
 published_keeps s version d e parts claim lt h is of certified published =
     let snapshot = snapshot_is s version d parts is of in

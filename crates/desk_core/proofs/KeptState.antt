@@ -30,7 +30,8 @@ is_roomy version d h =
     omega (arith, few, least)
 
 -- one change more
-pub change_keeps : (version : ℕ) (d e : DeskSeen) → version < 524288 → IsState record { version = version; desk = Some d } → Keeps d e → IsState record { version = version + 1; desk = Some e }
+pub change_keeps : (version : ℕ) (d e : DeskSeen) → version < 524288 → IsState record { version = version; desk = Some d } → Keeps d e
+    → IsState record { version = version + 1; desk = Some e }
 change_keeps version d e lt h k =
     let few : total_seconds d.books + standing_seconds d.books.holds ≤ version * most_added = h.books in
     let seconds : all_seconds e.books ≤ all_seconds d.books + most_added = k.seconds in
@@ -39,13 +40,15 @@ change_keeps version d e lt h k =
     record { version = omega arith; desk = k.desk; books = omega (arith, few, seconds); groups = omega (arith, groups, more) }
 
 -- what is decided keeps the state, where it keeps the desk unless it is refused
-pub decided_keeps : (version : ℕ) (d : DeskSeen) (refusal : Option Refusal) (reply : Reply) (e : DeskSeen) → version < 524288 → IsState record { version = version; desk = Some d }
+pub decided_keeps : (version : ℕ) (d : DeskSeen) (refusal : Option Refusal) (reply : Reply) (e : DeskSeen) → version < 524288
+    → IsState record { version = version; desk = Some d }
     → (refusal ≡ None → Keeps d e) → IsState (decided record { version = version; desk = Some d } record { refusal = refusal; reply = reply; desk = e }).state
 decided_keeps version d None reply e lt h k = change_keeps version d e lt h (k refl)
 decided_keeps version d (Some r) reply e lt h k = h
 
 -- a desk that is opened
-pub open_keeps : (version : ℕ) (opening : Opening) (now : Sec) (e : DeskSeen) → version < 524288 → IsOpenedWith opening → now.0 ≤ last_moment → e ≡ new_desk opening now
+pub open_keeps : (version : ℕ) (opening : Opening) (now : Sec) (e : DeskSeen) → version < 524288 → IsOpenedWith opening → now.0 ≤ last_moment
+    → e ≡ new_desk opening now
     → IsState record { version = version + 1; desk = Some e }
 open_keeps version opening now e lt h moment is = subst (λ (d : DeskSeen). IsState record { version = version + 1; desk = Some d }) (sym is) record {
   version = omega arith;

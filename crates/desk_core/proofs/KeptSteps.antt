@@ -65,7 +65,9 @@ report_same : (d : DeskSeen) (number : RequestNo) (percent used : ℕ) → (on_r
 report_same d number percent used = found (request_with d number)
   where
     by : (p : Submitted × (Request × Wanted)) (a b c : Bool)
-        → (let x : Decision = if not a then on_refused d number NotRunning else (if b then on_refused d number (UsedTooLong p.1.0.seconds used) else (if c then on_completed d number used p.0 p.1.1 else on_failed d number)) in x.desk.groups) ≡ d.groups
+        → (let x : Decision = if not a then on_refused d number NotRunning
+        else (if b then on_refused d number (UsedTooLong p.1.0.seconds used)
+        else (if c then on_completed d number used p.0 p.1.1 else on_failed d number)) in x.desk.groups) ≡ d.groups
     by p false b c = refl
     by p true true c = refl
     by p true false true = charged_same d number used p.0 p.1.1
@@ -78,33 +80,40 @@ report_same d number percent used = found (request_with d number)
 -- ---- a step
 
 -- a decision that is the step
-by_decision : (version : ℕ) (d : DeskSeen) (decision : Decision) (stepped : Stepped) → version < 524288 → IsState (opened version d) → Some (decided (opened version d) decision) ≡ Some stepped
+by_decision : (version : ℕ) (d : DeskSeen) (decision : Decision) (stepped : Stepped) → version < 524288 → IsState (opened version d)
+    → Some (decided (opened version d) decision) ≡ Some stepped
     → (decision.refusal ≡ None → Keeps d decision.desk) → IsState stepped.state
 by_decision version d decision stepped lt h is keeps =
-    subst (λ (s : Stepped). IsState s.state) (same_Some (decided (opened version d) decision) stepped is) (decided_keeps version d decision.refusal decision.reply decision.desk lt h keeps)
+    subst (λ (s : Stepped). IsState s.state) (same_Some (decided (opened version d) decision) stepped is)
+    (decided_keeps version d decision.refusal decision.reply decision.desk lt h keeps)
 
 -- a step that changes nothing
-by_same : (version : ℕ) (d : DeskSeen) (now stepped : Stepped) → IsState (opened version d) → now.state ≡ opened version d → Some now ≡ Some stepped → IsState stepped.state
+by_same : (version : ℕ) (d : DeskSeen) (now stepped : Stepped) → IsState (opened version d) → now.state ≡ opened version d
+    → Some now ≡ Some stepped → IsState stepped.state
 by_same version d now stepped h same is = subst (λ (s : Stepped). IsState s.state) (same_Some now stepped is) (subst IsState (sym same) h)
 
 -- what is told changes nothing
-by_told : (version : ℕ) (d : DeskSeen) (answer : Result Reply Refusal) (stepped : Stepped) → IsState (opened version d) → Some (told (opened version d) answer) ≡ Some stepped → IsState stepped.state
+by_told : (version : ℕ) (d : DeskSeen) (answer : Result Reply Refusal) (stepped : Stepped) → IsState (opened version d)
+    → Some (told (opened version d) answer) ≡ Some stepped → IsState stepped.state
 by_told version d (Ok reply) stepped h is = by_same version d _ stepped h refl is
 by_told version d (Err refusal) stepped h is = by_same version d _ stepped h refl is
 
 -- a step of an opened desk keeps the state
-pub step_keeps : (version : ℕ) (d : DeskSeen) (c : Command) (stepped : Stepped) → version < 524288 → IsState (opened version d) → IsCommand c → IsStep (opened version d) c stepped → IsState stepped.state
+pub step_keeps : (version : ℕ) (d : DeskSeen) (c : Command) (stepped : Stepped) → version < 524288 → IsState (opened version d) → IsCommand c
+    → IsStep (opened version d) c stepped → IsState stepped.state
 step_keeps version d (command.Open now slice horizon semester lanes rounds workers quota) stepped lt h ranges s = by_same version d _ stepped h refl s.2
 step_keeps version d (command.Instrument name front config readout change) stepped lt h ranges s =
     by_decision version d (on_instrument d name (times front config readout change)) stepped lt h s.2
     (λ none. leaves d _ (instrument_keeps d name (times front config readout change) h.desk) (omega arith) (omega arith))
 step_keeps version d (command.Telescope site enclosure telescope class instruments) stepped lt h ranges s =
     by_decision version d (on_telescope d record { site = site; enclosure = enclosure; telescope = telescope } class instruments) stepped lt h s.2
-    (λ none. leaves d _ (telescope_keeps d record { site = site; enclosure = enclosure; telescope = telescope } class instruments h.desk none) (omega arith) (omega arith))
+    (λ none. leaves d _ (telescope_keeps d record { site = site; enclosure = enclosure; telescope = telescope } class instruments h.desk none)
+    (omega arith) (omega arith))
 step_keeps version d (command.Night site spans) stepped lt h ranges s =
     by_decision version d (on_night d site spans) stepped lt h s.2 (λ none. leaves d _ (night_keeps d site spans h.desk) (omega arith) (omega arith))
 step_keeps version d (command.Visibility target site spans) stepped lt h ranges s =
-    by_decision version d (on_visibility d target site spans) stepped lt h s.2 (λ none. leaves d _ (visibility_keeps d target site spans h.desk) (omega arith) (omega arith))
+    by_decision version d (on_visibility d target site spans) stepped lt h s.2
+    (λ none. leaves d _ (visibility_keeps d target site spans h.desk) (omega arith) (omega arith))
 step_keeps version d (command.Close scope spans) stepped lt h ranges s =
     by_decision version d (on_closure d Close scope spans reply.Closed) stepped lt h s.2
     (λ none. leaves d _ (closure_keeps d Close scope spans reply.Closed h.desk none) (omega arith) (omega arith))
@@ -124,7 +133,11 @@ step_keeps version d (command.Amend old document) stepped lt h ranges s =
     by_decision version d (on_amend d old document) stepped lt h s.2
     (λ none.
     let room = bounded version d h in
-    record { desk = amend_keeps d old document h.desk ranges none; seconds = amend_seconds d old document h.desk ranges (omega (arith, room)) none; groups = amend_groups d old document })
+    record {
+      desk = amend_keeps d old document h.desk ranges none;
+      seconds = amend_seconds d old document h.desk ranges (omega (arith, room)) none;
+      groups = amend_groups d old document;
+    })
 step_keeps version d (command.Withdraw group) stepped lt h ranges s =
     by_decision version d (on_withdraw d group) stepped lt h s.2
     (λ none.

@@ -28,7 +28,8 @@ use Rattle.desk_core.proofs.WentOn.{progress_keeps, progress_seconds}
 -- `clock` at a moment of the calendar
 pub clock_keeps : (d : DeskSeen) (at : Sec) → IsDesk d → at.0 ≤ last_moment → IsDesk (on_clock d at).desk
 clock_keeps d at h moment =
-    progress_keeps d (settle (at_moment at d.progress)) h (settle_sound (at_moment at d.progress) (ready_at d.progress at h.sound)) (moment_goes_on d.progress at) refl moment
+    progress_keeps d (settle (at_moment at d.progress)) h (settle_sound (at_moment at d.progress) (ready_at d.progress at h.sound))
+    (moment_goes_on d.progress at) refl moment
 
 pub clock_seconds : (d : DeskSeen) (at : Sec) → IsDesk d → all_seconds d.books ≤ 10 ^ 18 → all_seconds (on_clock d at).desk.books ≤ all_seconds d.books
 clock_seconds d at h few = progress_seconds d (settle (at_moment at d.progress)) h (moment_goes_on d.progress at).later few
@@ -45,10 +46,12 @@ none_running p (q ∷ qs) e = by (p q) refl e (none_running p qs)
     by false is f rest = All-cons (λ x. p x ≡ false) q qs is (rest f)
 
 -- a group that isn't refused may be withdrawn
-pub may_withdraw : (d : DeskSeen) (number : GroupNo) → ending_refusal (running_member d) (group_at d.progress.groups number) ≡ None → IsWithdrawable number d.progress
+pub may_withdraw : (d : DeskSeen) (number : GroupNo) → ending_refusal (running_member d) (group_at d.progress.groups number) ≡ None
+    → IsWithdrawable number d.progress
 may_withdraw d number e = by (group_at d.progress.groups number) refl e
   where
-    open_one : (g : Group) (b : Bool) → (let o : Option Refusal = cond b (running_member d g) (Some (GroupClosed (state_of g))) in o) ≡ None → running_member d g ≡ None
+    open_one : (g : Group) (b : Bool) → (let o : Option Refusal = cond b (running_member d g) (Some (GroupClosed (state_of g))) in o) ≡ None
+        → running_member d g ≡ None
     open_one g true f = f
     open_one g false f = cc
 
@@ -61,11 +64,13 @@ pub without_keeps : (d : DeskSeen) (number : GroupNo) → IsDesk d → IsWithdra
 without_keeps d number h may =
     progress_keeps d (withdrawn number d.progress) h (withdrawable_sound d.progress number h.sound may) (withdrawal_goes_on d.progress number) refl h.moment
 
-pub without_seconds : (d : DeskSeen) (number : GroupNo) → IsDesk d → all_seconds d.books ≤ 10 ^ 18 → all_seconds (without_group number d).books ≤ all_seconds d.books
+pub without_seconds : (d : DeskSeen) (number : GroupNo) → IsDesk d → all_seconds d.books ≤ 10 ^ 18
+    → all_seconds (without_group number d).books ≤ all_seconds d.books
 without_seconds d number h few = progress_seconds d (withdrawn number d.progress) h (withdrawal_goes_on d.progress number).later few
 
 pub withdraw_keeps : (d : DeskSeen) (number : GroupNo) → IsDesk d → (on_withdraw d number).refusal ≡ None → IsDesk (on_withdraw d number).desk
 withdraw_keeps d number h e = without_keeps d number h (may_withdraw d number e)
 
-pub withdraw_seconds : (d : DeskSeen) (number : GroupNo) → IsDesk d → all_seconds d.books ≤ 10 ^ 18 → all_seconds (on_withdraw d number).desk.books ≤ all_seconds d.books
+pub withdraw_seconds : (d : DeskSeen) (number : GroupNo) → IsDesk d → all_seconds d.books ≤ 10 ^ 18
+    → all_seconds (on_withdraw d number).desk.books ≤ all_seconds d.books
 withdraw_seconds d number h few = without_seconds d number h few

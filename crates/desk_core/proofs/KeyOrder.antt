@@ -31,7 +31,8 @@ account_order Ipp Ipp = refl
 
 pub key_order : (a b : Key) → of_key.cmp-value.it a b ≡ key_cmp a b
 key_order a b =
-    ap (λ (o : Ordering). ordering_then (slice_cmp nat_cmp a.proposal b.proposal) (ordering_then o (slice_cmp nat_cmp a.instrument b.instrument))) (account_order a.account b.account)
+    ap (λ (o : Ordering). ordering_then (slice_cmp nat_cmp a.proposal b.proposal) (ordering_then o (slice_cmp nat_cmp a.instrument b.instrument)))
+    (account_order a.account b.account)
 
 -- so a key goes to the same place by either
 pub insert_order : (ks : List Key) (k : Key) → insert_key of_key.cmp-value.it ks k ≡ insert_key key_cmp ks k

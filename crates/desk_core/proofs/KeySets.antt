@@ -1,5 +1,6 @@
 -- The accounts of needs, as a set.
-use Rattle.std.proofs.Common.{◌≡◌, ℕ, zero, suc, ◌+◌, ◌<◌, ◌≤◌, Bool, true, false, List, [], ◌∷◌, length, get_or, fold, sum_by, All, refl, sym, ◌∙◌, ap, subst, arith, inl, inr, ◌⊎◌}
+use Rattle.std.proofs.Common.{◌≡◌, ℕ, zero, suc, ◌+◌, ◌<◌, ◌≤◌, Bool, true, false, List, [], ◌∷◌, length, get_or, fold, sum_by, All, refl, sym, ◌∙◌}
+use Rattle.std.proofs.Common.{ap, subst, arith, inl, inr, ◌⊎◌}
 use Rattle.std.specs.List.{Contains, list_any}
 use Rattle.std.specs.Ordering.{is_eq, match_ordering}
 use Rattle.std.specs.BTreeSet.{insert_key}
@@ -57,7 +58,8 @@ pub rises_insert : (ks : List Key) (k : Key) → Rises key_cmp ks → Rises key_
 rises_insert [] k h = λ i j d l m. absurd (omega arith)
 rises_insert (x ∷ xs) k h = by (key_cmp k x) refl (rises_insert xs k (rises_tail x xs h))
   where
-    by : (o : Ordering) → key_cmp k x ≡ o → Rises key_cmp (insert_key key_cmp xs k) → Rises key_cmp (match_ordering o (k ∷ x ∷ xs) (x ∷ xs) (x ∷ insert_key key_cmp xs k))
+    by : (o : Ordering) → key_cmp k x ≡ o → Rises key_cmp (insert_key key_cmp xs k)
+        → Rises key_cmp (match_ordering o (k ∷ x ∷ xs) (x ∷ xs) (x ∷ insert_key key_cmp xs k))
     by Less e rest = AllPairs-cons (λ a b. key_cmp a b ≡ Less) k (x ∷ xs) (below_all k x xs e h) h
     by Equal e rest = h
     by Greater e rest =
@@ -68,7 +70,8 @@ in_insert : (ks : List Key) (k x : Key) → Contains ks x → Contains (insert_k
 in_insert [] k x c = absurd (in_none x c)
 in_insert (y ∷ ys) k x c = by (key_cmp k y) (λ later. in_insert ys k x later)
   where
-    by : (o : Ordering) → (Contains ys x → Contains (insert_key key_cmp ys k) x) → Contains (match_ordering o (k ∷ y ∷ ys) (y ∷ ys) (y ∷ insert_key key_cmp ys k)) x
+    by : (o : Ordering) → (Contains ys x → Contains (insert_key key_cmp ys k) x)
+        → Contains (match_ordering o (k ∷ y ∷ ys) (y ∷ ys) (y ∷ insert_key key_cmp ys k)) x
     by Less rest = in_there x k (y ∷ ys) c
     by Equal rest = c
     by Greater rest = elim (in_split x y ys c) [
@@ -80,7 +83,8 @@ insert_in : (ks : List Key) (k : Key) → Contains (insert_key key_cmp ks k) k
 insert_in [] k = in_here k []
 insert_in (y ∷ ys) k = by (key_cmp k y) refl (insert_in ys k)
   where
-    by : (o : Ordering) → key_cmp k y ≡ o → Contains (insert_key key_cmp ys k) k → Contains (match_ordering o (k ∷ y ∷ ys) (y ∷ ys) (y ∷ insert_key key_cmp ys k)) k
+    by : (o : Ordering) → key_cmp k y ≡ o → Contains (insert_key key_cmp ys k) k
+        → Contains (match_ordering o (k ∷ y ∷ ys) (y ∷ ys) (y ∷ insert_key key_cmp ys k)) k
     by Less e rest = in_here k (y ∷ ys)
     by Equal e rest = subst (λ (z : Key). Contains (z ∷ ys) k) (key_same k y e) (in_here k ys)
     by Greater e rest = in_there k y (insert_key key_cmp ys k) rest
@@ -99,7 +103,8 @@ insert_or (y ∷ ys) k x c = by (key_cmp k y) c (λ later. insert_or ys k x late
     ]
 
 -- a sum over some of the keys is at most the sum over all
-pub sum_of_some : (f : Key → ℕ) (ks ls : List Key) → Rises key_cmp ks → Rises key_cmp ls → ((x : Key) → Contains ks x → Contains ls x) → sum_by f ks ≤ sum_by f ls
+pub sum_of_some : (f : Key → ℕ) (ks ls : List Key) → Rises key_cmp ks → Rises key_cmp ls → ((x : Key) → Contains ks x → Contains ls x)
+    → sum_by f ks ≤ sum_by f ls
 sum_of_some f [] ls h g s = omega arith
 sum_of_some f (k ∷ ks) [] h g s = absurd (in_none k (s k (in_here k ks)))
 sum_of_some f (k ∷ ks) (l ∷ ls) h g s =
@@ -108,7 +113,8 @@ sum_of_some f (k ∷ ks) (l ∷ ls) h g s =
     elim (in_split k l ls (s k (in_here k ks))) [
       | inl same ↦
           let worth : f l ≡ f k = ap f same in
-          let rest : sum_by f ks ≤ sum_by f ls = sum_of_some f ks ls (rises_tail k ks h) (rises_tail l ls g) (λ x c. elim (in_split x l ls (s x (in_there x k ks c))) [
+          let rest : sum_by f ks ≤ sum_by f ls =
+          sum_of_some f ks ls (rises_tail k ks h) (rises_tail l ls g) (λ x c. elim (in_split x l ls (s x (in_there x k ks c))) [
             | inl here ↦ absurd (not_less k (ap (key_cmp k) (sym same ∙ here) ∙ below_later k x ks h c))
             | inr later ↦ later
           ]) in
@@ -146,7 +152,8 @@ kept_from ks (n ∷ ns) x c = kept_from (insert_key key_cmp ks n.key) ns x (in_i
 pub on_from : (ks : List Key) (needs : List Hold) (x : Key) → is_on x needs ≡ true → Contains (keys_from ks needs) x
 on_from ks [] x e = cc
 on_from ks (n ∷ ns) x e = elim (or_cases (is_key n.key x) (is_on x ns) e) [
-  | inl here ↦ kept_from (insert_key key_cmp ks n.key) ns x (subst (λ (z : Key). Contains (insert_key key_cmp ks n.key) z) (is_key-true n.key x here) (insert_in ks n.key))
+  | inl here ↦ kept_from (insert_key key_cmp ks n.key) ns x
+      (subst (λ (z : Key). Contains (insert_key key_cmp ks n.key) z) (is_key-true n.key x here) (insert_in ks n.key))
   | inr later ↦ on_from (insert_key key_cmp ks n.key) ns x later
 ]
 

@@ -16,7 +16,8 @@ by_account on true e = rw e refl
 by_account on false e = rw e refl
 
 -- an account on an instrument type lacks it exactly where it isn't registered
-pub on_type : (d : DeskSeen) (key : Key) → is_on_instrument key.account ≡ true → is_some (times_of d.network.registry key.instrument) ≡ not (instrument_lacks d key)
+pub on_type : (d : DeskSeen) (key : Key) → is_on_instrument key.account ≡ true
+    → is_some (times_of d.network.registry key.instrument) ≡ not (instrument_lacks d key)
 on_type d key on =
     is_some-lookup (is_name key.instrument) d.network.registry.instruments
     ∙ by_account (is_on_instrument key.account) (is_named (keys_of d.network.registry.instruments) key.instrument) on

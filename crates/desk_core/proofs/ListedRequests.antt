@@ -86,7 +86,8 @@ pub home_of : (version : ℕ) (d : DeskSeen) (r : ℕ) → IsKnown (snapshot_of 
 home_of version d r known =
     let s = snapshot_of version d in
     let found = known_as s r known in
-    let home : IsHome d (listed_groups d) 0 found.0 = All-contains (IsHome d (listed_groups d) 0) (listed s) found.0 (homes d 0 (listed_groups d)) found.1.in_list in
+    let home : IsHome d (listed_groups d) 0 found.0 =
+    All-contains (IsHome d (listed_groups d) 0) (listed s) found.0 (homes d 0 (listed_groups d)) found.1.in_list in
     record {
       listed = found.0;
       home = home;
@@ -117,18 +118,21 @@ abbrev pub AreBefore : List Request → Type 0
 AreBefore qs = AllPairs (λ q r. q.number.0 < r.number.0) qs
 
 -- no later group has a request of the first
-apart_first : (g : Group) (gs : List Group) (n : RequestNo) (h : Group) → AreBefore (requests_of (g ∷ gs)) → Contains gs h → has_request n g ≡ true → has_request n h ≡ true → ⊥
+apart_first : (g : Group) (gs : List Group) (n : RequestNo) (h : Group) → AreBefore (requests_of (g ∷ gs)) → Contains gs h → has_request n g ≡ true
+    → has_request n h ≡ true → ⊥
 apart_first g gs n h before there one other =
     let q = any_found (is_request n) g.requests one in
     let r = any_found (is_request n) h.requests other in
     let lt : q.0.number.0 < r.0.number.0
     = All-contains (λ t. q.0.number.0 < t.number.0) (requests_of gs) r.0
-    (All-contains (λ t. All (λ u. t.number.0 < u.number.0) (requests_of gs)) g.requests q.0 (across (λ t u. t.number.0 < u.number.0) g.requests (requests_of gs) before) q.1)
+    (All-contains (λ t. All (λ u. t.number.0 < u.number.0) (requests_of gs)) g.requests q.0
+    (across (λ t u. t.number.0 < u.number.0) g.requests (requests_of gs) before) q.1)
     (in_flat (λ x. x.requests) gs h r.0 there r.1)
     in omega (arith, lt, eqb-true q.0.number.0 n.0 q.2, eqb-true r.0.number.0 n.0 r.2)
 
 -- a request is one of a single group
-pub same_group : (gs : List Group) (n : RequestNo) (g h : Group) → AreBefore (requests_of gs) → Contains gs g → Contains gs h → has_request n g ≡ true → has_request n h ≡ true → g ≡ h
+pub same_group : (gs : List Group) (n : RequestNo) (g h : Group) → AreBefore (requests_of gs) → Contains gs g → Contains gs h → has_request n g ≡ true
+    → has_request n h ≡ true → g ≡ h
 same_group [] n g h before one other has_one has_other = absurd (omega (arith, one.1))
 same_group (x ∷ gs) n g h before one other has_one has_other = elim (contains_cases x g gs one) [
   | inl first ↦ elim (contains_cases x h gs other) [
@@ -173,7 +177,8 @@ waits_at version d n known =
     let m = home.member in
     let listed : Contains (listed_groups d) p = (home.index, home.in_range, home.stands) in
     let waits : is_waiting d.progress.running m.0 ≡ true
-    = All-contains (λ k. is_waiting d.progress.running k.0 ≡ true) (waiting_of d p) m (filter_passes (λ k. is_waiting d.progress.running k.0) (zip p.1.requests p.0.requests)) home.waits
+    = All-contains (λ k. is_waiting d.progress.running k.0 ≡ true) (waiting_of d p) m
+    (filter_passes (λ k. is_waiting d.progress.running k.0) (zip p.1.requests p.0.requests)) home.waits
     in
     let parts = and_parts (is_pending m.0.state) (not (is_placed d.progress.running m.0.number)) waits in
     let number : m.0.number ≡ n = ap (λ k. record { 0 = k }) at.number in
@@ -191,7 +196,8 @@ waits_at version d n known =
       pending = any_there (λ g. list_any (λ q. is_request n q && is_pending q.state) g.requests) d.progress.groups p.1 there
           (any_there (λ q. is_request n q && is_pending q.state) p.1.requests m.0 inside (both_true (is_request n m.0) (is_pending m.0.state) test parts.0));
       idle = ap (is_placed d.progress.running) (sym number) ∙ not_true (is_placed d.progress.running m.0.number) parts.1;
-      free = not_true (is_oneof p.1.op && has_running d p.1) (and_parts (not (is_oneof p.1.op && has_running d p.1)) (nat_lt 0 (length (waiting_of d p))) passes).0;
+      free = not_true (is_oneof p.1.op && has_running d p.1)
+          (and_parts (not (is_oneof p.1.op && has_running d p.1)) (nat_lt 0 (length (waiting_of d p))) passes).0;
       group_is = at.group_is;
     }
   where

@@ -1,5 +1,7 @@
 -- The requests that a document makes are in the ranges, and as many as their group may have.
-use Rattle.std.proofs.Common.{◌≡◌, ◌∙◌, ap, sym, subst, refl, ℕ, zero, suc, ◌+◌, ◌*◌, ◌/◌, ◌%◌, ◌<◌, ◌≤◌, min, max, nat_le, nat_lt, Bool, true, false, cond, ◌&&◌, List, [], ◌∷◌, ◌++◌, length, map, fold, sum_by, All, get_or, Option, Some, None, Result, Ok, Err, arith, inl, inr}
+use Rattle.std.proofs.Common.{◌≡◌, ◌∙◌, ap, sym, subst, refl, ℕ, zero, suc, ◌+◌, ◌*◌, ◌/◌, ◌%◌, ◌<◌, ◌≤◌, min, max, nat_le, nat_lt, Bool, true, false}
+use Rattle.std.proofs.Common.{cond, ◌&&◌, List, [], ◌∷◌, ◌++◌, length, map, fold, sum_by, All, get_or, Option, Some, None, Result, Ok, Err, arith, inl}
+use Rattle.std.proofs.Common.{inr}
 use Rattle.std.specs.List.{enumerate_from, list_any, range_with_len}
 use Rattle.std.specs.Option.{ok_or}
 use Rattle.std.specs.Int.{div_ceil, is_in_range}
@@ -36,7 +38,8 @@ use Rattle.site_model.specs.Registry.{RegistrySeen, times_of}
 use Rattle.desk_events.specs.declared.refusal.Refusal.{Refusal}
 use Rattle.desk_events.specs.declared.refusal.Refusal.TheVariants.{NoSuchInstrument}
 use Rattle.desk_core.specs.Desk.{DeskSeen}
-use Rattle.desk_core.specs.Asking.{follows, turned_into, at_index, overheads, seconds_for, is_single, windows_for, is_outside, is_past, is_fitted, made_with, tested, made_from, gathered, made_of, last_of, MadeSeen}
+use Rattle.desk_core.specs.Asking.{follows, turned_into, at_index, overheads, seconds_for, is_single, windows_for, is_outside, is_past, is_fitted}
+use Rattle.desk_core.specs.Asking.{made_with, tested, made_from, gathered, made_of, last_of, MadeSeen}
 use Rattle.desk_core.specs.Submitting.{op_of}
 use Rattle.desk_core.specs.Making.{IsMade, AreMade}
 
@@ -70,7 +73,8 @@ some_request instrument (c ∷ cs) h =
     let first = some_configuration instrument c (All-head IsConfiguration c cs h.each) in
     omega (arith, part, first)
 
-duration_is : (instrument : Instrument) (cs : List ConfigDoc) (seconds : ℕ) → AreConfigurations cs → duration instrument cs ≡ Ok seconds → IsBetween 1 86400 seconds
+duration_is : (instrument : Instrument) (cs : List ConfigDoc) (seconds : ℕ) → AreConfigurations cs → duration instrument cs ≡ Ok seconds
+    → IsBetween 1 86400 seconds
 duration_is instrument cs seconds h e = by (nat_le (request_seconds instrument cs) most_seconds) refl e
   where
     by : (b : Bool) → nat_le (request_seconds instrument cs) most_seconds ≡ b → duration instrument cs ≡ Ok seconds → IsBetween 1 86400 seconds
@@ -83,14 +87,18 @@ duration_is instrument cs seconds h e = by (nat_le (request_seconds instrument c
         record { low = omega (arith, least, same); high = omega (arith, most, same) }
     by false t e = let bad = rw t at e in absurd (cc)
 
-pub seconds_are : (r : RegistrySeen) (index : ℕ) (q : RequestDoc) (seconds : ℕ) → AreConfigurations q.configurations → seconds_for r index q ≡ Ok seconds → IsBetween 1 86400 seconds
+pub seconds_are : (r : RegistrySeen) (index : ℕ) (q : RequestDoc) (seconds : ℕ) → AreConfigurations q.configurations
+    → seconds_for r index q ≡ Ok seconds → IsBetween 1 86400 seconds
 seconds_are r index q seconds h e = by (times_of r q.instrument) e
   where
-    timed : (times : InstrumentTimes) (d : Result ℕ TimeFault) → duration (overheads times) q.configurations ≡ d → at_index index d ≡ Ok seconds → IsBetween 1 86400 seconds
+    timed : (times : InstrumentTimes) (d : Result ℕ TimeFault) → duration (overheads times) q.configurations ≡ d → at_index index d ≡ Ok seconds
+        → IsBetween 1 86400 seconds
     timed times (Ok n) t e = duration_is (overheads times) q.configurations seconds h (t ∙ cc)
     timed times (Err fault) t e = absurd (cc)
 
-    by : (o : Option InstrumentTimes) → follows (ok_or o (NoSuchInstrument index)) (λ times. at_index index (duration (overheads times) q.configurations)) ≡ Ok seconds → IsBetween 1 86400 seconds
+    by : (o : Option InstrumentTimes)
+        → follows (ok_or o (NoSuchInstrument index)) (λ times. at_index index (duration (overheads times) q.configurations)) ≡ Ok seconds
+        → IsBetween 1 86400 seconds
     by None e = absurd (cc)
     by (Some times) e = timed times (duration (overheads times) q.configurations) refl e
 
@@ -108,7 +116,8 @@ few_windows c seconds n =
     let count = length-map-range_with_len (λ k. window c (centre c k)) 0 n in
     omega (arith, kept, part, count)
 
-pub expanded : (c : CadenceDoc) (seconds : ℕ) (windows : List Span) → IsCadence c → 1 ≤ seconds → expansion c seconds ≡ Ok windows → IsExpanded c seconds windows
+pub expanded : (c : CadenceDoc) (seconds : ℕ) (windows : List Span) → IsCadence c → 1 ≤ seconds → expansion c seconds ≡ Ok windows
+    → IsExpanded c seconds windows
 expanded c seconds windows h some e = record {
   count = counted (is_cadence c) (nat_le (centre_count c) 256) (windows_of c seconds (centre_count c)) refl refl refl e;
   each = λ i d l.
@@ -118,7 +127,8 @@ expanded c seconds windows h some e = record {
       record { order = omega (arith, long, some); last = omega (arith, inside.to, h.last) };
 }
   where
-    counted : (a b : Bool) (ws : List Span) → is_cadence c ≡ a → nat_le (centre_count c) 256 ≡ b → windows_of c seconds (centre_count c) ≡ ws → expansion c seconds ≡ Ok windows → IsBetween 1 256 (length windows)
+    counted : (a b : Bool) (ws : List Span) → is_cadence c ≡ a → nat_le (centre_count c) 256 ≡ b → windows_of c seconds (centre_count c) ≡ ws
+        → expansion c seconds ≡ Ok windows → IsBetween 1 256 (length windows)
     counted false b ws p q r e = let bad = rw p at e in absurd (cc)
     counted true false ws p q r e = let bad = rw q at (rw p at e) in absurd (cc)
     counted true true [] p q r e = let bad = rw r at (rw q at (rw p at e)) in absurd (cc)
@@ -136,13 +146,19 @@ pub record AreListed (op : Op) (lists : List (List Span)) : Type 0 where
   pub one : is_single op ≡ false → length lists ≡ 1
   pub each : All AreWindows lists
 
-pub listed : (op : Op) (index seconds : ℕ) (when : When) (lists : List (List Span)) → IsWhen when → 1 ≤ seconds → windows_for op index seconds when ≡ Ok lists → AreListed op lists
+pub listed : (op : Op) (index seconds : ℕ) (when : When) (lists : List (List Span)) → IsWhen when → 1 ≤ seconds
+    → windows_for op index seconds when ≡ Ok lists → AreListed op lists
 listed op index seconds (Windows ws) lists h some e =
     let same : ws ∷ [] ≡ lists = cc in
-    subst (AreListed op) same (record { count = record { low = omega arith; high = omega arith }; one = λ single. refl; each = All-cons AreWindows ws [] h (All-nil AreWindows) })
+    subst (AreListed op) same (record {
+      count = record { low = omega arith; high = omega arith };
+      one = λ single. refl;
+      each = All-cons AreWindows ws [] h (All-nil AreWindows);
+    })
 listed op index seconds (Cadence c) lists h some e = by (is_single op) refl e
   where
-    of_windows : (r : Result (List Span) TimeFault) → expansion c seconds ≡ r → turned_into (at_index index r) (map (λ w. w ∷ [])) ≡ Ok lists → (is_single op ≡ false → ⊥) → AreListed op lists
+    of_windows : (r : Result (List Span) TimeFault) → expansion c seconds ≡ r → turned_into (at_index index r) (map (λ w. w ∷ [])) ≡ Ok lists
+        → (is_single op ≡ false → ⊥) → AreListed op lists
     of_windows (Err fault) t e many = absurd (cc)
     of_windows (Ok ws) t e many =
         let x = expanded c seconds ws h some t in
@@ -151,7 +167,11 @@ listed op index seconds (Cadence c) lists h some e = by (is_single op) refl e
         subst (AreListed op) same (record {
           count = record { low = omega (arith, count, x.count.low); high = omega (arith, count, x.count.high) };
           one = λ single. absurd (many single);
-          each = All-map AreWindows (λ w. w ∷ []) ws (λ i d l. record { count = record { low = omega arith; high = omega arith }; each = All-cons IsWindow (get_or ws i d) [] (x.each i d l) (All-nil IsWindow) });
+          each = All-map AreWindows (λ w. w ∷ []) ws
+              (λ i d l. record {
+                count = record { low = omega arith; high = omega arith };
+                each = All-cons IsWindow (get_or ws i d) [] (x.each i d l) (All-nil IsWindow);
+              });
         })
 
     by : (b : Bool) → is_single op ≡ b → windows_for op index seconds (Cadence c) ≡ Ok lists → AreListed op lists
@@ -166,17 +186,20 @@ pub record ArePart (now : Sec) (op : Op) (made : List MadeSeen) : Type 0 where
   pub each : All (IsMade now) made
 
 none_past : (now : Sec) (lists : List (List Span)) → list_any (is_past now) lists ≡ false → All (λ ws. is_past now ws ≡ false) lists
-none_past now lists h = λ i d l. false_here (is_past now (get_or lists i d)) (λ t. let bad : true ≡ false = sym (list_any_at (is_past now) lists i d l t) ∙ h in cc)
+none_past now lists h = λ i d l. false_here (is_past now (get_or lists i d))
+    (λ t. let bad : true ≡ false = sym (list_any_at (is_past now) lists i d l t) ∙ h in cc)
   where
     false_here : (b : Bool) → (b ≡ true → ⊥) → b ≡ false
     false_here true n = absurd (n refl)
     false_here false n = refl
 
-tested_are : (d : DeskSeen) (op : Op) (index : ℕ) (q : RequestDoc) (seconds : ℕ) (lists : List (List Span)) (made : List MadeSeen) → IsRequest q → IsBetween 1 86400 seconds → AreListed op lists → tested d index q seconds lists ≡ Ok made → ArePart d.progress.moment op made
+tested_are : (d : DeskSeen) (op : Op) (index : ℕ) (q : RequestDoc) (seconds : ℕ) (lists : List (List Span)) (made : List MadeSeen) → IsRequest q
+    → IsBetween 1 86400 seconds → AreListed op lists → tested d index q seconds lists ≡ Ok made → ArePart d.progress.moment op made
 tested_are d op index q seconds lists made hq hs hl e =
     by (is_outside d.opening.semester lists) (list_any (is_past d.progress.moment) lists) (is_fitted d.network.registry q) refl refl refl e
   where
-    by : (a b c : Bool) → is_outside d.opening.semester lists ≡ a → list_any (is_past d.progress.moment) lists ≡ b → is_fitted d.network.registry q ≡ c → tested d index q seconds lists ≡ Ok made → ArePart d.progress.moment op made
+    by : (a b c : Bool) → is_outside d.opening.semester lists ≡ a → list_any (is_past d.progress.moment) lists ≡ b
+        → is_fitted d.network.registry q ≡ c → tested d index q seconds lists ≡ Ok made → ArePart d.progress.moment op made
     by true b c x y z e = let bad = rw x at e in absurd (cc)
     by false true c x y z e = let bad = rw y at (rw x at e) in absurd (cc)
     by false false false x y z e = let bad = rw z at (rw y at (rw x at e)) in absurd (cc)
@@ -185,7 +208,8 @@ tested_are d op index q seconds lists made hq hs hl e =
         let is : r ≡ Ok made = rw z at (rw y at (rw x at e)) in
         let same : made_with q seconds lists ≡ made = cc in
         let late = none_past d.progress.moment lists y in
-        let count : length (made_with q seconds lists) ≡ length lists = length-map lists (λ windows. let m : MadeSeen = record { asked = q; seconds = seconds; windows = windows } in m) in
+        let count : length (made_with q seconds lists) ≡ length lists =
+        length-map lists (λ windows. let m : MadeSeen = record { asked = q; seconds = seconds; windows = windows } in m) in
         subst (ArePart d.progress.moment op) same (record {
           count = record { low = omega (arith, count, hl.count.low); high = omega (arith, count, hl.count.high) };
           one = λ single. count ∙ hl.one single;
@@ -193,14 +217,18 @@ tested_are d op index q seconds lists made hq hs hl e =
               (λ i w l. record { asked = hq; seconds = hs; windows = hl.each i w l; late = late i w l });
         })
 
-pub part_is : (d : DeskSeen) (op : Op) (index : ℕ) (q : RequestDoc) (made : List MadeSeen) → IsRequest q → made_from d op (index, q) ≡ Ok made → ArePart d.progress.moment op made
+pub part_is : (d : DeskSeen) (op : Op) (index : ℕ) (q : RequestDoc) (made : List MadeSeen) → IsRequest q → made_from d op (index, q) ≡ Ok made
+    → ArePart d.progress.moment op made
 part_is d op index q made h e = timed (seconds_for d.network.registry index q) refl e
   where
-    placed : (seconds : ℕ) → IsBetween 1 86400 seconds → (r : Result (List (List Span)) Refusal) → windows_for op index seconds q.when ≡ r → follows r (tested d index q seconds) ≡ Ok made → ArePart d.progress.moment op made
+    placed : (seconds : ℕ) → IsBetween 1 86400 seconds → (r : Result (List (List Span)) Refusal) → windows_for op index seconds q.when ≡ r
+        → follows r (tested d index q seconds) ≡ Ok made → ArePart d.progress.moment op made
     placed seconds hs (Err refusal) t e = absurd (cc)
     placed seconds hs (Ok lists) t e = tested_are d op index q seconds lists made h hs (listed op index seconds q.when lists h.times hs.low t) e
 
-    timed : (r : Result ℕ Refusal) → seconds_for d.network.registry index q ≡ r → follows r (λ seconds. follows (windows_for op index seconds q.when) (tested d index q seconds)) ≡ Ok made → ArePart d.progress.moment op made
+    timed : (r : Result ℕ Refusal) → seconds_for d.network.registry index q ≡ r
+        → follows r (λ seconds. follows (windows_for op index seconds q.when) (tested d index q seconds)) ≡ Ok made
+        → ArePart d.progress.moment op made
     timed (Err refusal) t e = absurd (cc)
     timed (Ok seconds) t e = placed seconds (seconds_are d.network.registry index q seconds h.taken t) (windows_for op index seconds q.when) refl e
 
@@ -212,16 +240,20 @@ pub record AreAll (now : Sec) (op : Op) (requests : ℕ) (made : List MadeSeen) 
   pub single : requests ≡ 1 → IsBetween 1 256 (length made)
   pub each : All (IsMade now) made
 
-pub all_are : (d : DeskSeen) (op : Op) (index : ℕ) (qs : List RequestDoc) (made : List MadeSeen) → All IsRequest qs → gathered (map (made_from d op) (enumerate_from index qs)) ≡ Ok made → AreAll d.progress.moment op (length qs) made
+pub all_are : (d : DeskSeen) (op : Op) (index : ℕ) (qs : List RequestDoc) (made : List MadeSeen) → All IsRequest qs
+    → gathered (map (made_from d op) (enumerate_from index qs)) ≡ Ok made → AreAll d.progress.moment op (length qs) made
 all_are d op index [] made h e =
     let none : List MadeSeen = [] in
     let same : none ≡ made = cc in
-    subst (AreAll d.progress.moment op 0) same (record { none = λ z. refl; one = λ s. refl; single = λ z. absurd (omega (arith, z)); each = All-nil (IsMade d.progress.moment) })
+    subst (AreAll d.progress.moment op 0) same
+    (record { none = λ z. refl; one = λ s. refl; single = λ z. absurd (omega (arith, z)); each = All-nil (IsMade d.progress.moment) })
 all_are d op index (q ∷ qs) made h e =
     first (made_from d op (index, q)) refl e (λ rest t. all_are d op (index + 1) qs rest (All-tail IsRequest q qs h) t)
   where
-    joined : (part : List MadeSeen) → ArePart d.progress.moment op part → (r : Result (List MadeSeen) Refusal) → gathered (map (made_from d op) (enumerate_from (index + 1) qs)) ≡ r → turned_into r (λ rest. part ++ rest) ≡ Ok made
-        → ((rest : List MadeSeen) → gathered (map (made_from d op) (enumerate_from (index + 1) qs)) ≡ Ok rest → AreAll d.progress.moment op (length qs) rest) → AreAll d.progress.moment op (suc (length qs)) made
+    joined : (part : List MadeSeen) → ArePart d.progress.moment op part → (r : Result (List MadeSeen) Refusal)
+        → gathered (map (made_from d op) (enumerate_from (index + 1) qs)) ≡ r → turned_into r (λ rest. part ++ rest) ≡ Ok made
+        → ((rest : List MadeSeen) → gathered (map (made_from d op) (enumerate_from (index + 1) qs)) ≡ Ok rest
+        → AreAll d.progress.moment op (length qs) rest) → AreAll d.progress.moment op (suc (length qs)) made
     joined part p (Err refusal) t e later = absurd (cc)
     joined part p (Ok rest) t e later =
         let same : part ++ rest ≡ made = cc in
@@ -230,18 +262,23 @@ all_are d op index (q ∷ qs) made h e =
         subst (AreAll d.progress.moment op (suc (length qs))) same (record {
           none = λ z. absurd (omega (arith, z));
           one = λ s. let one = p.one s in let others = all.one s in omega (arith, count, one, others);
-          single = λ z. let others = all.none (omega (arith, z)) in record { low = omega (arith, count, others, p.count.low); high = omega (arith, count, others, p.count.high) };
+          single = λ z. let others = all.none (omega (arith, z)) in
+              record { low = omega (arith, count, others, p.count.low); high = omega (arith, count, others, p.count.high) };
           each = All-append (IsMade d.progress.moment) part rest p.each all.each;
         })
 
-    first : (r : Result (List MadeSeen) Refusal) → made_from d op (index, q) ≡ r → follows r (λ made. turned_into (gathered (map (made_from d op) (enumerate_from (index + 1) qs))) (λ rest. made ++ rest)) ≡ Ok made
-        → ((rest : List MadeSeen) → gathered (map (made_from d op) (enumerate_from (index + 1) qs)) ≡ Ok rest → AreAll d.progress.moment op (length qs) rest) → AreAll d.progress.moment op (suc (length qs)) made
+    first : (r : Result (List MadeSeen) Refusal) → made_from d op (index, q) ≡ r
+        → follows r (λ made. turned_into (gathered (map (made_from d op) (enumerate_from (index + 1) qs))) (λ rest. made ++ rest)) ≡ Ok made
+        → ((rest : List MadeSeen) → gathered (map (made_from d op) (enumerate_from (index + 1) qs)) ≡ Ok rest
+        → AreAll d.progress.moment op (length qs) rest) → AreAll d.progress.moment op (suc (length qs)) made
     first (Err refusal) t e later = absurd (cc)
-    first (Ok part) t e later = joined part (part_is d op index q part (All-head IsRequest q qs h) t) (gathered (map (made_from d op) (enumerate_from (index + 1) qs))) refl e later
+    first (Ok part) t e later = joined part (part_is d op index q part (All-head IsRequest q qs h) t)
+        (gathered (map (made_from d op) (enumerate_from (index + 1) qs))) refl e later
 
 -- ---- the group
 
-shaped : (now : Sec) (document : GroupDoc) (made : List MadeSeen) → IsGroup document → AreAll now document.op (length document.requests) made → IsBetween 1 (most_requests (op_of document made)) (length made)
+shaped : (now : Sec) (document : GroupDoc) (made : List MadeSeen) → IsGroup document → AreAll now document.op (length document.requests) made
+    → IsBetween 1 (most_requests (op_of document made)) (length made)
 shaped now document made h a = by document.op (length document.requests) h.shape a
   where
     single : (b : Bool) → nat_lt 1 (length made) ≡ b → IsBetween 1 256 (length made) → IsBetween 1 (most_requests (cond b Many Single)) (length made)
@@ -254,14 +291,16 @@ shaped now document made h a = by document.op (length document.requests) h.shape
     range : (n : ℕ) → is_in_range 2 32 n ≡ true → (2 ≤ n) × (n ≤ 32)
     range n t = let p = and_parts (nat_le 2 n) (nat_le n 32) t in (leb-true 2 n p.0, leb-true n 32 p.1)
 
-    by : (op : Op) (n : ℕ) → is_shape op n ≡ true → AreAll now op n made → IsBetween 1 (most_requests (cond (is_single op && nat_lt 1 (length made)) Many op)) (length made)
+    by : (op : Op) (n : ℕ) → is_shape op n ≡ true → AreAll now op n made
+        → IsBetween 1 (most_requests (cond (is_single op && nat_lt 1 (length made)) Many op)) (length made)
     by Single n t a = single (nat_lt 1 (length made)) refl (a.single (eqb-true n 1 t))
     by Many n t a = let r = range n t in let e = a.one refl in record { low = omega (arith, r.0, e); high = omega (arith, r.1, e) }
     by OneOf n t a = let r = range n t in let e = a.one refl in record { low = omega (arith, r.0, e); high = omega (arith, r.1, e) }
     by And n t a = let r = range n t in let e = a.one refl in record { low = omega (arith, r.0, e); high = omega (arith, r.1, e) }
 
 -- what a document makes is in the ranges, and makes a group of the right shape
-pub made_are : (d : DeskSeen) (document : GroupDoc) (made : List MadeSeen) → IsGroup document → made_of d document ≡ Ok made → AreMade d.progress.moment document made
+pub made_are : (d : DeskSeen) (document : GroupDoc) (made : List MadeSeen) → IsGroup document → made_of d document ≡ Ok made
+    → AreMade d.progress.moment document made
 made_are d document made h e =
     let all = all_are d document.op 0 document.requests made h.each e in
     record { shape = shaped d.progress.moment document made h all; each = all.each }

@@ -35,22 +35,28 @@ few_needs document [] wanted = omega arith
 few_needs document (q ∷ qs) [] = omega arith
 few_needs document (q ∷ qs) (w ∷ ws) = by (is_pending q.state) (few_needs document qs ws)
   where
-    by : (b : Bool) → length (needs_of document (zip qs ws)) ≤ length qs → length (map (λ p. let h : Hold = record { key = key_of document p.1; seconds = p.0.seconds } in h) (cond b ((q, w) ∷ filter (λ p. is_pending p.0.state) (zip qs ws)) (filter (λ p. is_pending p.0.state) (zip qs ws)))) ≤ suc (length qs)
+    by : (b : Bool) → length (needs_of document (zip qs ws)) ≤ length qs
+        → length (map (λ p. let h : Hold = record { key = key_of document p.1; seconds = p.0.seconds } in
+        h) (cond b ((q, w) ∷ filter (λ p. is_pending p.0.state) (zip qs ws)) (filter (λ p. is_pending p.0.state) (zip qs ws)))) ≤ suc (length qs)
     by true h = omega arith
     by false h = omega arith
 
 -- each is of a request
-pub short_needs : (document : GroupDoc) (requests : List Request) (wanted : List Wanted) → All (λ q. q.seconds ≤ 86400) requests → All (λ h. h.seconds ≤ 86400) (needs_of document (zip requests wanted))
+pub short_needs : (document : GroupDoc) (requests : List Request) (wanted : List Wanted) → All (λ q. q.seconds ≤ 86400) requests
+    → All (λ h. h.seconds ≤ 86400) (needs_of document (zip requests wanted))
 short_needs document [] wanted h = All-nil (λ h. h.seconds ≤ 86400)
 short_needs document (q ∷ qs) [] h = All-nil (λ h. h.seconds ≤ 86400)
 short_needs document (q ∷ qs) (w ∷ ws) h = by (is_pending q.state) (short_needs document qs ws (All-tail (λ q. q.seconds ≤ 86400) q qs h))
   where
-    by : (b : Bool) → All (λ h. h.seconds ≤ 86400) (needs_of document (zip qs ws)) → All (λ h. h.seconds ≤ 86400) (map (λ p. let h : Hold = record { key = key_of document p.1; seconds = p.0.seconds } in h) (cond b ((q, w) ∷ filter (λ p. is_pending p.0.state) (zip qs ws)) (filter (λ p. is_pending p.0.state) (zip qs ws))))
+    by : (b : Bool) → All (λ h. h.seconds ≤ 86400) (needs_of document (zip qs ws))
+        → All (λ h. h.seconds ≤ 86400) (map (λ p. let h : Hold = record { key = key_of document p.1; seconds = p.0.seconds } in
+        h) (cond b ((q, w) ∷ filter (λ p. is_pending p.0.state) (zip qs ws)) (filter (λ p. is_pending p.0.state) (zip qs ws))))
     by true rest = All-cons (λ h. h.seconds ≤ 86400) _ (needs_of document (zip qs ws)) (h 0 q (omega arith)) rest
     by false rest = rest
 
 -- so they come to little
-pub small_needs : (document : GroupDoc) (requests : List Request) (wanted : List Wanted) → length requests ≤ 256 → All (λ q. q.seconds ≤ 86400) requests → seconds_of_holds (needs_of document (zip requests wanted)) ≤ 22118400
+pub small_needs : (document : GroupDoc) (requests : List Request) (wanted : List Wanted) → length requests ≤ 256
+    → All (λ q. q.seconds ≤ 86400) requests → seconds_of_holds (needs_of document (zip requests wanted)) ≤ 22118400
 small_needs document requests wanted few short =
     let needs = needs_of document (zip requests wanted) in
     let most = sum_by-le (λ h. h.seconds) 86400 needs (short_needs document requests wanted short) in

@@ -1,5 +1,6 @@
 -- Targets that get numbers: none is lost, and the first ones stay where they are.
-use Rattle.std.proofs.Common.{◌≡◌, ◌≢◌, ◌∙◌, ap, subst, sym, refl, ℕ, ◌+◌, ◌<◌, ◌≤◌, nat_le, Bool, true, false, List, [], ◌∷◌, ◌++◌, length, take, drop, get_or, Option, Some, None, Result, Ok, Err, arith}
+use Rattle.std.proofs.Common.{◌≡◌, ◌≢◌, ◌∙◌, ap, subst, sym, refl, ℕ, ◌+◌, ◌<◌, ◌≤◌, nat_le, Bool, true, false, List, [], ◌∷◌, ◌++◌, length, take}
+use Rattle.std.proofs.Common.{drop, get_or, Option, Some, None, Result, Ok, Err, arith}
 use Rattle.std.specs.Result.{IsErrAnd}
 use Rattle.std.specs.List.{filter_map, cons_option}
 use Rattle.std.proofs.Math.Seq.{take-append_seam}
@@ -54,9 +55,11 @@ pub numbered_after : (targets before after : List (List ℕ)) → all_numbered t
 numbered_after targets before after = fold-append numbered targets before after
 
 -- the first names make no more targets than all
-first_at_most : (targets before after names : List (List ℕ)) → names ≡ before ++ after → length (all_numbered targets before) ≤ length (all_numbered targets names)
+first_at_most : (targets before after names : List (List ℕ)) → names ≡ before ++ after
+    → length (all_numbered targets before) ≤ length (all_numbered targets names)
 first_at_most targets before after names e =
-    let all : all_numbered targets names ≡ all_numbered (all_numbered targets before) after = ap (all_numbered targets) e ∙ numbered_after targets before after in
+    let all : all_numbered targets names ≡ all_numbered (all_numbered targets before) after = ap (all_numbered targets) e
+    ∙ numbered_after targets before after in
     let least = all_numbered_at_least (all_numbered targets before) after in
     omega (arith, ap length all)
 
@@ -86,9 +89,12 @@ shrunk n m g =
 names_more : (cs : List ConfigDoc) (i : ℕ) (d : ConfigDoc) → i < length cs → names_of (take (i + 1) cs) ≡ names_of (take i cs) ++ (get_or cs i d).target ∷ []
 names_more cs i d l = map_more (λ c. c.target) cs i d l
 
-pub one_more : (n m : NetworkSeen) (cs : List ConfigDoc) (i : ℕ) (d : ConfigDoc) → i < length cs → m ≡ with_targets (all_numbered n.registry.targets (names_of (take i cs))) n → adds_target m (get_or cs i d).target ≡ with_targets (all_numbered n.registry.targets (names_of (take (i + 1) cs))) n
+pub one_more : (n m : NetworkSeen) (cs : List ConfigDoc) (i : ℕ) (d : ConfigDoc) → i < length cs
+    → m ≡ with_targets (all_numbered n.registry.targets (names_of (take i cs))) n
+    → adds_target m (get_or cs i d).target ≡ with_targets (all_numbered n.registry.targets (names_of (take (i + 1) cs))) n
 one_more n m cs i d l e =
-    let step : all_numbered n.registry.targets (names_of (take (i + 1) cs)) ≡ numbered (all_numbered n.registry.targets (names_of (take i cs))) (get_or cs i d).target =
+    let step : all_numbered n.registry.targets (names_of (take (i + 1) cs))
+    ≡ numbered (all_numbered n.registry.targets (names_of (take i cs))) (get_or cs i d).target =
     ap (all_numbered n.registry.targets) (names_more cs i d l) ∙ numbered_after n.registry.targets (names_of (take i cs)) ((get_or cs i d).target ∷ []) in
     ap (λ (m : NetworkSeen). adds_target m (get_or cs i d).target) e ∙ ap (λ (l : List (List ℕ)). with_targets l n) (sym step)
 
@@ -109,11 +115,14 @@ refused_new n name fault h = by (is_named n.registry.targets name) (nat_le most_
         let many = leb-true most_targets (length n.registry.targets) f in
         record { is = cc; many = omega arith }
 
-pub too_many_at : (n m : NetworkSeen) (cs : List ConfigDoc) (i : ℕ) (d : ConfigDoc) (fault : SiteFault) → i < length cs → m ≡ with_targets (all_numbered n.registry.targets (names_of (take i cs))) n → target_refusal m.registry (get_or cs i d).target ≡ Some fault → AreTooMany n.registry.targets (names_of cs) fault
+pub too_many_at : (n m : NetworkSeen) (cs : List ConfigDoc) (i : ℕ) (d : ConfigDoc) (fault : SiteFault) → i < length cs
+    → m ≡ with_targets (all_numbered n.registry.targets (names_of (take i cs))) n → target_refusal m.registry (get_or cs i d).target ≡ Some fault
+    → AreTooMany n.registry.targets (names_of cs) fault
 too_many_at n m cs i d fault l e h =
     let refused = refused_new m (get_or cs i d).target fault h in
     let more : adds_target m (get_or cs i d).target ≡ with_targets (all_numbered n.registry.targets (names_of (take (i + 1) cs))) n = one_more n m cs i d l e in
-    let same : numbered m.registry.targets (get_or cs i d).target ≡ all_numbered n.registry.targets (names_of (take (i + 1) cs)) = ap (λ (m : NetworkSeen). m.registry.targets) more in
+    let same : numbered m.registry.targets (get_or cs i d).target ≡ all_numbered n.registry.targets (names_of (take (i + 1) cs)) =
+    ap (λ (m : NetworkSeen). m.registry.targets) more in
     let whole : names_of cs ≡ names_of (take (i + 1) cs) ++ names_of (drop (i + 1) cs) =
     ap names_of (sym (take-append-drop (i + 1) cs)) ∙ map-append (λ c. c.target) (take (i + 1) cs) (drop (i + 1) cs) in
     let most = first_at_most n.registry.targets (names_of (take (i + 1) cs)) (names_of (drop (i + 1) cs)) (names_of cs) whole in
@@ -122,19 +131,26 @@ too_many_at n m cs i d fault l e h =
 -- ---- one request after another
 
 -- the names of one more request
-pub request_more : (rs : List RequestDoc) (i : ℕ) (d : RequestDoc) → i < length rs → target_names (take (i + 1) rs) ≡ target_names (take i rs) ++ names_of (get_or rs i d).configurations
+pub request_more : (rs : List RequestDoc) (i : ℕ) (d : RequestDoc) → i < length rs → target_names (take (i + 1) rs) ≡ target_names (take i rs)
+    ++ names_of (get_or rs i d).configurations
 request_more rs i d l =
     ap target_names (take_more rs i d l) ∙ flat_map-append (λ q. names_of q.configurations) (take i rs) (get_or rs i d ∷ [])
     ∙ ap (λ (r : List (List ℕ)). target_names (take i rs) ++ r) (append-nil (names_of (get_or rs i d).configurations))
 
-pub requests_more : (n m k : NetworkSeen) (rs : List RequestDoc) (i : ℕ) (d : RequestDoc) → i < length rs → m ≡ with_targets (all_numbered n.registry.targets (target_names (take i rs))) n → k ≡ with_targets (all_numbered m.registry.targets (names_of (get_or rs i d).configurations)) m → k ≡ with_targets (all_numbered n.registry.targets (target_names (take (i + 1) rs))) n
+pub requests_more : (n m k : NetworkSeen) (rs : List RequestDoc) (i : ℕ) (d : RequestDoc) → i < length rs
+    → m ≡ with_targets (all_numbered n.registry.targets (target_names (take i rs))) n
+    → k ≡ with_targets (all_numbered m.registry.targets (names_of (get_or rs i d).configurations)) m
+    → k ≡ with_targets (all_numbered n.registry.targets (target_names (take (i + 1) rs))) n
 requests_more n m k rs i d l e f =
     let names = names_of (get_or rs i d).configurations in
-    let step : all_numbered n.registry.targets (target_names (take (i + 1) rs)) ≡ all_numbered (all_numbered n.registry.targets (target_names (take i rs))) names =
+    let step : all_numbered n.registry.targets (target_names (take (i + 1) rs))
+    ≡ all_numbered (all_numbered n.registry.targets (target_names (take i rs))) names =
     ap (all_numbered n.registry.targets) (request_more rs i d l) ∙ numbered_after n.registry.targets (target_names (take i rs)) names in
     f ∙ ap (λ (m : NetworkSeen). with_targets (all_numbered m.registry.targets names) m) e ∙ ap (λ (l : List (List ℕ)). with_targets l n) (sym step)
 
-pub requests_too_many : (n m : NetworkSeen) (rs : List RequestDoc) (i : ℕ) (d : RequestDoc) (fault : SiteFault) → i < length rs → m ≡ with_targets (all_numbered n.registry.targets (target_names (take i rs))) n → AreTooMany m.registry.targets (names_of (get_or rs i d).configurations) fault → AreTooMany n.registry.targets (target_names rs) fault
+pub requests_too_many : (n m : NetworkSeen) (rs : List RequestDoc) (i : ℕ) (d : RequestDoc) (fault : SiteFault) → i < length rs
+    → m ≡ with_targets (all_numbered n.registry.targets (target_names (take i rs))) n
+    → AreTooMany m.registry.targets (names_of (get_or rs i d).configurations) fault → AreTooMany n.registry.targets (target_names rs) fault
 requests_too_many n m rs i d fault l e h =
     let names = names_of (get_or rs i d).configurations in
     let same : all_numbered m.registry.targets names ≡ all_numbered n.registry.targets (target_names (take (i + 1) rs)) =
@@ -148,12 +164,19 @@ requests_too_many n m rs i d fault l e h =
 -- ---- what a call answers
 
 -- it passed on why a call before it gave up
-pub gave_up : {V : Type 0} (names : List (List ℕ)) (n m : NetworkSeen) (fault : SiteFault) (result : Result V SiteFault) → IsErrAnd result (λ f. f ≡ fault) → (fault ≢ NoMemory → AreTooMany n.registry.targets names fault) → IsGrown n m → Numbers names n m result
+pub gave_up : {V : Type 0} (names : List (List ℕ)) (n m : NetworkSeen) (fault : SiteFault) (result : Result V SiteFault)
+    → IsErrAnd result (λ f. f ≡ fault) → (fault ≢ NoMemory → AreTooMany n.registry.targets names fault) → IsGrown n m → Numbers names n m result
 gave_up names n m fault (Ok v) is refused grown = absurd is
 gave_up names n m fault (Err f) is refused grown =
-    record { ok = tt; refused = λ memory. subst (λ (f : SiteFault). AreTooMany n.registry.targets names f) (sym is) (refused (λ none. memory (is ∙ none))); grown = grown }
+    record {
+      ok = tt;
+      refused = λ memory. subst (λ (f : SiteFault). AreTooMany n.registry.targets names f) (sym is)
+          (refused (λ none. memory (is ∙ none)));
+      grown = grown;
+    }
 
 -- ---- one more in a list
 
-pub filter_map_more : {X Y : Type 0} (f : X → Option Y) (xs : List X) (i : ℕ) (d : X) → i < length xs → filter_map f (take (i + 1) xs) ≡ filter_map f (take i xs) ++ cons_option (f (get_or xs i d)) []
+pub filter_map_more : {X Y : Type 0} (f : X → Option Y) (xs : List X) (i : ℕ) (d : X) → i < length xs
+    → filter_map f (take (i + 1) xs) ≡ filter_map f (take i xs) ++ cons_option (f (get_or xs i d)) []
 filter_map_more f xs i d l = ap (filter_map f) (take_more xs i d l) ∙ filter_map-append f (take i xs) (get_or xs i d ∷ [])

@@ -1,5 +1,6 @@
 -- One entry of the books, once its group has gone on.
-use Rattle.std.proofs.Common.{◌≡◌, ◌≢◌, ℕ, ◌+◌, ◌≤◌, ◌==◌, Bool, true, false, cond, List, [], ◌∷◌, ◌++◌, map, sum_by, All, refl, sym, ◌∙◌, ap, arith, Option, Some, None}
+use Rattle.std.proofs.Common.{◌≡◌, ◌≢◌, ℕ, ◌+◌, ◌≤◌, ◌==◌, Bool, true, false, cond, List, [], ◌∷◌, ◌++◌, map, sum_by, All, refl, sym, ◌∙◌, ap, arith}
+use Rattle.std.proofs.Common.{Option, Some, None}
 use Rattle.std.specs.List.{find}
 use Rattle.std.specs.Option.{option_to_list, option_map_or, option_and_then, option_or, is_some}
 use Rattle.std.proofs.lemmas.Bool.{eq-eqb}
@@ -54,11 +55,13 @@ found_at true e o h = refl
 found_at false e o h = cc
 
 -- its ipp charge is that of its entry
-pub ipp_at : (n : GroupNo) (front : List GroupHolds) (e : GroupHolds) (es : List GroupHolds) → All (λ x. x.group.0 ≢ n.0) front → e.group ≡ n → ipp_of n (front ++ e ∷ es) ≡ e.ipp
+pub ipp_at : (n : GroupNo) (front : List GroupHolds) (e : GroupHolds) (es : List GroupHolds) → All (λ x. x.group.0 ≢ n.0) front → e.group ≡ n
+    → ipp_of n (front ++ e ∷ es) ≡ e.ipp
 ipp_at n front e es before same =
     let test : GroupHolds → Bool = λ g. g.group.0 == n.0 in
     ap (option_and_then (λ g. g.ipp))
-    (find-append test front (e ∷ es) ∙ ap (λ (o : Option GroupHolds). option_or o (find test (e ∷ es))) (find_none (λ g. g.group.0) front n.0 (other_numbers n.0 front before))
+    (find-append test front (e ∷ es)
+    ∙ ap (λ (o : Option GroupHolds). option_or o (find test (e ∷ es))) (find_none (λ g. g.group.0) front n.0 (other_numbers n.0 front before))
     ∙ found_at (e.group.0 == n.0) e (find test es) (eq-eqb e.group.0 n.0 (ap (λ (m : GroupNo). m.0) same)))
 
 -- ---- one group that has gone on
@@ -77,29 +80,38 @@ pub record IsThere (p : Submitted × (Group × Group)) (front : List GroupHolds)
   pub here : e.group ≡ p.1.1.number
   pub after : All (λ x. x.group.0 ≢ p.1.1.number.0) es
 
-pub released_at : (p : Submitted × (Group × Group)) (xs : List Entry) (front : List GroupHolds) (e : GroupHolds) (es : List GroupHolds) (hs : List Hold) → IsThere p front e es
+pub released_at : (p : Submitted × (Group × Group)) (xs : List Entry) (front : List GroupHolds) (e : GroupHolds) (es : List GroupHolds)
+    (hs : List Hold) → IsThere p front e es
     → released p.1.1.number hs (books_at xs front (e ∷ es)) ≡ books_at xs front (with_holds hs e ∷ es)
 released_at p xs front e es hs t =
-    ap (λ (l : List GroupHolds). let b : Books = record { entries = xs; holds = l } in b) (change_at p.1.1.number (with_holds hs) front e es t.before t.here t.after)
+    ap (λ (l : List GroupHolds). let b : Books = record { entries = xs; holds = l } in
+    b) (change_at p.1.1.number (with_holds hs) front e es t.before t.here t.after)
 
 pub refunded_at : (p : Submitted × (Group × Group)) (xs : List Entry) (front : List GroupHolds) (e : GroupHolds) (es : List GroupHolds) → IsThere p front e es
     → refunded p.1.1.number (books_at xs front (e ∷ es)) ≡ books_at (xs ++ map (refund_entry p.1.1.number) (option_to_list e.ipp)) front (without_ipp e ∷ es)
 refunded_at p xs front e es t =
-    ap (λ (o : Option Hold). let b : Books = record { entries = xs ++ map (refund_entry p.1.1.number) (option_to_list o); holds = change_group p.1.1.number without_ipp (front ++ e ∷ es) } in b) (ipp_at p.1.1.number front e es t.before t.here)
-    ∙ ap (λ (l : List GroupHolds). let b : Books = record { entries = xs ++ map (refund_entry p.1.1.number) (option_to_list e.ipp); holds = l } in b) (change_at p.1.1.number without_ipp front e es t.before t.here t.after)
+    ap (λ (o : Option Hold). let b : Books = record {
+      entries = xs ++ map (refund_entry p.1.1.number) (option_to_list o);
+      holds = change_group p.1.1.number without_ipp (front ++ e ∷ es);
+    } in b) (ipp_at p.1.1.number front e es t.before t.here)
+    ∙ ap (λ (l : List GroupHolds). let b : Books = record { entries = xs ++ map (refund_entry p.1.1.number) (option_to_list e.ipp); holds = l } in
+    b) (change_at p.1.1.number without_ipp front e es t.before t.here t.after)
 
 -- the books then
 pub after_at : (p : Submitted × (Group × Group)) (xs : List Entry) (front : List GroupHolds) (e : GroupHolds) (es : List GroupHolds) → IsThere p front e es
     → after_group (books_at xs front (e ∷ es)) p ≡ books_at (xs ++ more_after p e) front (entry_after p e ∷ es)
 after_at p xs front e es t = by (is_open p.1.0) (is_refunded p.1.0 p.1.1)
   where
-    by : (a b : Bool) → (let held : Books = released p.1.1.number (held_by p.0 p.1.1) (books_at xs front (e ∷ es)) in cond a (cond b (refunded p.1.1.number held) held) (books_at xs front (e ∷ es)))
-        ≡ books_at (xs ++ cond a (cond b (map (refund_entry p.1.1.number) (option_to_list e.ipp)) []) []) front (cond a (cond b (without_ipp (with_holds (held_by p.0 p.1.1) e)) (with_holds (held_by p.0 p.1.1) e)) e ∷ es)
+    by : (a b : Bool) → (let held : Books = released p.1.1.number (held_by p.0 p.1.1) (books_at xs front (e ∷ es)) in
+        cond a (cond b (refunded p.1.1.number held) held) (books_at xs front (e ∷ es)))
+        ≡ books_at (xs ++ cond a (cond b (map (refund_entry p.1.1.number) (option_to_list e.ipp)) []) []) front
+        (cond a (cond b (without_ipp (with_holds (held_by p.0 p.1.1) e)) (with_holds (held_by p.0 p.1.1) e)) e ∷ es)
     by true true =
         ap (refunded p.1.1.number) (released_at p xs front e es (held_by p.0 p.1.1) t)
         ∙ refunded_at p xs front (with_holds (held_by p.0 p.1.1) e) es (record { before = t.before; here = t.here; after = t.after })
     by true false =
-        released_at p xs front e es (held_by p.0 p.1.1) t ∙ ap (λ (l : List Entry). books_at l front (with_holds (held_by p.0 p.1.1) e ∷ es)) (sym (append-nil xs))
+        released_at p xs front e es (held_by p.0 p.1.1) t
+        ∙ ap (λ (l : List Entry). books_at l front (with_holds (held_by p.0 p.1.1) e ∷ es)) (sym (append-nil xs))
     by false b = ap (λ (l : List Entry). books_at l front (e ∷ es)) (sym (append-nil xs))
 
 -- where no charge stands, none is given back
@@ -128,7 +140,8 @@ pub ended_at : (p : Submitted × (Group × Group)) (xs : List Entry) (front : Li
 ended_at p xs front e es t opened ipp =
     let held : Books = released p.1.1.number (held_by p.0 p.1.1) (books_at xs front (e ∷ es)) in
     ap (λ (a : Bool). cond a (cond (is_refunded p.1.0 p.1.1) (refunded p.1.1.number held) held) (books_at xs front (e ∷ es))) opened
-    ∙ either_way held p.1.1.number (is_refunded p.1.0 p.1.1) (standing p.0.document.proposal p.0.charged) (λ none. nothing_back p xs front e es (held_by p.0 p.1.1) t (ipp ∙ none))
+    ∙ either_way held p.1.1.number (is_refunded p.1.0 p.1.1) (standing p.0.document.proposal p.0.charged)
+    (λ none. nothing_back p xs front e es (held_by p.0 p.1.1) t (ipp ∙ none))
 
 -- ---- seconds
 
@@ -149,9 +162,11 @@ all_seconds books = total_seconds books + standing_seconds books.holds
 
 -- without those of one entry
 abbrev pub rest_of : List Entry → List GroupHolds → List GroupHolds → ℕ
-rest_of xs front es = seconds_in xs + (sum_by (λ g. seconds_of_holds g.holds) front + sum_by (λ g. seconds_of_holds g.holds) es) + (sum_by charge_in front + sum_by charge_in es)
+rest_of xs front es = seconds_in xs + (sum_by (λ g. seconds_of_holds g.holds) front + sum_by (λ g. seconds_of_holds g.holds) es)
+    + (sum_by charge_in front + sum_by charge_in es)
 
-pub seconds_at : (xs : List Entry) (front : List GroupHolds) (e : GroupHolds) (es : List GroupHolds) → all_seconds (books_at xs front (e ∷ es)) ≡ rest_of xs front es + worth_of e
+pub seconds_at : (xs : List Entry) (front : List GroupHolds) (e : GroupHolds) (es : List GroupHolds)
+    → all_seconds (books_at xs front (e ∷ es)) ≡ rest_of xs front es + worth_of e
 seconds_at xs front e es =
     let a = sum_by-append (λ (g : GroupHolds). seconds_of_holds g.holds) front (e ∷ es) in
     let b = sum_by-cons (λ (g : GroupHolds). seconds_of_holds g.holds) e es in
@@ -160,7 +175,8 @@ seconds_at xs front e es =
     omega (arith, a, b, c, d)
 
 pub total_at : (xs : List Entry) (front : List GroupHolds) (e : GroupHolds) (es : List GroupHolds)
-    → total_seconds (books_at xs front (e ∷ es)) ≡ seconds_in xs + (sum_by (λ g. seconds_of_holds g.holds) front + sum_by (λ g. seconds_of_holds g.holds) es) + seconds_of_holds e.holds
+    → total_seconds (books_at xs front (e ∷ es)) ≡ seconds_in xs
+    + (sum_by (λ g. seconds_of_holds g.holds) front + sum_by (λ g. seconds_of_holds g.holds) es) + seconds_of_holds e.holds
 total_at xs front e es =
     let a = sum_by-append (λ (g : GroupHolds). seconds_of_holds g.holds) front (e ∷ es) in
     let b = sum_by-cons (λ (g : GroupHolds). seconds_of_holds g.holds) e es in
@@ -168,14 +184,16 @@ total_at xs front e es =
 
 pub back_worth : (n : GroupNo) (o : Option Hold) → seconds_in (map (refund_entry n) (option_to_list o)) ≡ option_map_or (λ h. h.seconds) o 0
 back_worth n None = refl
-back_worth n (Some h) = let one = sum_by-cons (λ (x : Entry). x.seconds) (refund_entry n h) [] in one ∙ (let plain : h.seconds + 0 ≡ h.seconds = omega arith in plain)
+back_worth n (Some h) = let one = sum_by-cons (λ (x : Entry). x.seconds) (refund_entry n h) [] in
+    one ∙ (let plain : h.seconds + 0 ≡ h.seconds = omega arith in plain)
 
 -- what a group holds then, with its charge and what is given back, is no more than before
 pub no_more_at : (p : Submitted × (Group × Group)) (e : GroupHolds) → IsLater p.1.0 p.1.1 → IsHeldFor (p.0, p.1.0) e
     → seconds_in (more_after p e) + worth_of (entry_after p e) ≤ worth_of e
 no_more_at p e later held = by (is_open p.1.0) (is_refunded p.1.0 p.1.1)
   where
-    by : (a b : Bool) → seconds_in (cond a (cond b (map (refund_entry p.1.1.number) (option_to_list e.ipp)) []) []) + worth_of (cond a (cond b (without_ipp (with_holds (held_by p.0 p.1.1) e)) (with_holds (held_by p.0 p.1.1) e)) e) ≤ worth_of e
+    by : (a b : Bool) → seconds_in (cond a (cond b (map (refund_entry p.1.1.number) (option_to_list e.ipp)) []) [])
+        + worth_of (cond a (cond b (without_ipp (with_holds (held_by p.0 p.1.1) e)) (with_holds (held_by p.0 p.1.1) e)) e) ≤ worth_of e
     by true true =
         let less : seconds_of_holds (held_by p.0 p.1.1) ≤ seconds_of_holds (held_by p.0 p.1.0) = (group_less p.0 p.1.0 p.1.1 later).seconds in
         let same : seconds_of_holds e.holds ≡ seconds_of_holds (held_by p.0 p.1.0) = ap seconds_of_holds held.holds in

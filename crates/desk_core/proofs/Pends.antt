@@ -1,5 +1,6 @@
 -- A reported request is pending.
-use Rattle.std.proofs.Common.{◌≡◌, ℕ, ◌+◌, ◌<◌, ◌≤◌, Bool, true, false, cond, List, [], ◌∷◌, length, map, refl, sym, ◌∙◌, ap, subst, arith, inl, inr, ◌⊎◌, Option, Some, None}
+use Rattle.std.proofs.Common.{◌≡◌, ℕ, ◌+◌, ◌<◌, ◌≤◌, Bool, true, false, cond, List, [], ◌∷◌, length, map, refl, sym, ◌∙◌, ap, subst, arith, inl, inr}
+use Rattle.std.proofs.Common.{◌⊎◌, Option, Some, None}
 use Rattle.std.specs.List.{zip, find, list_any}
 use Rattle.std.proofs.lemmas.Bool.{and_parts, or_cases, eqb-true}
 use Rattle.plan_base.specs.declared.number.RequestNo.{RequestNo}
@@ -20,7 +21,8 @@ pair_parts x q w v e =
     let same : a ≡ b = cc in
     (ap (λ (p : Request × Wanted). p.0) same, ap (λ (p : Request × Wanted). p.1) same)
 
-has_high : (b : ℕ) (n : RequestNo) (qs : List Request) → IsCountedFrom b (map (λ q. q.number.0) qs) → list_any (is_request n) qs ≡ true → (b < n.0) × (n.0 ≤ b + length qs)
+has_high : (b : ℕ) (n : RequestNo) (qs : List Request) → IsCountedFrom b (map (λ q. q.number.0) qs) → list_any (is_request n) qs ≡ true
+    → (b < n.0) × (n.0 ≤ b + length qs)
 has_high b n [] c e = cc
 has_high b n (q ∷ qs) c e =
     let first : q.number.0 ≡ b + 1 = counted_head b q.number.0 (map (λ x. x.number.0) qs) c in
@@ -42,7 +44,8 @@ pub record Pends (n : RequestNo) (g : Group) : Type 0 where
 pub pend_in : (b : ℕ) (gs : List Group) (n : RequestNo) (g : Group) → IsCountedFrom b (map (λ q. q.number.0) (requests_of gs)) → group_with gs n ≡ Some g
     → is_pending_at gs n ≡ true → Pends n g
 pend_in b [] n g c known e = cc
-pend_in b (x ∷ gs) n g c known e = by (has_request n x) refl known (or_cases (has_pending n x) (is_pending_at gs n) e) (λ k p. pend_in (b + length x.requests) gs n g (back_of b x gs c) k p)
+pend_in b (x ∷ gs) n g c known e = by (has_request n x) refl known (or_cases (has_pending n x) (is_pending_at gs n) e)
+    (λ k p. pend_in (b + length x.requests) gs n g (back_of b x gs c) k p)
   where
     by : (v : Bool) → has_request n x ≡ v → cond v (Some x) (group_with gs n) ≡ Some g → (has_pending n x ≡ true) ⊎ (is_pending_at gs n ≡ true)
         → (group_with gs n ≡ Some g → is_pending_at gs n ≡ true → Pends n g) → Pends n g
@@ -60,12 +63,15 @@ pub pend_first : (b : ℕ) (qs : List Request) (ws : List Wanted) (n : RequestNo
 pend_first b [] ws n q v c f e = cc
 pend_first b (x ∷ qs) [] n q v c f e = cc
 pend_first b (x ∷ qs) (w ∷ ws) n q v c f e =
-    by (is_request n x) refl f (or_cases (is_pending_request n x) (list_any (is_pending_request n) qs) e) (λ k p. pend_first (b + 1) qs ws n q v (counted_tail b x.number.0 (map (λ y. y.number.0) qs) c) k p)
+    by (is_request n x) refl f (or_cases (is_pending_request n x) (list_any (is_pending_request n) qs) e)
+    (λ k p. pend_first (b + 1) qs ws n q v (counted_tail b x.number.0 (map (λ y. y.number.0) qs) c) k p)
   where
     by : (t : Bool) → is_request n x ≡ t → cond t (Some (x, w)) (find (λ m. is_request n m.0) (zip qs ws)) ≡ Some (q, v)
         → (is_pending_request n x ≡ true) ⊎ (list_any (is_pending_request n) qs ≡ true)
-        → (find (λ m. is_request n m.0) (zip qs ws) ≡ Some (q, v) → list_any (is_pending_request n) qs ≡ true → is_pending q.state ≡ true) → is_pending q.state ≡ true
-    by true is k (inl here) rest = let same : x ≡ q = (pair_parts x q w v k).0 in ap (λ (y : Request). is_pending y.state) (sym same) ∙ (and_parts (is_request n x) (is_pending x.state) here).1
+        → (find (λ m. is_request n m.0) (zip qs ws) ≡ Some (q, v) → list_any (is_pending_request n) qs ≡ true → is_pending q.state ≡ true)
+        → is_pending q.state ≡ true
+    by true is k (inl here) rest = let same : x ≡ q = (pair_parts x q w v k).0 in
+        ap (λ (y : Request). is_pending y.state) (sym same) ∙ (and_parts (is_request n x) (is_pending x.state) here).1
     by true is k (inr later) rest =
         let first : x.number.0 ≡ b + 1 = counted_head b x.number.0 (map (λ y. y.number.0) qs) c in
         let number : x.number.0 ≡ n.0 = eqb-true x.number.0 n.0 is in

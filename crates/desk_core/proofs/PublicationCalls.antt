@@ -27,7 +27,8 @@ use Rattle.desk_core.specs.Publishing.{with_publication, rejection, DecidesByVer
 -- ---- what a call decides
 
 -- a claim for another version is stale
-pub stale_is : (version : ℕ) (d : DeskSeen) (asked : ℕ) (claim : Claim) → asked ≢ version → DecidesByVerdict version d asked claim d (Err (Refused (Stale asked version)))
+pub stale_is : (version : ℕ) (d : DeskSeen) (asked : ℕ) (claim : Claim) → asked ≢ version
+    → DecidesByVerdict version d asked claim d (Err (Refused (Stale asked version)))
 stale_is version d asked claim other = record {
   verdict = Yes 0 0;
   judged = λ _ same. absurd (other same);
@@ -53,7 +54,8 @@ no_memory_from version d asked claim (Err fault) h =
     subst (λ (f : CommandFault). DecidesByVerdict version d asked claim d (Err f)) (sym h) (no_memory_is version d asked claim)
 
 -- a claim that isn't certified is rejected
-pub rejected_is : (version : ℕ) (d : DeskSeen) (asked : ℕ) (claim : Claim) (reason : Reason) → asked ≡ version → IsVerdict (snapshot_of version d) claim (No reason)
+pub rejected_is : (version : ℕ) (d : DeskSeen) (asked : ℕ) (claim : Claim) (reason : Reason) → asked ≡ version
+    → IsVerdict (snapshot_of version d) claim (No reason)
     → DecidesByVerdict version d asked claim d (Err (Refused (Rejected reason)))
 rejected_is version d asked claim reason same verdict = record {
   verdict = No reason;
@@ -66,7 +68,8 @@ rejected_is version d asked claim reason same verdict = record {
 }
 
 -- a claim that is certified is published
-pub published_is : (version : ℕ) (d after : DeskSeen) (asked : ℕ) (claim : Claim) (value bound : ℕ) → asked ≡ version → IsVerdict (snapshot_of version d) claim (Yes value bound)
+pub published_is : (version : ℕ) (d after : DeskSeen) (asked : ℕ) (claim : Claim) (value bound : ℕ) → asked ≡ version
+    → IsVerdict (snapshot_of version d) claim (Yes value bound)
     → after ≡ with_publication version claim d → DecidesByVerdict version d asked claim after (Ok (reply.Published claim))
 published_is version d after asked claim value bound same verdict is = record {
   verdict = Yes value bound;
@@ -95,7 +98,8 @@ found_later p (x ∷ xs) ys e = let both = or_parts (p x) (list_any p xs) e in r
 abbrev pub in_group : RequestNo → Group → Option Request
 in_group n g = find (is_request n) g.requests
 
-through_one : (g : Group) (gs : List Group) (n : RequestNo) → find (is_request n) (requests_of gs) ≡ option_and_then (in_group n) (group_with gs n) → (b : Bool) → has_request n g ≡ b
+through_one : (g : Group) (gs : List Group) (n : RequestNo) → find (is_request n) (requests_of gs) ≡ option_and_then (in_group n) (group_with gs n)
+    → (b : Bool) → has_request n g ≡ b
     → find (is_request n) (g.requests ++ requests_of gs) ≡ option_and_then (in_group n) (cond b (Some g) (group_with gs n))
 through_one g gs n rest true e = found_first (is_request n) g.requests (requests_of gs) e
 through_one g gs n rest false e = found_later (is_request n) g.requests (requests_of gs) e ∙ rest

@@ -47,10 +47,12 @@ use Rattle.desk_core.proofs.ListedRequests.{AreBefore, any_found, any_there, sam
 abbrev pub kept_of : DeskSeen → Claim → List Observation
 kept_of d claim = map (observed d) claim.placements
 
-known_at : (version : ℕ) (d : DeskSeen) (claim : Claim) → IsFeasible (snapshot_of version d) claim.placements → All (λ p. IsWaitingAt version d p.request) claim.placements
+known_at : (version : ℕ) (d : DeskSeen) (claim : Claim) → IsFeasible (snapshot_of version d) claim.placements
+    → All (λ p. IsWaitingAt version d p.request) claim.placements
 known_at version d claim f k e lt = waits_at version d (get_or claim.placements k e).request (f.possible k e lt).known
 
-kept_pending : (version : ℕ) (d : DeskSeen) (claim : Claim) → IsFeasible (snapshot_of version d) claim.placements → All (λ o. is_pending_at d.progress.groups o.request ≡ true) (kept_of d claim)
+kept_pending : (version : ℕ) (d : DeskSeen) (claim : Claim) → IsFeasible (snapshot_of version d) claim.placements
+    → All (λ o. is_pending_at d.progress.groups o.request ≡ true) (kept_of d claim)
 kept_pending version d claim f =
     All-map (λ o. is_pending_at d.progress.groups o.request ≡ true) (observed d) claim.placements (λ k e lt. (known_at version d claim f k e lt).pending)
 
@@ -72,7 +74,8 @@ none_counted p (x ∷ xs) h =
     let here : cond {A = ℕ} (p x) 1 0 ≡ 0 = ap (λ b. cond {A = ℕ} b 1 0) (All-head (λ y. p y ≡ false) x xs h) in
     omega (arith, sum_by-cons (λ y. cond (p y) 1 0) x xs, here, none_counted p xs (All-tail (λ y. p y ≡ false) x xs h))
 
-one_first : {X : Type 0} (p : X → Bool) (x : X) (xs : List X) → All (λ y. p x ≡ true → p y ≡ true → ⊥) xs → count_by p xs ≤ 1 → (b : Bool) → p x ≡ b → count_by p (x ∷ xs) ≤ 1
+one_first : {X : Type 0} (p : X → Bool) (x : X) (xs : List X) → All (λ y. p x ≡ true → p y ≡ true → ⊥) xs → count_by p xs ≤ 1 → (b : Bool) → p x ≡ b
+    → count_by p (x ∷ xs) ≤ 1
 one_first p x xs apart rest true e =
     let here : cond {A = ℕ} (p x) 1 0 ≡ 1 = ap (λ b. cond {A = ℕ} b 1 0) e in
     let none : count_by p xs ≡ 0 = none_counted p xs (λ k d lt. false_from_ne_true _ (apart k d lt e)) in
@@ -85,17 +88,20 @@ one_first p x xs apart rest false e =
 at_most_one : {X : Type 0} (p : X → Bool) (xs : List X) → AllPairs (λ a b. p a ≡ true → p b ≡ true → ⊥) xs → count_by p xs ≤ 1
 at_most_one p [] h = omega arith
 at_most_one p (x ∷ xs) h =
-    one_first p x xs (pairs_head (λ a b. p a ≡ true → p b ≡ true → ⊥) x xs h) (at_most_one p xs (pairs_tail (λ a b. p a ≡ true → p b ≡ true → ⊥) x xs h)) (p x) refl
+    one_first p x xs (pairs_head (λ a b. p a ≡ true → p b ≡ true → ⊥) x xs h)
+    (at_most_one p xs (pairs_tail (λ a b. p a ≡ true → p b ≡ true → ⊥) x xs h)) (p x) refl
 
 -- a listed group stands at one place
-same_index : (d : DeskSeen) → IsDesk d → (i j : ℕ) (p q : Submitted × Group) → i < j → j < length (listed_groups d) → get_or (listed_groups d) i p ≡ p → get_or (listed_groups d) j q ≡ q
+same_index : (d : DeskSeen) → IsDesk d → (i j : ℕ) (p q : Submitted × Group) → i < j → j < length (listed_groups d) → get_or (listed_groups d) i p ≡ p
+    → get_or (listed_groups d) j q ≡ q
     → p.1.number.0 ≡ q.1.number.0 → ⊥
 same_index d h i j p q lt in_range one other same =
     let rise = pairs_from_map (λ x y. x.group.0 < y.group.0) (group_part d) (listed_groups d) (groups_rise d h) i j p lt in_range in
     let second : get_or (listed_groups d) j p ≡ q = get_or_default (listed_groups d) j p q in_range ∙ other in
     omega (arith, rise, ap (λ (r : Submitted × Group). r.1.number.0) one, ap (λ (r : Submitted × Group). r.1.number.0) second, same)
 
-one_place : (d : DeskSeen) → IsDesk d → (i j : ℕ) (p q : Submitted × Group) → i < length (listed_groups d) → j < length (listed_groups d) → get_or (listed_groups d) i p ≡ p
+one_place : (d : DeskSeen) → IsDesk d → (i j : ℕ) (p q : Submitted × Group) → i < length (listed_groups d) → j < length (listed_groups d)
+    → get_or (listed_groups d) i p ≡ p
     → get_or (listed_groups d) j q ≡ q → p.1.number.0 ≡ q.1.number.0 → i ≡ j
 one_place d h i j p q left right one other same = elim (cases_lt i j) [
   | inl lt ↦ absurd (same_index d h i j p q lt right one other same)
@@ -112,12 +118,14 @@ is_one_of OneOf e = refl
 is_one_of And e = cc
 
 -- two requests of one group are of one ONEOF
-of_one : (version : ℕ) (d : DeskSeen) (a b : Placement) (g : Group) → IsDesk d → is_oneof g.op ≡ true → IsKnown (snapshot_of version d) a.request.0 → IsKnown (snapshot_of version d) b.request.0
+of_one : (version : ℕ) (d : DeskSeen) (a b : Placement) (g : Group) → IsDesk d → is_oneof g.op ≡ true → IsKnown (snapshot_of version d) a.request.0
+    → IsKnown (snapshot_of version d) b.request.0
     → (one : IsWaitingAt version d a.request) (other : IsWaitingAt version d b.request) → g ≡ one.pair.1 → g ≡ other.pair.1
     → AreOfOneOneOf (snapshot_of version d) a.request.0 b.request.0
 of_one version d a b g h oneof known_a known_b one other same_a same_b =
     let place : one.index ≡ other.index
-    = one_place d h one.index other.index one.pair other.pair one.in_range other.in_range one.stands other.stands (ap (λ (x : Group). x.number.0) (sym same_a ∙ same_b))
+    = one_place d h one.index other.index one.pair other.pair one.in_range other.in_range one.stands other.stands
+    (ap (λ (x : Group). x.number.0) (sym same_a ∙ same_b))
     in
     let kind : IsKind (snapshot_of version d) OneOf one.index
     = λ e. ap (λ (x : GroupPart). x.op) (get_or-map (group_part d) (listed_groups d) one.index one.pair e one.in_range ∙ ap (group_part d) one.stands)
@@ -133,14 +141,17 @@ none_running d g idle i e lt = false_from_ne_true _ (λ has.
     let o = get_or d.progress.running i e in
     let q = any_found (is_request o.request) g.requests has in
     let placed : is_placed d.progress.running q.0.number ≡ true
-    = any_there (λ r. r.request.0 == q.0.number.0) d.progress.running o (Contains-get_or d.progress.running i e lt) (eq-eqb o.request.0 q.0.number.0 (sym (eqb-true q.0.number.0 o.request.0 q.2)))
+    = any_there (λ r. r.request.0 == q.0.number.0) d.progress.running o (Contains-get_or d.progress.running i e lt)
+    (eq-eqb o.request.0 q.0.number.0 (sym (eqb-true q.0.number.0 o.request.0 q.2)))
     in
     let runs : has_running d g ≡ true = any_there (λ r. is_placed d.progress.running r.number) g.requests q.0 q.1 placed in
     cc)
 
 -- of a ONEOF at most one request is observed
-once_by : (version : ℕ) (d : DeskSeen) (claim : Claim) → IsDesk d → IsFeasible (snapshot_of version d) claim.placements → (g : Group) → Contains d.progress.groups g
-    → is_oneof g.op ≡ true → placed_in g (d.progress.kept ++ d.progress.running) ≤ 1 → (b : Bool) → has_running d g ≡ b → placed_in g (kept_of d claim ++ d.progress.running) ≤ 1
+once_by : (version : ℕ) (d : DeskSeen) (claim : Claim) → IsDesk d → IsFeasible (snapshot_of version d) claim.placements → (g : Group)
+    → Contains d.progress.groups g
+    → is_oneof g.op ≡ true → placed_in g (d.progress.kept ++ d.progress.running) ≤ 1 → (b : Bool) → has_running d g ≡ b
+    → placed_in g (kept_of d claim ++ d.progress.running) ≤ 1
 once_by version d claim h f g there oneof old true runs =
     let none : All (λ o. has_request o.request g ≡ false) (kept_of d claim)
     = All-map (λ o. has_request o.request g ≡ false) (observed d) claim.placements (λ k e lt. false_from_ne_true _ (λ has.
@@ -186,21 +197,25 @@ kept_once version d claim h f k e lt oneof =
     once_by version d claim h f g (Contains-get_or d.progress.groups k e lt) oneof (h.sound.once k e lt oneof) (has_running d g) refl
 
 -- a feasible plan may be published
-pub can_publish : (version : ℕ) (d : DeskSeen) (claim : Claim) → IsDesk d → IsFeasible (snapshot_of version d) claim.placements → CanPublish (kept_of d claim) d.progress
-can_publish version d claim h f = record { pending = kept_pending version d claim f; begun = kept_later version d claim h f; once = kept_once version d claim h f }
+pub can_publish : (version : ℕ) (d : DeskSeen) (claim : Claim) → IsDesk d → IsFeasible (snapshot_of version d) claim.placements
+    → CanPublish (kept_of d claim) d.progress
+can_publish version d claim h f =
+    record { pending = kept_pending version d claim f; begun = kept_later version d claim h f; once = kept_once version d claim h f }
 
 -- no request is observed twice
 kept_apart : (version : ℕ) (d : DeskSeen) (claim : Claim) → IsDesk d → IsFeasible (snapshot_of version d) claim.placements
     → IsObservedAtMostOnce (kept_of d claim ++ d.progress.running)
 kept_apart version d claim h f =
     pairs_append (λ a b. a.request.0 ≢ b.request.0) (kept_of d claim) d.progress.running
-    (AllPairs-map (λ a b. a.request.0 ≢ b.request.0) (observed d) claim.placements (pairs_from_map (λ a b. a ≢ b) (λ (p : Placement). p.request.0) claim.placements f.once))
+    (AllPairs-map (λ a b. a.request.0 ≢ b.request.0) (observed d) claim.placements
+    (pairs_from_map (λ a b. a ≢ b) (λ (p : Placement). p.request.0) claim.placements f.once))
     (pairs_right (λ a b. a.request.0 ≢ b.request.0) d.progress.kept d.progress.running h.once)
     (All-map (λ a. All (λ b. a.request.0 ≢ b.request.0) d.progress.running) (observed d) claim.placements (λ k e lt i o in_range same.
     let p = get_or claim.placements k e in
     let r = get_or d.progress.running i o in
     let placed : is_placed d.progress.running p.request ≡ true
-    = any_there (λ b. b.request.0 == p.request.0) d.progress.running r (Contains-get_or d.progress.running i o in_range) (eq-eqb r.request.0 p.request.0 (sym same))
+    = any_there (λ b. b.request.0 == p.request.0) d.progress.running r (Contains-get_or d.progress.running i o in_range)
+    (eq-eqb r.request.0 p.request.0 (sym same))
     in
     let idle : is_placed d.progress.running p.request ≡ false = (known_at version d claim f k e lt).idle in
     cc))
@@ -208,7 +223,8 @@ kept_apart version d claim h f =
 -- ---- the desk
 
 -- the publication of a certified claim keeps the desk
-pub publication_keeps : (version : ℕ) (d : DeskSeen) (claim : Claim) → IsDesk d → IsCertified (snapshot_of version d) claim → IsDesk (with_publication version claim d)
+pub publication_keeps : (version : ℕ) (d : DeskSeen) (claim : Claim) → IsDesk d → IsCertified (snapshot_of version d) claim
+    → IsDesk (with_publication version claim d)
 publication_keeps version d claim h certified = record {
   opening = h.opening;
   len = h.len;
@@ -229,7 +245,8 @@ pub certified_by : (version : ℕ) (d : DeskSeen) (claim : Claim) (verdict : Ver
     → IsCertified (snapshot_of version d) claim
 certified_by version d claim verdict judged allowed = by_reason judged.0 judged.1 judged.2
   where
-    by_reason : (found : Option Reason) → IsFirstReason (snapshot_of version d) claim found → verdict ≡ verdict_of claim found → IsCertified (snapshot_of version d) claim
+    by_reason : (found : Option Reason) → IsFirstReason (snapshot_of version d) claim found → verdict ≡ verdict_of claim found
+        → IsCertified (snapshot_of version d) claim
     by_reason None first is = first
     by_reason (Some reason) first is = let refused : Some (Rejected reason) ≡ None = ap rejection (sym is) ∙ allowed in absurd (cc)
 

@@ -34,7 +34,8 @@ named_refusal fault memory = named fault (λ none. memory (of_none fault none))
     of_none site.NoMemory e = refl
 
 -- a call that the network refused, and that changed nothing
-pub network_refused : (decision : Decision) (before after : DeskSeen) (fault : SiteFault) (result : Result Reply CommandFault) → IsErrAnd result (λ f. f ≡ of_network fault)
+pub network_refused : (decision : Decision) (before after : DeskSeen) (fault : SiteFault) (result : Result Reply CommandFault)
+    → IsErrAnd result (λ f. f ≡ of_network fault)
     → (fault ≢ site.NoMemory → decision.refusal ≡ refusal_of_site fault) → after ≡ before → Decides decision before after result
 network_refused decision before after fault result is refused same =
     let found = err_from_is_err_and result is in

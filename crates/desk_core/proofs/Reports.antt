@@ -21,7 +21,8 @@ by_use d n percent used w q v = cond (nat_lt q.seconds used) (on_refused d n (Us
 running_so : (d : DeskSeen) (n : RequestNo) (percent used : ℕ) (place : Place) (f : IsFoundAt d n place) (b : Bool) → is_placed d.progress.running n ≡ b
     → on_report d n percent used ≡ cond (not b) (on_refused d n NotRunning) (by_use d n percent used f.submitted f.request f.wanted)
 running_so d n percent used place f b e =
-    ap (on_reported d n percent used) f.is ∙ ap (λ (t : Bool). cond (not t) (on_refused d n NotRunning) (by_use d n percent used f.submitted f.request f.wanted)) e
+    ap (on_reported d n percent used) f.is
+    ∙ ap (λ (t : Bool). cond (not t) (on_refused d n NotRunning) (by_use d n percent used f.submitted f.request f.wanted)) e
 
 pub not_found : (d : DeskSeen) (n : RequestNo) (percent used : ℕ) → request_with d n ≡ None → (on_report d n percent used).refusal ≡ Some NoSuchRequest
 not_found d n percent used e = ap (λ (o : Option (Submitted × (Request × Wanted))). (on_reported d n percent used o).refusal) e
@@ -34,21 +35,28 @@ pub too_long : (d : DeskSeen) (n : RequestNo) (percent used most : ℕ) (place :
     → most ≡ f.request.seconds → most < used → (on_report d n percent used).refusal ≡ Some (UsedTooLong most used)
 too_long d n percent used most place f e m l =
     ap (λ (x : Decision). x.refusal) (running_so d n percent used place f true e)
-    ∙ ap (λ (t : Bool). (cond t (on_refused d n (UsedTooLong f.request.seconds used)) (by_threshold d n percent used f.submitted f.request f.wanted)).refusal) (lt-ltb f.request.seconds used (subst (λ (x : ℕ). x < used) m l))
+    ∙ ap (λ (t : Bool). (cond t (on_refused d n (UsedTooLong f.request.seconds used))
+    (by_threshold d n percent used f.submitted f.request f.wanted)).refusal) (lt-ltb f.request.seconds used (subst (λ (x : ℕ). x < used) m l))
     ∙ ap (λ (x : ℕ). let o : Option Refusal = Some (UsedTooLong x used) in o) (sym m)
 
-used_so : (d : DeskSeen) (n : RequestNo) (percent used : ℕ) (place : Place) (f : IsFoundAt d n place) → is_placed d.progress.running n ≡ true → used ≤ f.request.seconds → on_report d n percent used ≡ by_threshold d n percent used f.submitted f.request f.wanted
+used_so : (d : DeskSeen) (n : RequestNo) (percent used : ℕ) (place : Place) (f : IsFoundAt d n place) → is_placed d.progress.running n ≡ true
+    → used ≤ f.request.seconds → on_report d n percent used ≡ by_threshold d n percent used f.submitted f.request f.wanted
 used_so d n percent used place f e l =
     running_so d n percent used place f true e
-    ∙ ap (λ (t : Bool). cond t (on_refused d n (UsedTooLong f.request.seconds used)) (by_threshold d n percent used f.submitted f.request f.wanted)) (le-ltb f.request.seconds used l)
+    ∙ ap (λ (t : Bool). cond t (on_refused d n (UsedTooLong f.request.seconds used)) (by_threshold d n percent used f.submitted f.request f.wanted))
+    (le-ltb f.request.seconds used l)
 
 pub fails : (d : DeskSeen) (n : RequestNo) (percent used least : ℕ) (place : Place) (f : IsFoundAt d n place) → is_placed d.progress.running n ≡ true
     → used ≤ f.request.seconds → least ≡ f.wanted.threshold → percent < least → on_report d n percent used ≡ on_failed d n
 fails d n percent used least place f e l m p =
-    used_so d n percent used place f e l ∙ ap (λ (t : Bool). cond t (on_completed d n used f.submitted f.wanted) (on_failed d n)) (lt-leb f.wanted.threshold percent (subst (λ (x : ℕ). percent < x) m p))
+    used_so d n percent used place f e l
+    ∙ ap (λ (t : Bool). cond t (on_completed d n used f.submitted f.wanted) (on_failed d n))
+    (lt-leb f.wanted.threshold percent (subst (λ (x : ℕ). percent < x) m p))
 
 pub completes : (d : DeskSeen) (n : RequestNo) (percent used least : ℕ) (place : Place) (f : IsFoundAt d n place) → is_placed d.progress.running n ≡ true
     → used ≤ f.request.seconds → least ≡ f.wanted.threshold → least ≤ percent
     → on_report d n percent used ≡ on_completed d n used f.submitted f.wanted
 completes d n percent used least place f e l m p =
-    used_so d n percent used place f e l ∙ ap (λ (t : Bool). cond t (on_completed d n used f.submitted f.wanted) (on_failed d n)) (le-leb f.wanted.threshold percent (subst (λ (x : ℕ). x ≤ percent) m p))
+    used_so d n percent used place f e l
+    ∙ ap (λ (t : Bool). cond t (on_completed d n used f.submitted f.wanted) (on_failed d n))
+    (le-leb f.wanted.threshold percent (subst (λ (x : ℕ). x ≤ percent) m p))

@@ -53,22 +53,24 @@ second_ended x = All-cons (λ s. s.to.0 ≤ x + 1) (second x) [] (omega arith) (
 -- second x goes on a span that ends there, or after one that has ended before
 one_more_last : (s : Span) (x : ℕ) → s.from.0 < s.to.0 → s.to.0 ≤ x → (c : Bool) → c ≡ (s.to.0 == x)
     → IsOneMore (s ∷ []) x (cond c (record s { to = record { 0 = x + 1 } } ∷ []) (s ∷ second x ∷ []))
-one_more_last s x full le c = elim c as (λ v. v ≡ (s.to.0 == x) → IsOneMore (s ∷ []) x (cond v (record s { to = record { 0 = x + 1 } } ∷ []) (s ∷ second x ∷ []))) [
-  | true ↦ λ e.
-      let touch : s.to.0 ≡ x = grind (arith, nat_tests) in
-      record {
-        seconds = λ y. grind (arith, nat_tests);
-        sorted = first_sorted (record s { to = record { 0 = x + 1 } }) [] (omega arith) (All-nil (λ t. x + 1 < t.from.0)) none_sorted;
-        ended = All-cons (λ t. t.to.0 ≤ x + 1) (record s { to = record { 0 = x + 1 } }) [] (omega arith) (All-nil (λ t. t.to.0 ≤ x + 1));
-      }
-  | false ↦ λ e.
-      let before : s.to.0 < x = grind (arith, nat_tests) in
-      record {
-        seconds = λ y. grind (arith, nat_tests);
-        sorted = first_sorted s (second x ∷ []) full (All-cons (λ t. s.to.0 < t.from.0) (second x) [] before (All-nil (λ t. s.to.0 < t.from.0))) (second_sorted x);
-        ended = All-cons (λ t. t.to.0 ≤ x + 1) s (second x ∷ []) (omega arith) (second_ended x);
-      }
-]
+one_more_last s x full le c = elim c as
+    (λ v. v ≡ (s.to.0 == x) → IsOneMore (s ∷ []) x (cond v (record s { to = record { 0 = x + 1 } } ∷ []) (s ∷ second x ∷ []))) [
+      | true ↦ λ e.
+          let touch : s.to.0 ≡ x = grind (arith, nat_tests) in
+          record {
+            seconds = λ y. grind (arith, nat_tests);
+            sorted = first_sorted (record s { to = record { 0 = x + 1 } }) [] (omega arith) (All-nil (λ t. x + 1 < t.from.0)) none_sorted;
+            ended = All-cons (λ t. t.to.0 ≤ x + 1) (record s { to = record { 0 = x + 1 } }) [] (omega arith) (All-nil (λ t. t.to.0 ≤ x + 1));
+          }
+      | false ↦ λ e.
+          let before : s.to.0 < x = grind (arith, nat_tests) in
+          record {
+            seconds = λ y. grind (arith, nat_tests);
+            sorted = first_sorted s (second x ∷ []) full (All-cons (λ t. s.to.0 < t.from.0) (second x) [] before (All-nil (λ t. s.to.0 < t.from.0)))
+                (second_sorted x);
+            ended = All-cons (λ t. t.to.0 ≤ x + 1) s (second x ∷ []) (omega arith) (second_ended x);
+          }
+    ]
 
 one_more : (spans : List Span) (x : ℕ) → IsSortedApart spans → All (λ s. s.to.0 ≤ x) spans → IsOneMore spans x (with_second spans x)
 one_more [] x sorted ended = record { seconds = λ y. grind (arith, nat_tests); sorted = second_sorted x; ended = second_ended x }
@@ -93,7 +95,8 @@ record IsBelow (test : ℕ → Bool) (n : ℕ) (spans : List Span) : Type 0 wher
   pub set : IsSetOf (λ x. nat_lt x n && test x) spans
   pub ended : All (λ s. s.to.0 ≤ n) spans
 
-below_next : (test : ℕ → Bool) (n : ℕ) (spans : List Span) → IsBelow test n spans → (c : Bool) → c ≡ test n → IsBelow test (suc n) (cond c (with_second spans n) spans)
+below_next : (test : ℕ → Bool) (n : ℕ) (spans : List Span) → IsBelow test n spans → (c : Bool) → c ≡ test n
+    → IsBelow test (suc n) (cond c (with_second spans n) spans)
 below_next test n spans h c = elim c as (λ v. v ≡ test n → IsBelow test (suc n) (cond v (with_second spans n) spans)) [
   | true ↦ λ e.
       let more = one_more spans n h.set.sorted h.ended in

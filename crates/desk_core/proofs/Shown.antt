@@ -1,5 +1,6 @@
 -- The accounts and the groups that are shown.
-use Rattle.std.proofs.Common.{◌≡◌, ◌∙◌, ℕ, zero, suc, ◌+◌, ◌<◌, ◌≤◌, refl, ap, sym, subst, Bool, true, false, List, [], ◌∷◌, ◌++◌, length, length-append, Contains, map, take, get_or, slice_get, Some, None, arith}
+use Rattle.std.proofs.Common.{◌≡◌, ◌∙◌, ℕ, zero, suc, ◌+◌, ◌<◌, ◌≤◌, refl, ap, sym, subst, Bool, true, false, List, [], ◌∷◌, ◌++◌, length}
+use Rattle.std.proofs.Common.{length-append, Contains, map, take, get_or, slice_get, Some, None, arith}
 use Rattle.std.specs.List.{AllZip, find, zip}
 use Rattle.std.proofs.lemmas.Bool.{eqb-true}
 use Rattle.std.proofs.lemmas.List.{map-append, take_more, take_all}
@@ -14,7 +15,8 @@ use Rattle.desk_core.specs.declared.desk.Submitted.{Submitted}
 -- ---- a list as far as it was made
 
 -- one more
-pub more_made : {X Y : Type 0} (f : X → Y) (xs : List X) (ys : List Y) (x : X) → ys ≡ map f (take (length ys) xs) → slice_get xs (length ys) ≡ Some x → ys ++ f x ∷ [] ≡ map f (take (length ys + 1) xs)
+pub more_made : {X Y : Type 0} (f : X → Y) (xs : List X) (ys : List Y) (x : X) → ys ≡ map f (take (length ys) xs) → slice_get xs (length ys) ≡ Some x
+    → ys ++ f x ∷ [] ≡ map f (take (length ys + 1) xs)
 more_made f xs ys x made at =
     let within : length ys < length xs = slice_get_within xs (length ys) x at in
     ap (λ l. l ++ f x ∷ []) made
@@ -26,7 +28,8 @@ pub slice_contains : {X : Type 0} (xs : List X) (n : ℕ) (x : X) → slice_get 
 slice_contains xs n x at = subst (Contains xs) (get_or_from_slice_get xs n x x at) (Contains-get_or xs n x (slice_get_within xs n x at))
 
 -- one more was pushed
-pub next_made : {X Y : Type 0} (f : X → Y) (xs : List X) (ys zs : List Y) (x : X) (y : Y) (n : ℕ) → ys ≡ map f (take (length ys) xs) → n ≡ length ys → Some x ≡ slice_get xs n → y ≡ f x → zs ≡ ys ++ y ∷ []
+pub next_made : {X Y : Type 0} (f : X → Y) (xs : List X) (ys zs : List Y) (x : X) (y : Y) (n : ℕ) → ys ≡ map f (take (length ys) xs) → n ≡ length ys
+    → Some x ≡ slice_get xs n → y ≡ f x → zs ≡ ys ++ y ∷ []
     → zs ≡ map f (take (length zs) xs)
 next_made f xs ys zs x y n made count at is pushed =
     let all : zs ≡ ys ++ f x ∷ [] = pushed ∙ ap (λ v. ys ++ v ∷ []) is in
@@ -51,7 +54,8 @@ pub record IsFound (b : ℕ) (n : GroupNo) (ws : List Submitted) (gs : List Grou
   pub number : g.number ≡ n
   pub found : (w : Submitted) → find (λ p. is_group n p.1) (zip ws gs) ≡ Some (get_or ws place w, g)
 
-pub found_at : (b : ℕ) (n : GroupNo) (ws : List Submitted) (gs : List Group) (g : Group) → length ws ≡ length gs → IsCountedFrom b (map (λ x. x.number.0) gs) → find (is_group n) gs ≡ Some g → IsFound b n ws gs g
+pub found_at : (b : ℕ) (n : GroupNo) (ws : List Submitted) (gs : List Group) (g : Group) → length ws ≡ length gs
+    → IsCountedFrom b (map (λ x. x.number.0) gs) → find (is_group n) gs ≡ Some g → IsFound b n ws gs g
 found_at b n [] [] g same counted is = absurd (cc)
 found_at b n [] (x ∷ gs) g same counted is = absurd (omega arith)
 found_at b n (w ∷ ws) [] g same counted is = absurd (omega arith)
@@ -82,7 +86,8 @@ not_found n [] gs is = refl
 not_found n (w ∷ ws) [] is = refl
 not_found n (w ∷ ws) (x ∷ gs) is = by (is_group n x) refl (not_found n ws gs)
   where
-    by : (c : Bool) → is_group n x ≡ c → (find (is_group n) gs ≡ None → find (λ p. is_group n p.1) (zip ws gs) ≡ None) → find (λ p. is_group n p.1) (zip (w ∷ ws) (x ∷ gs)) ≡ None
+    by : (c : Bool) → is_group n x ≡ c → (find (is_group n) gs ≡ None → find (λ p. is_group n p.1) (zip ws gs) ≡ None)
+        → find (λ p. is_group n p.1) (zip (w ∷ ws) (x ∷ gs)) ≡ None
     by true e rest = let none = rw e at is in absurd (cc)
     by false e rest = rw e (rest (rw e at is))
 

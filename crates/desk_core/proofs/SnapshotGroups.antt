@@ -64,14 +64,16 @@ pub each_request : (d : DeskSeen) → IsDesk d → (P : RequestPart → Type 0) 
 each_request d h P each =
     all_flat P (λ x. x.requests) (map (group_part d) (listed_groups d)) (All-map (λ x. All P x.requests) (group_part d) (listed_groups d)
     (All-weaker (λ p. IsAlong (target_count d) p.0 p.1) (λ p. All P (map (request_part d) (waiting_of d p)))
-    (λ p along. All-map P (request_part d) (waiting_of d p) (All-weaker (IsMember (target_count d)) (λ m. P (request_part d m)) each (waiting_of d p) (members d p along)))
+    (λ p along. All-map P (request_part d) (waiting_of d p)
+    (All-weaker (IsMember (target_count d)) (λ m. P (request_part d m)) each (waiting_of d p) (members d p along)))
     (listed_groups d) (listed_along d h)))
 
 pub all_from_map : {X Y : Type 0} (P : Y → Type 0) (f : X → Y) (xs : List X) → All P (map f xs) → All (λ x. P (f x)) xs
 all_from_map P f [] h = All-nil (λ x. P (f x))
 all_from_map P f (x ∷ xs) h = All-cons (λ y. P (f y)) x xs (All-head P (f x) (map f xs) h) (all_from_map P f xs (All-tail P (f x) (map f xs) h))
 
-pub each_listed : (version : ℕ) (d : DeskSeen) → IsDesk d → (P : RequestPart → Type 0) → ((m : Request × Wanted) → IsMember (target_count d) m → P (request_part d m))
+pub each_listed : (version : ℕ) (d : DeskSeen) → IsDesk d → (P : RequestPart → Type 0)
+    → ((m : Request × Wanted) → IsMember (target_count d) m → P (request_part d m))
     → All (λ x. P x.request) (listed (snapshot_of version d))
 each_listed version d h P each =
     let s = snapshot_of version d in
@@ -93,14 +95,19 @@ waiting_few running (q ∷ qs) (w ∷ ws) =
     let both : List (Request × Wanted) = zip qs ws in
     omega (
       arith,
-      waiting_step (is_pending q.state) (is_placed running q.number) (count_by (λ m. is_waiting running m.0) both) (count_by (λ r. is_pending r.state) qs) (waiting_few running qs ws),
+      waiting_step (is_pending q.state) (is_placed running q.number) (count_by (λ m. is_waiting running m.0) both)
+          (count_by (λ r. is_pending r.state) qs) (waiting_few running qs ws),
       sum_by-cons (λ m. cond (is_waiting running m.0) 1 0) (q, w) both,
       sum_by-cons (λ (r : Request). cond (is_pending r.state) 1 0) q qs,
     )
 
 waiting_pending : (d : DeskSeen) (p : Submitted × Group) → length (waiting_of d p) ≤ count_by (λ q. is_pending q.state) p.1.requests
 waiting_pending d p =
-    omega (arith, length-filter (λ (m : Request × Wanted). is_waiting d.progress.running m.0) (zip p.1.requests p.0.requests), waiting_few d.progress.running p.1.requests p.0.requests)
+    omega (
+      arith,
+      length-filter (λ (m : Request × Wanted). is_waiting d.progress.running m.0) (zip p.1.requests p.0.requests),
+      waiting_few d.progress.running p.1.requests p.0.requests,
+    )
 
 waiting_most : (d : DeskSeen) (p : Submitted × Group) → length (waiting_of d p) ≤ length p.1.requests
 waiting_most d p =
@@ -128,7 +135,8 @@ listed_some : (d : DeskSeen) → All (λ p. 1 ≤ length (waiting_of d p)) (list
 listed_some d k e lt =
     let p = get_or (listed_groups d) k e in
     let passes : is_listed d p ≡ true = filter_passes (is_listed d) (both_of d) k e lt in
-    let some : 0 < length (waiting_of d p) = ltb-true 0 (length (waiting_of d p)) (and_parts (not (is_oneof p.1.op && has_running d p.1)) (nat_lt 0 (length (waiting_of d p))) passes).1 in
+    let some : 0 < length (waiting_of d p) =
+    ltb-true 0 (length (waiting_of d p)) (and_parts (not (is_oneof p.1.op && has_running d p.1)) (nat_lt 0 (length (waiting_of d p))) passes).1 in
     omega arith
 
 pub sum_map : {X Y : Type 0} (f : Y → ℕ) (g : X → Y) (xs : List X) → sum_by f (map g xs) ≡ sum_by (λ x. f (g x)) xs

@@ -32,14 +32,16 @@ use Rattle.desk_core.proofs.SnapshotGroups.{target_count, along}
 -- ---- a group by its number
 
 -- what stands at a place of a zip stands there in both lists
-pub zip_parts : {A B : Type 0} (xs : List A) (ys : List B) (i : ℕ) (p : A × B) → slice_get (zip xs ys) i ≡ Some p → (slice_get xs i ≡ Some p.0) × (slice_get ys i ≡ Some p.1)
+pub zip_parts : {A B : Type 0} (xs : List A) (ys : List B) (i : ℕ) (p : A × B) → slice_get (zip xs ys) i ≡ Some p → (slice_get xs i ≡ Some p.0)
+    × (slice_get ys i ≡ Some p.1)
 zip_parts [] ys i p e = cc
 zip_parts (x ∷ xs) [] i p e = cc
 zip_parts (x ∷ xs) (y ∷ ys) zero p e = let same : (x, y) ≡ p = cc in (ap (λ q. Some q.0) same, ap (λ q. Some q.1) same)
 zip_parts (x ∷ xs) (y ∷ ys) (suc i) p e = zip_parts xs ys i p e
 
 -- the group with a number, as it was submitted
-pub submission_is : (d : DeskSeen) (number : GroupNo) (p : Submitted × Group) (w : Submitted) → both_at d number ≡ Some p → slice_get d.groups (number.0 - 1) ≡ Some w → w ≡ p.0
+pub submission_is : (d : DeskSeen) (number : GroupNo) (p : Submitted × Group) (w : Submitted) → both_at d number ≡ Some p
+    → slice_get d.groups (number.0 - 1) ≡ Some w → w ≡ p.0
 submission_is d number p w e is = same_Some w p.0 (sym is ∙ (zip_parts d.groups d.progress.groups (number.0 - 1) p e).0)
 
 -- .. and as it is
@@ -49,7 +51,8 @@ group_at d number p e = get_or_from_slice_get d.progress.groups (number.0 - 1) p
 pub as_many : (d : DeskSeen) → IsDesk d → length d.progress.groups ≡ length d.groups
 as_many d h = AllZip-long (IsAlong (target_count d)) d.groups d.progress.groups h.along
 
-pub along_at : (d : DeskSeen) → IsDesk d → (number : GroupNo) (p : Submitted × Group) → both_at d number ≡ Some p → number.0 - 1 < length (both_of d) → IsAlong (target_count d) p.0 p.1
+pub along_at : (d : DeskSeen) → IsDesk d → (number : GroupNo) (p : Submitted × Group) → both_at d number ≡ Some p → number.0 - 1 < length (both_of d)
+    → IsAlong (target_count d) p.0 p.1
 along_at d h number p e lt =
     subst (λ (q : Submitted × Group). IsAlong (target_count d) q.0 q.1) (get_or_from_slice_get (both_of d) (number.0 - 1) p p e) (along d h (number.0 - 1) p lt)
 
@@ -91,7 +94,9 @@ some_waiting running (q ∷ qs) [] e = absurd (omega arith)
 some_waiting running (q ∷ qs) (w ∷ ws) e = by_first (is_waiting running q) (some_waiting running qs ws (omega arith))
   where
     by_first : (b : Bool) → list_any (is_waiting running) qs ≡ nat_lt 0 (length (filter (λ m. is_waiting running m.0) (zip qs ws)))
-        → (b || list_any (is_waiting running) qs) ≡ nat_lt 0 (length (cond b ((q, w) ∷ filter (λ m. is_waiting running m.0) (zip qs ws)) (filter (λ m. is_waiting running m.0) (zip qs ws))))
+        → (b || list_any (is_waiting running) qs)
+        ≡ nat_lt 0 (length (cond b ((q, w) ∷ filter (λ m. is_waiting running m.0) (zip qs ws))
+        (filter (λ m. is_waiting running m.0) (zip qs ws))))
     by_first true rest = grind (arith, nat_tests)
     by_first false rest = rest
 
@@ -99,7 +104,8 @@ pub listed_is : (d : DeskSeen) (p : Submitted × Group) → length p.0.requests 
     → is_listed d p ≡ (not (is_oneof p.1.op && has_running d p.1) && list_any (is_waiting d.progress.running) p.1.requests)
 listed_is d p e = ap (λ b. not (is_oneof p.1.op && has_running d p.1) && b) (sym (some_waiting d.progress.running p.1.requests p.0.requests e))
 
-open_step : (pending placed rest : Bool) (n : ℕ) → (nat_lt 0 n ≡ true → rest ≡ true) → (m : ℕ) → m ≡ cond (pending && not placed) (suc n) n → nat_lt 0 m ≡ true → (pending || rest) ≡ true
+open_step : (pending placed rest : Bool) (n : ℕ) → (nat_lt 0 n ≡ true → rest ≡ true) → (m : ℕ) → m ≡ cond (pending && not placed) (suc n) n
+    → nat_lt 0 m ≡ true → (pending || rest) ≡ true
 open_step true placed rest n h m e lt = refl
 open_step false placed rest n h m e lt = h (ap (nat_lt 0) (sym e) ∙ lt)
 
@@ -118,7 +124,8 @@ waiting_open running (q ∷ qs) (w ∷ ws) e =
 
 -- a listed group is open
 pub listed_open : (d : DeskSeen) (p : Submitted × Group) → is_listed d p ≡ true → is_open p.1 ≡ true
-listed_open d p e = waiting_open d.progress.running p.1.requests p.0.requests (and_parts (not (is_oneof p.1.op && has_running d p.1)) (nat_lt 0 (length (waiting_of d p))) e).1
+listed_open d p e = waiting_open d.progress.running p.1.requests p.0.requests
+    (and_parts (not (is_oneof p.1.op && has_running d p.1)) (nat_lt 0 (length (waiting_of d p))) e).1
 
 -- ---- the pass over the open groups
 
@@ -154,14 +161,16 @@ pub record IsNext (d : DeskSeen) (groups : List (Submitted × Group)) (numbers :
   pub in_range : i < length groups
   pub numbered : IsNumberedAt d group
 
-pub next_is : (d : DeskSeen) (groups : List (Submitted × Group)) (numbers : List GroupNo) (i : ℕ) → All (IsNumberedAt d) groups → numbers ≡ map (λ p. p.1.number) groups
+pub next_is : (d : DeskSeen) (groups : List (Submitted × Group)) (numbers : List GroupNo) (i : ℕ) → All (IsNumberedAt d) groups
+    → numbers ≡ map (λ p. p.1.number) groups
     → i < length numbers → IsNext d groups numbers i
 next_is d groups numbers i all is lt =
     let in_range : i < length groups = omega (arith, ap length is, length-map groups (λ (p : Submitted × Group). p.1.number)) in
     let here = element_at groups i in_range in
     record {
       group = here.0;
-      number = ap (λ (l : List GroupNo). get_or l i record { 0 = 0 }) is ∙ get_or-map (λ (p : Submitted × Group). p.1.number) groups i here.0 record { 0 = 0 } in_range
+      number = ap (λ (l : List GroupNo). get_or l i record { 0 = 0 }) is
+          ∙ get_or-map (λ (p : Submitted × Group). p.1.number) groups i here.0 record { 0 = 0 } in_range
           ∙ ap (λ (p : Submitted × Group). p.1.number) here.1;
       stands = here.1;
       in_range = in_range;
@@ -184,7 +193,8 @@ kept_more {X = X} {Y = Y} f test xs i x lt stands old new so_far b is pushed =
     = filter_more test xs i x lt ∙ ap (λ y. filter test (take i xs) ++ cond (test y) (y ∷ []) []) stands
     in
     pushed ∙ ap (λ l. l ++ cond b (f x ∷ []) []) so_far ∙ ap (λ c. map f (filter test (take i xs)) ++ cond c (f x ∷ []) []) is
-    ∙ ap (λ l. map f (filter test (take i xs)) ++ l) (map_choice f (test x) x) ∙ sym (map-append f (filter test (take i xs)) (cond (test x) (x ∷ []) [])) ∙ ap (map f) (sym more)
+    ∙ ap (λ l. map f (filter test (take i xs)) ++ l) (map_choice f (test x) x)
+    ∙ sym (map-append f (filter test (take i xs)) (cond (test x) (x ∷ []) [])) ∙ ap (map f) (sym more)
   where
     map_choice : (f : X → Y) (b : Bool) (x : X) → cond b (f x ∷ []) [] ≡ map f (cond b (x ∷ []) [])
     map_choice f true x = refl

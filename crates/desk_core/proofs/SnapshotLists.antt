@@ -115,7 +115,8 @@ rise_more : (n x : ℕ) (xs : List ℕ) → Rise (x ∷ xs) → Rise (insert_key
     → Rise (match_ordering (cond a Less (cond b Equal Greater)) (n ∷ x ∷ xs) (x ∷ xs) (x ∷ insert_key nat_cmp xs n))
 rise_more n x xs h rest true b before same =
     let lt : n < x = grind (arith, nat_tests) in
-    AllPairs-cons (λ a b. a < b) n (x ∷ xs) (All-cons (λ m. n < m) x xs lt (All-weaker (λ m. x < m) (λ m. n < m) (λ m l. omega arith) xs (pairs_head (λ a b. a < b) x xs h))) h
+    AllPairs-cons (λ a b. a < b) n (x ∷ xs)
+    (All-cons (λ m. n < m) x xs lt (All-weaker (λ m. x < m) (λ m. n < m) (λ m l. omega arith) xs (pairs_head (λ a b. a < b) x xs h))) h
 rise_more n x xs h rest false true before same = h
 rise_more n x xs h rest false false before same =
     let lt : x < n = grind (arith, nat_tests) in
@@ -178,12 +179,14 @@ pub all_some : {X Y : Type 0} (f : X → Option Y) (Q : X → Type 0) (P : Y →
 all_some f Q P h [] all = All-nil P
 all_some f Q P h (x ∷ xs) all = all_one P (f x) (filter_map f xs) (λ y e. h x y (All-head Q x xs all) e) (all_some f Q P h xs (All-tail Q x xs all))
 
-pairs_one : {Y : Type 0} (R : Y → Y → Type 0) (o : Option Y) (ys : List Y) → ((y : Y) → o ≡ Some y → All (R y) ys) → AllPairs R ys → AllPairs R (cons_option o ys)
+pairs_one : {Y : Type 0} (R : Y → Y → Type 0) (o : Option Y) (ys : List Y) → ((y : Y) → o ≡ Some y → All (R y) ys) → AllPairs R ys
+    → AllPairs R (cons_option o ys)
 pairs_one R None ys h rest = rest
 pairs_one R (Some y) ys h rest = AllPairs-cons R y ys (h y refl) rest
 
 -- .. and of each pair
-pub pairs_some : {X Y : Type 0} (f : X → Option Y) (S : X → X → Type 0) (R : Y → Y → Type 0) → ((x z : X) (y w : Y) → S x z → f x ≡ Some y → f z ≡ Some w → R y w)
+pub pairs_some : {X Y : Type 0} (f : X → Option Y) (S : X → X → Type 0) (R : Y → Y → Type 0)
+    → ((x z : X) (y w : Y) → S x z → f x ≡ Some y → f z ≡ Some w → R y w)
     → (xs : List X) → AllPairs S xs → AllPairs R (filter_map f xs)
 pairs_some f S R h [] pairs = λ i j d l m. absurd (omega arith)
 pairs_some f S R h (x ∷ xs) pairs =

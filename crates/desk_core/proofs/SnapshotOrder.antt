@@ -80,11 +80,13 @@ within version d h small Telescopes = one_count (length (telescope_parts d)) 32 
 within version d h small Usable = usable_few d h small
 within version d h small Skies = one_count (length (skies_of d)) 32768 (skies_few d h small.few)
 within version d h small Spans = one_count _ 262144 (spans_few d h small.few)
-within version d h small Groups = one_count (length (map (group_part d) (listed_groups d))) 1024 (omega (arith, length-map (listed_groups d) (group_part d), few_groups d h))
+within version d h small Groups =
+    one_count (length (map (group_part d) (listed_groups d))) 1024 (omega (arith, length-map (listed_groups d) (group_part d), few_groups d h))
 within version d h small Requests = one_count (length (listed (snapshot_of version d))) 1024 (few_requests version d h)
 within version d h small Windows =
     each_count version d h (λ q. length q.windows) 32 (each_listed version d h (λ q. length q.windows ≤ 32) (λ m is. is.wanted.times.count.high))
-within version d h small Targets = each_count version d h (λ q. length q.targets) 16 (each_listed version d h (λ q. length q.targets ≤ 16) (λ m is. is.wanted.few))
+within version d h small Targets =
+    each_count version d h (λ q. length q.targets) 16 (each_listed version d h (λ q. length q.targets ≤ 16) (λ m is. is.wanted.few))
 within version d h small Fits =
     each_count version d h (λ q. length q.telescopes) 32 (each_listed version d h (λ q. length q.telescopes ≤ 32) (λ m is. fits_few d m.1 small.few))
 within version d h small Quotas = one_count _ 1024 (omega (arith, quotas_few d d.opening.quota, few_groups d h))

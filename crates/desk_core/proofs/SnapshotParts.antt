@@ -1,5 +1,6 @@
 -- The parts of the snapshot, as they are put together.
-use Rattle.std.proofs.Common.{◌≡◌, ℕ, ◌+◌, ◌<◌, List, [], ◌∷◌, ◌++◌, length, get_or, map, take, replicate, refl, sym, ap, ◌∙◌, subst, Option, Result, Ok, Err, IfOk}
+use Rattle.std.proofs.Common.{◌≡◌, ℕ, ◌+◌, ◌<◌, List, [], ◌∷◌, ◌++◌, length, get_or, map, take, replicate, refl, sym, ap, ◌∙◌, subst, Option, Result}
+use Rattle.std.proofs.Common.{Ok, Err, IfOk}
 use Rattle.std.specs.Prelude.{fold, All}
 use Rattle.std.specs.List.{flat_map}
 use Rattle.std.specs.Ordering.{nat_cmp}
@@ -40,13 +41,15 @@ group_part_is d p w g requests quota submitted group parts place =
     ∙ ap (λ (h : Group). group_part d (p.0, h)) group
 
 -- one more element
-pub mapped_more : {X Y : Type 0} (f : X → Y) (xs : List X) (i : ℕ) (x : X) → i < length xs → get_or xs i x ≡ x → (old new : List Y) → old ≡ map f (take i xs) → (y : Y) → y ≡ f x
+pub mapped_more : {X Y : Type 0} (f : X → Y) (xs : List X) (i : ℕ) (x : X) → i < length xs → get_or xs i x ≡ x → (old new : List Y)
+    → old ≡ map f (take i xs) → (y : Y) → y ≡ f x
     → new ≡ old ++ y ∷ [] → new ≡ map f (take (i + 1) xs)
 mapped_more f xs i x lt stands old new so_far y is pushed =
     let more : take (i + 1) xs ≡ take i xs ++ x ∷ [] = take_more xs i x lt ∙ ap (λ z. take i xs ++ z ∷ []) stands in
     pushed ∙ ap (λ l. l ++ y ∷ []) so_far ∙ ap (λ z. map f (take i xs) ++ z ∷ []) is ∙ sym (map_push f (take i xs) x) ∙ ap (map f) (sym more)
 
-pub folded_more : {X B : Type 0} (f : B → X → B) (a : B) (xs : List X) (i : ℕ) (x : X) → i < length xs → get_or xs i x ≡ x → (old new : B) → old ≡ fold f a (take i xs) → new ≡ f old x
+pub folded_more : {X B : Type 0} (f : B → X → B) (a : B) (xs : List X) (i : ℕ) (x : X) → i < length xs → get_or xs i x ≡ x → (old new : B)
+    → old ≡ fold f a (take i xs) → new ≡ f old x
     → new ≡ fold f a (take (i + 1) xs)
 folded_more f a xs i x lt stands old new so_far is =
     let more : take (i + 1) xs ≡ take i xs ++ x ∷ [] = take_more xs i x lt ∙ ap (λ z. take i xs ++ z ∷ []) stands in
@@ -54,7 +57,8 @@ folded_more f a xs i x lt stands old new so_far is =
 
 -- ---- targets
 
-pub targets_more : (keys old new : List ℕ) (targets : List TargetNo) (i : ℕ) (t : TargetNo) → i < length targets → get_or targets i t ≡ t → old ≡ with_numbers_of keys (take i targets)
+pub targets_more : (keys old new : List ℕ) (targets : List TargetNo) (i : ℕ) (t : TargetNo) → i < length targets → get_or targets i t ≡ t
+    → old ≡ with_numbers_of keys (take i targets)
     → new ≡ insert_key nat_cmp old t.0 → new ≡ with_numbers_of keys (take (i + 1) targets)
 targets_more keys old new targets i t lt stands so_far is =
     let more : take (i + 1) targets ≡ take i targets ++ t ∷ [] = take_more targets i t lt ∙ ap (λ z. take i targets ++ z ∷ []) stands in
@@ -94,7 +98,8 @@ skies_are d targets (Err no_memory) is made = tt
 
 -- the parts put together
 pub parts_are : (version : ℕ) (d : DeskSeen) (first : SliceNo) (telescopes : List TelescopePart) (skies : List Sky) (groups : List GroupPart) (quotas : List ℕ)
-    → first.0 ≡ first_slice d → telescopes ≡ telescope_parts d → skies ≡ skies_of d → groups ≡ map (group_part d) (listed_groups d) → quotas ≡ quotas_of d d.opening.quota
+    → first.0 ≡ first_slice d → telescopes ≡ telescope_parts d → skies ≡ skies_of d → groups ≡ map (group_part d) (listed_groups d)
+    → quotas ≡ quotas_of d d.opening.quota
     → record {
       version = version;
       len = d.opening.slice;
@@ -119,5 +124,6 @@ parts_are version d first telescopes skies groups quotas begins seen_by seen_at 
     }
     in
     ap (λ k. made k telescopes skies groups quotas) begins ∙ ap (λ t. made (first_slice d) t skies groups quotas) seen_by
-    ∙ ap (λ y. made (first_slice d) (telescope_parts d) y groups quotas) seen_at ∙ ap (λ g. made (first_slice d) (telescope_parts d) (skies_of d) g quotas) listed
+    ∙ ap (λ y. made (first_slice d) (telescope_parts d) y groups quotas) seen_at
+    ∙ ap (λ g. made (first_slice d) (telescope_parts d) (skies_of d) g quotas) listed
     ∙ ap (made (first_slice d) (telescope_parts d) (skies_of d) (map (group_part d) (listed_groups d))) limits

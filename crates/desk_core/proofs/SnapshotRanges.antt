@@ -29,7 +29,8 @@ use Rattle.desk_core.specs.declared.desk.Submitted.{Submitted}
 use Rattle.desk_core.specs.declared.desk.Wanted.{Wanted}
 use Rattle.desk_core.specs.Desk.{DeskSeen}
 use Rattle.desk_core.specs.Kept.{IsDesk}
-use Rattle.desk_core.specs.DeskSnapshot.{site_of, is_usable, telescope_part, telescope_parts, telescopes_for, both_of, request_part, waiting_of, is_listed, listed_groups, group_part}
+use Rattle.desk_core.specs.DeskSnapshot.{site_of, is_usable, telescope_part, telescope_parts, telescopes_for, both_of, request_part, waiting_of}
+use Rattle.desk_core.specs.DeskSnapshot.{is_listed, listed_groups, group_part}
 use Rattle.desk_core.specs.DeskSnapshot.{skies_of, quotas_of, snapshot_of, HasFew}
 use Rattle.desk_core.proofs.SnapshotLists.{all_left, all_right, all_firsts, all_seconds}
 use Rattle.desk_core.proofs.SnapshotSpans.{cut_short, moments_in}
@@ -59,7 +60,8 @@ site_low d few t = by (number_of d.network.registry.sites t.code.site) refl
     by None is = omega arith
     by (Some s) is = omega (arith, (position-Some (is_name t.code.site) d.network.registry.sites s t.code.site is).0, few.sites)
 
-telescopes_in : (version : ℕ) (d : DeskSeen) → IsDesk d → HasFew d.network → IsOrderly (snapshot_of version d) → AreUpTo most_items IsTelescope (telescope_parts d)
+telescopes_in : (version : ℕ) (d : DeskSeen) → IsDesk d → HasFew d.network → IsOrderly (snapshot_of version d)
+    → AreUpTo most_items IsTelescope (telescope_parts d)
 telescopes_in version d h few o =
     let all = enumerate_from 0 d.network.registry.telescopes in
     let counts = all_from_map (λ n. n ≤ 2048) (λ t. length t.usable) (telescope_parts d) (o.within Usable) in
@@ -147,7 +149,8 @@ quota_low : (quota : Option ℕ) (n : ℕ) → n ≤ 65536 → ForSome quota (λ
 quota_low None n few h = tt
 quota_low (Some q) n few h = let below : q < n = h q refl in omega arith
 
-groups_in : (d : DeskSeen) → IsDesk d → HasFew d.network → length d.progress.groups ≤ most_version → AreUpTo most_items IsGroup (map (group_part d) (listed_groups d))
+groups_in : (d : DeskSeen) → IsDesk d → HasFew d.network → length d.progress.groups ≤ most_version
+    → AreUpTo most_items IsGroup (map (group_part d) (listed_groups d))
 groups_in d h few groups =
     let requests : length (requests_of d.progress.groups) ≤ 4294967295 = omega (arith, few_in (target_count d) d.groups d.progress.groups h.along) in
     let shape = all_from_map (λ x. (1 ≤ length x.requests) × (length x.requests ≤ most_requests x.op)) (group_part d) (listed_groups d) (shapes d h) in
@@ -160,11 +163,17 @@ groups_in d h few groups =
           record {
             group = omega (arith, (listed_at d h k e lt).known.1);
             requests = record {
-              count = omega (arith, few_of p.1.op (length (waiting_of d p)) (omega (arith, (shape k e lt).1, length-map (waiting_of d p) (request_part d))), length-map (waiting_of d p) (request_part d));
+              count = omega (
+                arith,
+                few_of p.1.op (length (waiting_of d p))
+                    (omega (arith, (shape k e lt).1, length-map (waiting_of d p) (request_part d))),
+                length-map (waiting_of d p) (request_part d),
+              );
               each = All-map IsRequest (request_part d) (waiting_of d p)
                   (λ i f l. request_in d few (get_or (waiting_of d p) i f) (members d p (listed_along d h k e lt) i f l) (low i f l));
             };
-            quota = quota_low (group_part d p).quota (length (quotas_of d d.opening.quota)) (omega (arith, quotas_few d d.opening.quota, few_groups d h)) (quota k e lt);
+            quota = quota_low (group_part d p).quota (length (quotas_of d d.opening.quota))
+                (omega (arith, quotas_few d d.opening.quota, few_groups d h)) (quota k e lt);
           });
     }
 

@@ -32,7 +32,8 @@ cut_is d test set horizon cut is whole meet =
     one_list cut (in_horizon d test) meet.sorted one.sorted (λ x. grind (arith, meet.seconds x, one.seconds x, whole.seconds x, is x))
 
 -- the night less the closures less what runs, cut to the horizon
-pub usable_is : (d : DeskSeen) (site t : ℕ) (usable observed free horizon cut : List Span) → IsUsable d.network t usable → site_number d.network.registry t ≡ Some site
+pub usable_is : (d : DeskSeen) (site t : ℕ) (usable observed free horizon cut : List Span) → IsUsable d.network t usable
+    → site_number d.network.registry t ≡ Some site
     → IsSetOf (has (observed_on d t)) observed → IsDifference usable observed free → IsHorizonSet d horizon → IsMeet free horizon cut
     → cut ≡ in_horizon d (is_usable d site t)
 usable_is d site t usable observed free horizon cut is at runs less whole meet =
@@ -56,7 +57,8 @@ site_is r t site seen at is =
 abbrev pub cut_sky : DeskSeen → TargetNo → SiteNo → List Span
 cut_sky d target site = in_horizon d (has (sky_of d.network.calendar.skies record { target = target; site = site }))
 
-pub sky_cut : (d : DeskSeen) (target : TargetNo) (site : SiteNo) (sky horizon cut : List Span) → sky ≡ sky_of d.network.calendar.skies record { target = target; site = site }
+pub sky_cut : (d : DeskSeen) (target : TargetNo) (site : SiteNo) (sky horizon cut : List Span)
+    → sky ≡ sky_of d.network.calendar.skies record { target = target; site = site }
     → IsHorizonSet d horizon → IsMeet sky horizon cut → cut ≡ cut_sky d target site
 sky_cut d target site sky horizon cut is whole meet =
     cut_is d (has (sky_of d.network.calendar.skies record { target = target; site = site })) sky horizon cut (λ x. ap (λ l. has l x) is) whole meet
@@ -91,7 +93,8 @@ places_more {X = X} f xs i ys y lt so_far new =
     rw (more, pair, map_push, ← so_far, new here.0 found) refl
 
 -- all of them
-pub places_all : {X Y : Type 0} (f : ℕ × X → Y) (xs : List X) (i : ℕ) (ys : List Y) → i ≡ length xs → ys ≡ map f (take i (enumerate_from 0 xs)) → ys ≡ map f (enumerate_from 0 xs)
+pub places_all : {X Y : Type 0} (f : ℕ × X → Y) (xs : List X) (i : ℕ) (ys : List Y) → i ≡ length xs → ys ≡ map f (take i (enumerate_from 0 xs))
+    → ys ≡ map f (enumerate_from 0 xs)
 places_all f xs i ys end so_far =
     let all = enumerate_from 0 xs in
     let count : i ≡ length all = end ∙ sym (length-enumerate_from 0 xs) in
@@ -99,7 +102,8 @@ places_all f xs i ys end so_far =
 
 -- one more number
 range_more : (n : ℕ) → range_with_len 0 (n + 1) ≡ range_with_len 0 n ++ n ∷ []
-range_more n = sym (map-id (range_with_len 0 (n + 1))) ∙ map-range_with_len_more (λ k. k) 0 n n (omega arith) ∙ ap (λ l. l ++ n ∷ []) (map-id (range_with_len 0 n))
+range_more n = sym (map-id (range_with_len 0 (n + 1))) ∙ map-range_with_len_more (λ k. k) 0 n n (omega arith)
+    ∙ ap (λ l. l ++ n ∷ []) (map-id (range_with_len 0 n))
 
 -- one more of what is made of numbers
 pub numbers_more : {Y : Type 0} (f : ℕ → Option Y) (old ys new : List Y) (n : ℕ) (made : Option Y) → ys ≡ old ++ filter_map f (range_with_len 0 n) → made ≡ f n

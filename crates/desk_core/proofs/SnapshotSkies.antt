@@ -46,10 +46,16 @@ targets_known d h =
     all_flat (λ t. t.0 < target_count d) (λ m. m.1.targets) (waiting_of d p) (λ i f l. (members d p (listed_along d h k e lt) i f l).wanted.known))))
 
 pub targets_rise : (d : DeskSeen) → Rise (targets_listed d)
-targets_rise d = rise_all (map (λ t. t.0) (flat_map (λ p. flat_map (λ m. m.1.targets) (waiting_of d p)) (listed_groups d))) [] (λ i j e l m. absurd (omega arith))
+targets_rise d = rise_all (map (λ t. t.0) (flat_map (λ p. flat_map (λ m. m.1.targets) (waiting_of d p)) (listed_groups d))) []
+    (λ i j e l m. absurd (omega arith))
 
 pub targets_few : (d : DeskSeen) → IsDesk d → HasFew d.network → length (targets_listed d) ≤ 2048
-targets_few d h few = omega (arith, length_below (targets_listed d) (target_count d) (λ i j e l m same. omega (arith, same, targets_rise d i j e l m)) (targets_known d h), few.targets)
+targets_few d h few = omega (
+  arith,
+  length_below (targets_listed d) (target_count d) (λ i j e l m same. omega (arith, same, targets_rise d i j e l m))
+      (targets_known d h),
+  few.targets,
+)
 
 -- ---- the skies
 
@@ -83,7 +89,8 @@ all_skies d =
 rise_at : (d : DeskSeen) (target : ℕ) → AllPairs IsSkyBelow (skies_at d target)
 rise_at d target =
     pairs_some (sky_part d target) (λ a b. a < b) IsSkyBelow
-    (λ a b y z lt e f. let one = sky_in d target a y e in let other = sky_in d target b z f in inr (one.target_is ∙ sym other.target_is, omega (arith, one.site_is, other.site_is)))
+    (λ a b y z lt e f. let one = sky_in d target a y e in let other = sky_in d target b z f in
+    inr (one.target_is ∙ sym other.target_is, omega (arith, one.site_is, other.site_is)))
     (range_with_len 0 (length d.network.registry.sites)) (range_rises (length d.network.registry.sites))
 
 of_target : (d : DeskSeen) (target : ℕ) → All (λ y. y.target.0 ≡ target) (skies_at d target)
@@ -131,7 +138,8 @@ spans_counted d within =
     = AllPairs-map (λ a b. is_sky a b ≡ false) key_of (skies_of d) (λ i j e l m.
     elim (skies_stand d i j e l m) [ inl lt ↦ grind (arith, nat_tests) | inr both ↦ grind (arith, nat_tests, both.0, both.1) ])
     in
-    let counted : sum_by (λ key. length (sky_of skies key)) (map key_of (skies_of d)) ≤ pieces_of skies = skies_are_counted skies (map key_of (skies_of d)) apart in
+    let counted : sum_by (λ key. length (sky_of skies key)) (map key_of (skies_of d)) ≤ pieces_of skies =
+    skies_are_counted skies (map key_of (skies_of d)) apart in
     let less : sum_by (λ y. length y.spans) (skies_of d) ≤ sum_by (λ y. length (sky_of skies (key_of y))) (skies_of d)
     = less_each (λ y. length y.spans) (λ y. length (sky_of skies (key_of y))) (skies_of d) (λ k e lt.
     omega (arith, ap length (all_skies d k e lt).spans_are, cut_short d (sky_of skies (key_of (get_or (skies_of d) k e)))))
@@ -141,7 +149,8 @@ spans_counted d within =
 pub skies_known : (d : DeskSeen) → IsDesk d → All (λ y. (y.target.0 < target_count d) × (y.site.0 < length d.network.registry.sites)) (skies_of d)
 skies_known d h =
     all_flat (λ y. (y.target.0 < target_count d) × (y.site.0 < length d.network.registry.sites)) (skies_at d) (targets_listed d) (λ k e lt.
-    all_some (sky_part d (get_or (targets_listed d) k e)) (λ site. site < length d.network.registry.sites) (λ y. (y.target.0 < target_count d) × (y.site.0 < length d.network.registry.sites))
+    all_some (sky_part d (get_or (targets_listed d) k e)) (λ site. site < length d.network.registry.sites)
+    (λ y. (y.target.0 < target_count d) × (y.site.0 < length d.network.registry.sites))
     (λ site y below made.
     let is = sky_in d (get_or (targets_listed d) k e) site y made in
     (omega (arith, is.target_is, targets_known d h k e lt), omega (arith, is.site_is)))
@@ -168,7 +177,8 @@ numbered_one names name false = omega (arith, length-append names (name ∷ []))
 numbered_few : (names : List (List ℕ)) (name : List ℕ) → length (numbered names name) ≤ length names + 1
 numbered_few names name = numbered_one names name (is_named names name)
 
-proposals_among : (names : List (List ℕ)) (ps : List (Submitted × Group)) → length (fold (λ names p. numbered names p.0.document.proposal) names ps) ≤ length names + length ps
+proposals_among : (names : List (List ℕ)) (ps : List (Submitted × Group)) → length (fold (λ names p. numbered names p.0.document.proposal) names ps)
+    ≤ length names + length ps
 proposals_among names [] = omega arith
 proposals_among names (p ∷ ps) = omega (arith, proposals_among (numbered names p.0.document.proposal) ps, numbered_few names p.0.document.proposal)
 

@@ -83,7 +83,8 @@ cut_short d spans =
 
 -- what two lists take away leaves no more spans than all three have
 pub taken_short : (d : DeskSeen) (night closed observed : List Span) (test : ℕ → Bool)
-    → ((x : ℕ) → test x ≡ (has night x && (not (has closed x) && not (has observed x)))) → length (in_horizon d test) ≤ length night + length closed + length observed
+    → ((x : ℕ) → test x ≡ (has night x && (not (has closed x) && not (has observed x))))
+    → length (in_horizon d test) ≤ length night + length closed + length observed
 taken_short d night closed observed test is =
     let one = in_horizon d (has night) in
     let two = in_horizon d (λ x. has night x && not (has closed x)) in
@@ -91,7 +92,8 @@ taken_short d night closed observed test is =
     let left = seconds_in d (λ x. has night x && not (has closed x)) in
     let all = seconds_in d test in
     let less : IsDifference one closed two = record { seconds = λ x. grind (arith, cut.seconds x, left.seconds x); sorted = left.sorted } in
-    let least : IsDifference two observed (in_horizon d test) = record { seconds = λ x. grind (arith, left.seconds x, all.seconds x, is x); sorted = all.sorted } in
+    let least : IsDifference two observed (in_horizon d test) =
+    record { seconds = λ x. grind (arith, left.seconds x, all.seconds x, is x); sorted = all.sorted } in
     omega (arith, cut_short d night, difference_is_no_longer one closed two less, difference_is_no_longer two observed (in_horizon d test) least)
 
 -- ---- running observations

@@ -112,17 +112,28 @@ telescope_count d = length-map (enumerate_from 0 d.network.registry.telescopes) 
 
 pub fits_below : (d : DeskSeen) (w : Wanted) → All (λ t. t.0 < length (telescope_parts d)) (telescopes_for d w)
 fits_below d w = rw (telescope_count d) (
-    All-map (λ t. t.0 < length d.network.registry.telescopes) (λ p. record { 0 = p.0 }) (filter (λ p. is_fit w.location w.instrument p.1) (enumerate_from 0 d.network.registry.telescopes))
-    (All-filter (λ p. is_fit w.location w.instrument p.1) (λ p. p.0 < length d.network.registry.telescopes) (enumerate_from 0 d.network.registry.telescopes) (places_below d.network.registry.telescopes)))
+    All-map (λ t. t.0 < length d.network.registry.telescopes) (λ p. record { 0 = p.0 })
+    (filter (λ p. is_fit w.location w.instrument p.1) (enumerate_from 0 d.network.registry.telescopes))
+    (All-filter (λ p. is_fit w.location w.instrument p.1) (λ p. p.0 < length d.network.registry.telescopes)
+    (enumerate_from 0 d.network.registry.telescopes) (places_below d.network.registry.telescopes)))
 
 pub fits_rise : (d : DeskSeen) (w : Wanted) → AllPairs (λ t u. t.0 < u.0) (telescopes_for d w)
 fits_rise d w =
-    AllPairs-map (λ t u. t.0 < u.0) (λ p. record { 0 = p.0 }) (filter (λ p. is_fit w.location w.instrument p.1) (enumerate_from 0 d.network.registry.telescopes))
-    (AllPairs-filter (λ p q. p.0 < q.0) (λ p. is_fit w.location w.instrument p.1) (enumerate_from 0 d.network.registry.telescopes) (places_rise d.network.registry.telescopes))
+    AllPairs-map (λ t u. t.0 < u.0) (λ p. record { 0 = p.0 })
+    (filter (λ p. is_fit w.location w.instrument p.1) (enumerate_from 0 d.network.registry.telescopes))
+    (AllPairs-filter (λ p q. p.0 < q.0) (λ p. is_fit w.location w.instrument p.1) (enumerate_from 0 d.network.registry.telescopes)
+    (places_rise d.network.registry.telescopes))
 
 pub fits_few : (d : DeskSeen) (w : Wanted) → HasFew d.network → length (telescopes_for d w) ≤ 32
 fits_few d w few =
     let all : List (ℕ × TelescopeSeen) = enumerate_from 0 d.network.registry.telescopes in
     let fit : ℕ × TelescopeSeen → Bool = λ p. is_fit w.location w.instrument p.1 in
     let number : ℕ × TelescopeSeen → TelescopeNo = λ p. record { 0 = p.0 } in
-    omega (arith, length-map (filter fit all) number, length-filter fit all, count_by-le-length fit all, length-enumerate_from 0 d.network.registry.telescopes, few.telescopes)
+    omega (
+      arith,
+      length-map (filter fit all) number,
+      length-filter fit all,
+      count_by-le-length fit all,
+      length-enumerate_from 0 d.network.registry.telescopes,
+      few.telescopes,
+    )

@@ -1,5 +1,6 @@
 -- What has to be so before a new group is booked, and what is decided where the ledger refuses it.
-use Rattle.std.proofs.Common.{◌≡◌, ◌≢◌, ◌∙◌, ap, sym, subst, refl, ℕ, zero, suc, ◌+◌, ◌-◌, ◌*◌, ◌/◌, ◌%◌, ◌<◌, ◌≤◌, ◌^◌, min, nat_lt, Bool, true, false, cond, List, [], ◌∷◌, length, map, All, get_or, Some, None, Ok, Err, arith}
+use Rattle.std.proofs.Common.{◌≡◌, ◌≢◌, ◌∙◌, ap, sym, subst, refl, ℕ, zero, suc, ◌+◌, ◌-◌, ◌*◌, ◌/◌, ◌%◌, ◌<◌, ◌≤◌, ◌^◌, min, nat_lt, Bool, true}
+use Rattle.std.proofs.Common.{false, cond, List, [], ◌∷◌, length, map, All, get_or, Some, None, Ok, Err, arith}
 use Rattle.std.specs.List.{AllZip, zip}
 use Rattle.std.specs.Option.{option_or}
 use Rattle.std.specs.Prelude.{option_and_then}
@@ -57,7 +58,8 @@ few_in targets (w ∷ ws) (g ∷ gs) h =
 -- ---- what is held and charged
 
 -- new requests need something
-pub some_needs : (document : GroupDoc) (n : ℕ) (f : MadeSeen → Wanted) (made : List MadeSeen) → 1 ≤ length made → 1 ≤ length (needs_of document (zip (requests_from n (asks_of made)) (map f made)))
+pub some_needs : (document : GroupDoc) (n : ℕ) (f : MadeSeen → Wanted) (made : List MadeSeen) → 1 ≤ length made
+    → 1 ≤ length (needs_of document (zip (requests_from n (asks_of made)) (map f made)))
 some_needs document n f [] some = absurd (omega arith)
 some_needs document n f (m ∷ ms) some = omega arith
 
@@ -79,16 +81,19 @@ charge_at_most ipp holds h = by (nat_lt 1000 ipp)
         omega (arith, most, above)
 
 -- so both are small
-pub small_holds : (d : DeskSeen) (document : GroupDoc) (made : List MadeSeen) → AreMade d.progress.moment document made → seconds_of_holds (holds_for d document made) ≤ 22118400
+pub small_holds : (d : DeskSeen) (document : GroupDoc) (made : List MadeSeen) → AreMade d.progress.moment document made
+    → seconds_of_holds (holds_for d document made) ≤ 22118400
 small_holds d document made h =
     let group : Group = group_of d document made in
     let few = few_of (op_of document made) (length made) h.shape.high in
     let count : length group.requests ≡ length made = added_count (op_of document made) made d.progress in
-    let small = small_needs document group.requests (wanted_for d document made) (omega (arith, few, count)) (added_short (op_of document made) d.progress.moment made d.progress h.each) in
+    let small = small_needs document group.requests (wanted_for d document made) (omega (arith, few, count))
+    (added_short (op_of document made) d.progress.moment made d.progress h.each) in
     let most = holds_at_most (op_of document made) (needs_of document (zip group.requests (wanted_for d document made))) in
     omega (arith, small, most)
 
-pub books_room : (d : DeskSeen) (document : GroupDoc) (made : List MadeSeen) → IsGroup document → AreMade d.progress.moment document made → IsRoomy d.books → total_seconds d.books + seconds_of_holds (holds_for d document made) + charge_for d document made ≤ 10 ^ 18
+pub books_room : (d : DeskSeen) (document : GroupDoc) (made : List MadeSeen) → IsGroup document → AreMade d.progress.moment document made
+    → IsRoomy d.books → total_seconds d.books + seconds_of_holds (holds_for d document made) + charge_for d document made ≤ 10 ^ 18
 books_room d document made g h room =
     let small = small_holds d document made h in
     let charge = charge_at_most document.ipp (holds_for d document made) g.share.high in
@@ -99,25 +104,29 @@ is_booked d document made h =
     is_hold_list (op_of document made) document (zip (group_of d document made).requests (wanted_for d document made))
     (some_needs document (length (requests_of d.progress.groups) + 1) (wanted_of (targets_with d document) document) made h.shape.low)
 
-pub booked_proposal : (d : DeskSeen) (document : GroupDoc) (made : List MadeSeen) → AreMade d.progress.moment document made → proposal_of (holds_for d document made) ≡ document.proposal
+pub booked_proposal : (d : DeskSeen) (document : GroupDoc) (made : List MadeSeen) → AreMade d.progress.moment document made
+    → proposal_of (holds_for d document made) ≡ document.proposal
 booked_proposal d document made h =
     proposal_held (op_of document made) document (zip (group_of d document made).requests (wanted_for d document made))
     (some_needs document (length (requests_of d.progress.groups) + 1) (wanted_of (targets_with d document) document) made h.shape.low)
 
 -- ---- the next group holds nothing yet
 
-all_low : (n : ℕ) (ws : List Submitted) (gs : List Group) (es : List GroupHolds) → AllZip IsHeldFor (zip ws gs) es → All (λ g. g.number.0 ≤ n) gs → All (λ e. e.group.0 ≤ n) es
+all_low : (n : ℕ) (ws : List Submitted) (gs : List Group) (es : List GroupHolds) → AllZip IsHeldFor (zip ws gs) es → All (λ g. g.number.0 ≤ n) gs
+    → All (λ e. e.group.0 ≤ n) es
 all_low n [] gs [] h low = All-nil (λ e. e.group.0 ≤ n)
 all_low n [] gs (e ∷ es) h low = absurd h
 all_low n (w ∷ ws) [] [] h low = All-nil (λ e. e.group.0 ≤ n)
 all_low n (w ∷ ws) [] (e ∷ es) h low = absurd h
 all_low n (w ∷ ws) (g ∷ gs) [] h low = absurd h
 all_low n (w ∷ ws) (g ∷ gs) (e ∷ es) h low =
-    All-cons (λ e. e.group.0 ≤ n) e es (subst (λ (k : GroupNo). k.0 ≤ n) (sym h.0.group) (All-head (λ g. g.number.0 ≤ n) g gs low)) (all_low n ws gs es h.1 (All-tail (λ g. g.number.0 ≤ n) g gs low))
+    All-cons (λ e. e.group.0 ≤ n) e es (subst (λ (k : GroupNo). k.0 ≤ n) (sym h.0.group) (All-head (λ g. g.number.0 ≤ n) g gs low))
+    (all_low n ws gs es h.1 (All-tail (λ g. g.number.0 ≤ n) g gs low))
 
 pub groups_low : (d : DeskSeen) → IsDesk d → All (λ e. e.group.0 ≤ length d.progress.groups) d.books.holds
 groups_low d h =
-    let low : All (λ g. g.number.0 ≤ length d.progress.groups) d.progress.groups = λ k g m. let at = number_at d.progress.groups k g h.sound.numbered.groups m in omega (arith, at) in
+    let low : All (λ g. g.number.0 ≤ length d.progress.groups) d.progress.groups = λ k g m. let at =
+    number_at d.progress.groups k g h.sound.numbered.groups m in omega (arith, at) in
     all_low (length d.progress.groups) d.groups d.progress.groups d.books.holds h.held low
 
 pub is_free : (d : DeskSeen) (n : GroupNo) → IsDesk d → n.0 ≡ length d.progress.groups + 1 → IsFree n d.books.holds
@@ -129,12 +138,14 @@ is_free d n h e = λ i x l same.
 -- ---- refused by the ledger
 
 -- what is refused, where neither requests nor targets are too many
-pub only_ledger : (d : DeskSeen) (document : GroupDoc) (made : List MadeSeen) → nat_lt 1024 (pending_count d.progress.groups + length made) ≡ false → length (targets_with d document) ≤ 2048
+pub only_ledger : (d : DeskSeen) (document : GroupDoc) (made : List MadeSeen) → nat_lt 1024 (pending_count d.progress.groups + length made) ≡ false
+    → length (targets_with d document) ≤ 2048
     → submission_refusal d document made ≡ option_and_then refusal_of_ledger (refusal_of d.books (holds_for d document made) (charge_for d document made))
 only_ledger d document made requests targets =
     let last = option_and_then refusal_of_ledger (refusal_of d.books (holds_for d document made) (charge_for d document made)) in
     let few : nat_lt 2048 (length (targets_with d document)) ≡ false = not_over (length (targets_with d document)) targets in
-    ap (λ (b : Bool). option_or (cond b (Some (Full 1024 Requests)) None) (option_or (cond (nat_lt 2048 (length (targets_with d document))) (Some (Full 2048 Targets)) None) last)) requests
+    ap (λ (b : Bool). option_or (cond b (Some (Full 1024 Requests)) None)
+    (option_or (cond (nat_lt 2048 (length (targets_with d document))) (Some (Full 2048 Targets)) None) last)) requests
     ∙ ap (λ (b : Bool). option_or (cond b (Some (Full 2048 Targets)) None) last) few
   where
     not_over : (n : ℕ) → n ≤ 2048 → nat_lt 2048 n ≡ false
@@ -144,11 +155,20 @@ only_ledger d document made requests targets =
         by true e = let over = ltb-true 2048 n e in absurd (omega arith)
         by false e = refl
 
-pub ledger_refuses : (d after : DeskSeen) (document : GroupDoc) (made : List MadeSeen) (fault : LedgerFault) → nat_lt 1024 (pending_count d.progress.groups + length made) ≡ false → length (targets_with d document) ≤ 2048
-    → (fault ≢ ledger.NoMemory → refusal_of d.books (holds_for d document made) (charge_for d document made) ≡ Some fault) → after ≡ d → Decides (on_made d document (Ok made)) d after (Err (of_accounts fault))
-ledger_refuses d after document made fault requests targets refused same = record { ok = tt; refused = λ memory. by (of_accounts fault) refl memory; unchanged = same }
+pub ledger_refuses : (d after : DeskSeen) (document : GroupDoc) (made : List MadeSeen) (fault : LedgerFault)
+    → nat_lt 1024 (pending_count d.progress.groups + length made) ≡ false → length (targets_with d document) ≤ 2048
+    → (fault ≢ ledger.NoMemory → refusal_of d.books (holds_for d document made) (charge_for d document made) ≡ Some fault) → after ≡ d
+    → Decides (on_made d document (Ok made)) d after (Err (of_accounts fault))
+ledger_refuses d after document made fault requests targets refused same =
+    record { ok = tt; refused = λ memory. by (of_accounts fault) refl memory; unchanged = same }
   where
-    by : (command : CommandFault) → of_accounts fault ≡ command → command ≢ NoMemory → (r : Refusal) × (submission_refusal d document made ≡ Some r) × (refusal_in command ≡ Some r)
+    by : (command : CommandFault) → of_accounts fault ≡ command → command ≢ NoMemory → (r : Refusal) × (submission_refusal d document made ≡ Some r)
+        × (refusal_in command ≡ Some r)
     by NoMemory e memory = absurd (memory refl)
-    by (Refused r) e memory =
-        (r, only_ledger d document made requests targets ∙ ap (option_and_then refusal_of_ledger) (refused (λ none. let bad : Refused r ≡ NoMemory = sym e ∙ ap of_accounts none in cc)) ∙ ap refusal_in e, refl)
+    by (Refused r) e memory = (
+      r,
+      only_ledger d document made requests targets
+          ∙ ap (option_and_then refusal_of_ledger) (refused (λ none. let bad : Refused r ≡ NoMemory = sym e ∙ ap of_accounts none in cc))
+          ∙ ap refusal_in e,
+      refl,
+    )

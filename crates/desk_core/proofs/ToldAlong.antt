@@ -1,5 +1,6 @@
 -- What is told of groups that have gone on, and what the books hold then.
-use Rattle.std.proofs.Common.{◌≡◌, ℕ, suc, ◌+◌, ◌≤◌, Bool, true, false, cond, not, ◌&&◌, List, [], ◌∷◌, ◌++◌, length, map, filter, fold, sum_by, All, get_or, refl, sym, ◌∙◌, ap, subst, arith, inl, inr, ◌⊎◌, Option, Some, None}
+use Rattle.std.proofs.Common.{◌≡◌, ℕ, suc, ◌+◌, ◌≤◌, Bool, true, false, cond, not, ◌&&◌, List, [], ◌∷◌, ◌++◌, length, map, filter, fold, sum_by, All}
+use Rattle.std.proofs.Common.{get_or, refl, sym, ◌∙◌, ap, subst, arith, inl, inr, ◌⊎◌, Option, Some, None}
 use Rattle.std.specs.List.{AllZip, Any, filter_map, cons_option}
 use Rattle.std.specs.Option.{option_map}
 use Rattle.std.proofs.lemmas.Bool.{cases_Bool, and_parts, and_cases, false_from_ne_true}
@@ -30,7 +31,8 @@ use Rattle.desk_core.proofs.Along.{AreAlong, along_tail, there_at, moved_at, gro
 
 -- ---- refunds
 
-back_told : (n : GroupNo) (b : Bool) (o : Option Hold) → option_map (λ h. let r : GroupRefund = record { group = n; seconds = h.seconds } in r) (cond b o None) ≡ cond b (option_map (λ h. let r : GroupRefund = record { group = n; seconds = h.seconds } in r) o) None
+back_told : (n : GroupNo) (b : Bool) (o : Option Hold) → option_map (λ h. let r : GroupRefund = record { group = n; seconds = h.seconds } in
+    r) (cond b o None) ≡ cond b (option_map (λ h. let r : GroupRefund = record { group = n; seconds = h.seconds } in r) o) None
 back_told n true o = refl
 back_told n false o = refl
 
@@ -41,7 +43,8 @@ not_back p t neither other = elim (and_cases t (is_open p.1.0) neither) [
 ]
 
 -- the refunds that are told are those of the endings
-pub refunds_all : (t : Submitted × (Group × Group) → Bool) (b : ℕ) (xs : List Entry) (front : List GroupHolds) (ps : List (Submitted × (Group × Group))) (es : List GroupHolds) → All (λ x. x.group.0 ≤ b) front → AreAlong b ps es
+pub refunds_all : (t : Submitted × (Group × Group) → Bool) (b : ℕ) (xs : List Entry) (front : List GroupHolds)
+    (ps : List (Submitted × (Group × Group))) (es : List GroupHolds) → All (λ x. x.group.0 ≤ b) front → AreAlong b ps es
     → All (λ p. t p ≡ false → p.1.1 ≡ p.1.0) ps → refunds_in (endings_of (filter t ps)) ≡ filter_map (refund_of (books_at xs front es)) (map (λ p. p.1) ps)
 refunds_all t b xs front [] es low h others = refl
 refunds_all t b xs front (p ∷ ps) [] low h others = absurd h.held
@@ -50,7 +53,8 @@ refunds_all t b xs front (p ∷ ps) (e ∷ es) low h others =
     let held : IsHeldFor (p.0, p.1.0) e = h.held.0 in
     let books : Books = books_at xs front (e ∷ es) in
     let low_too : All (λ y. y.group.0 ≤ b + 1) (front ++ e ∷ []) = low_at b front p ps e es e low h refl in
-    let whole : books_at xs (front ++ e ∷ []) es ≡ books = ap (λ (l : List GroupHolds). let c : Books = record { entries = xs; holds = l } in c) (append_assoc front (e ∷ []) es) in
+    let whole : books_at xs (front ++ e ∷ []) es ≡ books = ap (λ (l : List GroupHolds). let c : Books = record { entries = xs; holds = l } in
+    c) (append_assoc front (e ∷ []) es) in
     let rest : refunds_in (endings_of (filter t ps)) ≡ filter_map (refund_of books) (map (λ q. q.1) ps) =
     refunds_all t (b + 1) xs (front ++ e ∷ []) ps es low_too (along_tail b p ps e es h) (All-tail (λ q. t q ≡ false → q.1.1 ≡ q.1.0) p ps others)
     ∙ ap (λ (c : Books). filter_map (refund_of c) (map (λ q. q.1) ps)) whole in
@@ -60,22 +64,28 @@ refunds_all t b xs front (p ∷ ps) (e ∷ es) low h others =
           let parts = and_parts (t p) (is_open p.1.0) both in
           let same : refund_in (ending_of p) ≡ refund_of books p.1 =
           back_told p.1.1.number (is_refunded p.1.0 p.1.1) (standing p.0.document.proposal p.0.charged)
-          ∙ ap (λ (o : Option Hold). cond (is_refunded p.1.0 p.1.1) (told o) None) (sym (ipp_at p.1.1.number front e es there.before there.here ∙ held.charge parts.1)) in
+          ∙ ap (λ (o : Option Hold). cond (is_refunded p.1.0 p.1.1) (told o) None)
+          (sym (ipp_at p.1.1.number front e es there.before there.here ∙ held.charge parts.1)) in
           ap refunds_in (ending_more t p ps parts.0 parts.1)
           ∙ ap (λ (o : Option GroupRefund). cons_option o (refunds_in (endings_of (filter t ps)))) same
           ∙ ap (cons_option (refund_of books p.1)) rest
       | inr neither ↦
-          let none : refund_of books p.1 ≡ None = ap (λ (b : Bool). cond b (told (ipp_of p.1.1.number books.holds)) None) (not_back p (t p) neither (All-head (λ q. t q ≡ false → q.1.1 ≡ q.1.0) p ps others)) in
-          ap refunds_in (ending_none t p ps neither) ∙ rest ∙ ap (λ (o : Option GroupRefund). cons_option o (filter_map (refund_of books) (map (λ q. q.1) ps))) (sym none)
+          let none : refund_of books p.1 ≡ None =
+          ap (λ (b : Bool). cond b (told (ipp_of p.1.1.number books.holds)) None)
+          (not_back p (t p) neither (All-head (λ q. t q ≡ false → q.1.1 ≡ q.1.0) p ps others)) in
+          ap refunds_in (ending_none t p ps neither) ∙ rest
+          ∙ ap (λ (o : Option GroupRefund). cons_option o (filter_map (refund_of books) (map (λ q. q.1) ps))) (sym none)
     ]
 
 -- ---- how many end
 
 -- no more than there are pending requests
-pub few_endings : (t : Submitted × (Group × Group) → Bool) (ps : List (Submitted × (Group × Group))) → length (endings_of (filter t ps)) ≤ sum_by (λ p. pending_of p.1.0) ps
+pub few_endings : (t : Submitted × (Group × Group) → Bool) (ps : List (Submitted × (Group × Group)))
+    → length (endings_of (filter t ps)) ≤ sum_by (λ p. pending_of p.1.0) ps
 few_endings t [] = omega arith
 few_endings t (p ∷ ps) =
-    let sum : sum_by (λ q. pending_of q.1.0) (p ∷ ps) ≡ pending_of p.1.0 + sum_by (λ q. pending_of q.1.0) ps = sum_by-cons (λ (q : Submitted × (Group × Group)). pending_of q.1.0) p ps in
+    let sum : sum_by (λ q. pending_of q.1.0) (p ∷ ps) ≡ pending_of p.1.0 + sum_by (λ q. pending_of q.1.0) ps =
+    sum_by-cons (λ (q : Submitted × (Group × Group)). pending_of q.1.0) p ps in
     let rest : length (endings_of (filter t ps)) ≤ sum_by (λ q. pending_of q.1.0) ps = few_endings t ps in
     elim (cases_Bool (t p && is_open p.1.0)) [
       | inl both ↦
@@ -83,7 +93,8 @@ few_endings t (p ∷ ps) =
           let more : length (endings_of (filter t (p ∷ ps))) ≡ suc (length (endings_of (filter t ps))) = ap length (ending_more t p ps parts.0 parts.1) in
           let one : 1 ≤ pending_of p.1.0 = some_count (λ q. is_pending q.state) p.1.0.requests parts.1 in
           omega (arith, sum, rest, more, one)
-      | inr neither ↦ let none : length (endings_of (filter t (p ∷ ps))) ≡ length (endings_of (filter t ps)) = ap length (ending_none t p ps neither) in omega (arith, sum, rest, none)
+      | inr neither ↦ let none : length (endings_of (filter t (p ∷ ps))) ≡ length (endings_of (filter t ps)) =
+          ap length (ending_none t p ps neither) in omega (arith, sum, rest, none)
     ]
 
 -- no more refunds than endings
@@ -102,14 +113,18 @@ held_then : (p : Submitted × (Group × Group)) (e : GroupHolds) → IsLater p.1
 held_then p e later held = record {
   group = group_after p e ∙ held.group ∙ sym later.number;
   holds = elim (cases_Bool (is_open p.1.0)) [
-    | inl opened ↦ ap (λ (b : Bool). (cond b (cond (is_refunded p.1.0 p.1.1) (without_ipp (with_holds (held_by p.0 p.1.1) e)) (with_holds (held_by p.0 p.1.1) e)) e).holds) opened ∙ either (is_refunded p.1.0 p.1.1)
+    | inl opened ↦ ap (λ (b : Bool).
+        (cond b (cond (is_refunded p.1.0 p.1.1) (without_ipp (with_holds (held_by p.0 p.1.1) e)) (with_holds (held_by p.0 p.1.1) e)) e).holds) opened
+        ∙ either (is_refunded p.1.0 p.1.1)
     | inr closed ↦
-        ap (λ (b : Bool). (cond b (cond (is_refunded p.1.0 p.1.1) (without_ipp (with_holds (held_by p.0 p.1.1) e)) (with_holds (held_by p.0 p.1.1) e)) e).holds) closed
+        ap (λ (b : Bool). (cond b (cond (is_refunded p.1.0 p.1.1) (without_ipp (with_holds (held_by p.0 p.1.1) e)) (with_holds (held_by p.0 p.1.1) e))
+        e).holds) closed
         ∙ held.holds ∙ closed_holds p.0 p.1.0 closed ∙ sym (closed_holds p.0 p.1.1 (still_closed p.1.0 p.1.1 later closed))
   ];
   charge = λ opened.
       let before : is_open p.1.0 ≡ true = open_back p.1.0 p.1.1 later opened in
-      let kept : is_refunded p.1.0 p.1.1 ≡ false = ap (λ (b : Bool). is_open p.1.0 && not b && not (any_in is_completed p.1.1)) opened ∙ off (is_open p.1.0) (not (any_in is_completed p.1.1)) in
+      let kept : is_refunded p.1.0 p.1.1 ≡ false = ap (λ (b : Bool). is_open p.1.0 && not b && not (any_in is_completed p.1.1)) opened
+      ∙ off (is_open p.1.0) (not (any_in is_completed p.1.1)) in
       ap (λ (b : Bool). (cond (is_open p.1.0) (cond b (without_ipp (with_holds (held_by p.0 p.1.1) e)) (with_holds (held_by p.0 p.1.1) e)) e).ipp) kept
       ∙ ap (λ (b : Bool). (cond b (with_holds (held_by p.0 p.1.1) e) e).ipp) before ∙ held.charge before;
 }
@@ -141,7 +156,8 @@ keyed_less p e x later held is =
     (λ k d l.
     let h : Hold = get_or (held_by p.0 p.1.1) k d in
     subst (Any (λ o. o.key ≡ h.key)) (sym held.holds)
-    (any_more (λ o. (o.key ≡ h.key) × (h.seconds ≤ o.seconds)) (λ o. o.key ≡ h.key) (held_by p.0 p.1.0) (λ o both. both.0) ((group_less p.0 p.1.0 p.1.1 later).within k d l)))
+    (any_more (λ o. (o.key ≡ h.key) × (h.seconds ≤ o.seconds)) (λ o. o.key ≡ h.key) (held_by p.0 p.1.0) (λ o both. both.0)
+    ((group_less p.0 p.1.0 p.1.1 later).within k d l)))
 
 keyed_then : (p : Submitted × (Group × Group)) (e : GroupHolds) → IsLater p.1.0 p.1.1 → IsHeldFor (p.0, p.1.0) e → IsKeyed e (entry_after p e)
 keyed_then p e later held = by (is_open p.1.0) (is_refunded p.1.0 p.1.1)
@@ -154,7 +170,8 @@ keyed_then p e later held = by (is_open p.1.0) (is_refunded p.1.0 p.1.1)
 charge_then : (p : Submitted × (Group × Group)) (e : GroupHolds) → ((entry_after p e).ipp ≡ e.ipp) ⊎ ((entry_after p e).ipp ≡ None)
 charge_then p e = by (is_open p.1.0) (is_refunded p.1.0 p.1.1)
   where
-    by : (a b : Bool) → ((cond a (cond b (without_ipp (with_holds (held_by p.0 p.1.1) e)) (with_holds (held_by p.0 p.1.1) e)) e).ipp ≡ e.ipp) ⊎ ((cond a (cond b (without_ipp (with_holds (held_by p.0 p.1.1) e)) (with_holds (held_by p.0 p.1.1) e)) e).ipp ≡ None)
+    by : (a b : Bool) → ((cond a (cond b (without_ipp (with_holds (held_by p.0 p.1.1) e)) (with_holds (held_by p.0 p.1.1) e)) e).ipp ≡ e.ipp)
+        ⊎ ((cond a (cond b (without_ipp (with_holds (held_by p.0 p.1.1) e)) (with_holds (held_by p.0 p.1.1) e)) e).ipp ≡ None)
     by true true = inr refl
     by true false = inl refl
     by false b = inl refl
@@ -169,7 +186,8 @@ pub record AreAfter (books after : Books) (ps : List (Submitted × (Group × Gro
   pub keyed : AllZip IsKeyed es others
   pub charged : AllZip (λ e x. (x.ipp ≡ e.ipp) ⊎ (x.ipp ≡ None)) es others
 
-pub after_all : (b : ℕ) (xs : List Entry) (front : List GroupHolds) (ps : List (Submitted × (Group × Group))) (es : List GroupHolds) → All (λ x. x.group.0 ≤ b) front
+pub after_all : (b : ℕ) (xs : List Entry) (front : List GroupHolds) (ps : List (Submitted × (Group × Group))) (es : List GroupHolds)
+    → All (λ x. x.group.0 ≤ b) front
     → AreAlong b ps es
     → AreAfter (books_at xs front es) (fold after_group (books_at xs front es) ps) ps front es
 after_all b xs front [] [] low h = record { more = []; others = []; entries = sym (append-nil xs); holds = refl; held = tt; keyed = tt; charged = tt }
@@ -182,7 +200,8 @@ after_all b xs front (p ∷ ps) (e ∷ es) low h =
     let ys : List Entry = xs ++ more_after p e in
     let between : Books = books_at ys (front ++ x ∷ []) es in
     let moved : after_group (books_at xs front (e ∷ es)) p ≡ between = moved_at b xs front p ps e es low h in
-    let rest : AreAfter between (fold after_group between ps) ps (front ++ x ∷ []) es = after_all (b + 1) ys (front ++ x ∷ []) ps es (low_at b front p ps e es x low h (group_after p e)) (along_tail b p ps e es h) in
+    let rest : AreAfter between (fold after_group between ps) ps (front ++ x ∷ []) es =
+    after_all (b + 1) ys (front ++ x ∷ []) ps es (low_at b front p ps e es x low h (group_after p e)) (along_tail b p ps e es h) in
     let on : fold after_group (books_at xs front (e ∷ es)) (p ∷ ps) ≡ fold after_group between ps = ap (λ (z : Books). fold after_group z ps) moved in
     record {
       more = more_after p e ++ rest.more;

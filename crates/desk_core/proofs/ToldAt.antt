@@ -1,5 +1,6 @@
 -- The groups that a change tells, found by their numbers.
-use Rattle.std.proofs.Common.{◌≡◌, ℕ, suc, ◌+◌, ◌-◌, ◌<◌, ◌≤◌, Bool, true, false, cond, List, [], ◌∷◌, ◌++◌, length, map, filter, All, get_or, drop, refl, sym, ◌∙◌, ap, subst, arith, inl, inr, ◌⊎◌, Some, None}
+use Rattle.std.proofs.Common.{◌≡◌, ℕ, suc, ◌+◌, ◌-◌, ◌<◌, ◌≤◌, Bool, true, false, cond, List, [], ◌∷◌, ◌++◌, length, map, filter, All, get_or, drop}
+use Rattle.std.proofs.Common.{refl, sym, ◌∙◌, ap, subst, arith, inl, inr, ◌⊎◌, Some, None}
 use Rattle.std.specs.List.{AllZip, zip, slice_get}
 use Rattle.std.proofs.Math.Seq.{drop-cons}
 use Rattle.std.proofs.lemmas.List.{length-map, get_or-map}
@@ -50,14 +51,16 @@ told_one d b w g h number at before along later =
 -- of each of these groups, which stand from place b on
 told_all : (d : DeskSeen) (b : ℕ) (ws : List Submitted) (gs hs : List Group) → ((i : ℕ) → slice_get d.groups (b + i) ≡ slice_get ws i)
     → ((i : ℕ) → slice_get d.progress.groups (b + i) ≡ slice_get gs i)
-    → IsCountedFrom b (map (λ g. g.number.0) gs) → AllZip (IsAlong (length d.network.registry.targets)) ws gs → AllZip IsLater gs hs → All (λ p. IsToldAt d p p.1.1) (zip ws (zip gs hs))
+    → IsCountedFrom b (map (λ g. g.number.0) gs) → AllZip (IsAlong (length d.network.registry.targets)) ws gs → AllZip IsLater gs hs
+    → All (λ p. IsToldAt d p p.1.1) (zip ws (zip gs hs))
 told_all d b [] gs hs s p c a z = All-nil (λ p. IsToldAt d p p.1.1)
 told_all d b (w ∷ ws) [] hs s p c a z = absurd a
 told_all d b (w ∷ ws) (g ∷ gs) [] s p c a z = absurd z
 told_all d b (w ∷ ws) (g ∷ gs) (h ∷ hs) s p c a z =
     let here : b ≡ b + 0 = omega arith in
     All-cons (λ p. IsToldAt d p p.1.1) (w, (g, h)) (zip ws (zip gs hs))
-    (told_one d b w g h (counted_head b g.number.0 (map (λ x. x.number.0) gs) c) (ap (slice_get d.groups) here ∙ s 0) (ap (slice_get d.progress.groups) here ∙ p 0) a.0 z.0)
+    (told_one d b w g h (counted_head b g.number.0 (map (λ x. x.number.0) gs) c) (ap (slice_get d.groups) here ∙ s 0)
+    (ap (slice_get d.progress.groups) here ∙ p 0) a.0 z.0)
     (told_all d (b + 1) ws gs hs
     (λ i. let next : b + 1 + i ≡ b + suc i = omega arith in ap (slice_get d.groups) next ∙ s (suc i))
     (λ i. let next : b + 1 + i ≡ b + suc i = omega arith in ap (slice_get d.progress.groups) next ∙ p (suc i))
@@ -76,19 +79,23 @@ filter_lasts t [] = refl
 filter_lasts t (p ∷ ps) = by (t p.1.1) (filter_lasts t ps)
   where
     by : (b : Bool) → map (λ q. q.1.1) (filter (λ q. t q.1.1) ps) ≡ filter t (map (λ q. q.1.1) ps)
-        → map (λ q. q.1.1) (cond b (p ∷ filter (λ q. t q.1.1) ps) (filter (λ q. t q.1.1) ps)) ≡ cond b (p.1.1 ∷ filter t (map (λ q. q.1.1) ps)) (filter t (map (λ q. q.1.1) ps))
+        → map (λ q. q.1.1) (cond b (p ∷ filter (λ q. t q.1.1) ps) (filter (λ q. t q.1.1) ps)) ≡ cond b (p.1.1 ∷ filter t (map (λ q. q.1.1) ps))
+        (filter t (map (λ q. q.1.1) ps))
     by true e = ap (λ (l : List Group). p.1.1 ∷ l) e
     by false e = e
 
 -- those that are told, in the order in which they are told
 told_lasts : (d : DeskSeen) (c : Change) → IsDesk d → CanChange d.progress c → map (λ p. p.1.1) (told_along c.groups d (changed d.progress c)) ≡ c.groups
 told_lasts d c h can =
-    filter_lasts (is_told c.groups) (groups_along d (changed d.progress c)) ∙ ap (filter (is_told c.groups)) (lasts_all d.groups d.progress.groups (changed d.progress c).groups (as_submitted d h) can.later) ∙ sym can.told.listed
+    filter_lasts (is_told c.groups) (groups_along d (changed d.progress c))
+    ∙ ap (filter (is_told c.groups)) (lasts_all d.groups d.progress.groups (changed d.progress c).groups (as_submitted d h) can.later)
+    ∙ sym can.told.listed
 
 told_facts : (d : DeskSeen) (c : Change) → IsDesk d → CanChange d.progress c → All (λ p. IsToldAt d p p.1.1) (told_along c.groups d (changed d.progress c))
 told_facts d c h can =
     All-filter (λ p. is_told c.groups p.1.1) (λ p. IsToldAt d p p.1.1) (groups_along d (changed d.progress c))
-    (told_all d 0 d.groups d.progress.groups (changed d.progress c).groups (λ i. let same : 0 + i ≡ i = omega arith in ap (slice_get d.groups) same) (λ i. let same : 0 + i ≡ i = omega arith in ap (slice_get d.progress.groups) same)
+    (told_all d 0 d.groups d.progress.groups (changed d.progress c).groups (λ i. let same : 0 + i ≡ i = omega arith in ap (slice_get d.groups) same)
+    (λ i. let same : 0 + i ≡ i = omega arith in ap (slice_get d.progress.groups) same)
     (counted_from (map (λ g. g.number.0) d.progress.groups) h.sound.numbered.groups) h.along can.later)
 
 -- the one at a place
@@ -105,10 +112,12 @@ picked d c i after h can l e =
     by ps (omega (arith, long)) (told_facts d c h can) (told_lasts d c h can) (slice_get_cases ps i).1
   where
     by : (ps : List (Submitted × (Group × Group))) → i < length ps → All (λ p. IsToldAt d p p.1.1) ps → map (λ p. p.1.1) ps ≡ c.groups
-        → ((p : Submitted × (Group × Group)) × (i < length ps) × (slice_get ps i ≡ Some p) × (get_or ps i p ≡ p)) ⊎ ((length ps ≤ i) × (slice_get ps i ≡ None)) → Picked d ps i after
+        → ((p : Submitted × (Group × Group)) × (i < length ps) × (slice_get ps i ≡ Some p) × (get_or ps i p ≡ p))
+        ⊎ ((length ps ≤ i) × (slice_get ps i ≡ None)) → Picked d ps i after
     by ps within facts lasts (inl found) =
         let p : Submitted × (Group × Group) = found.0 in
-        let last : p.1.1 ≡ after = ap (λ (q : Submitted × (Group × Group)). q.1.1) (sym found.3) ∙ sym (get_or-map (λ q. q.1.1) ps i p after within) ∙ ap (λ (l : List Group). get_or l i after) lasts ∙ sym e in
+        let last : p.1.1 ≡ after = ap (λ (q : Submitted × (Group × Group)). q.1.1) (sym found.3) ∙ sym (get_or-map (λ q. q.1.1) ps i p after within)
+        ∙ ap (λ (l : List Group). get_or l i after) lasts ∙ sym e in
         let told : IsToldAt d p p.1.1 = subst (λ (q : Submitted × (Group × Group)). IsToldAt d q q.1.1) found.3 (facts i p within) in
         let next : i + 1 ≡ suc i = omega arith in
         record {
@@ -122,7 +131,8 @@ picked d c i after h can l e =
 pub endings_cons : (p : Submitted × (Group × Group)) (ps : List (Submitted × (Group × Group))) → endings_of (p ∷ ps) ≡ endings_of (p ∷ []) ++ endings_of ps
 endings_cons p ps = by (is_open p.1.0)
   where
-    by : (b : Bool) → map ending_of (cond b (p ∷ filter (λ q. is_open q.1.0) ps) (filter (λ q. is_open q.1.0) ps)) ≡ map ending_of (cond b (p ∷ []) []) ++ endings_of ps
+    by : (b : Bool) → map ending_of (cond b (p ∷ filter (λ q. is_open q.1.0) ps) (filter (λ q. is_open q.1.0) ps))
+        ≡ map ending_of (cond b (p ∷ []) []) ++ endings_of ps
     by true = refl
     by false = refl
 
@@ -132,18 +142,21 @@ endings_cons p ps = by (is_open p.1.0)
 pub before_is : (d : DeskSeen) (p : Submitted × (Group × Group)) (after : Group) → IsToldAt d p after → group_of d.progress.groups after.number ≡ p.1.0
 before_is d p after h = get_or_from_slice_get d.progress.groups (after.number.0 - 1) p.1.0 no_group h.before
 
-pub submitted_is : (d : DeskSeen) (p : Submitted × (Group × Group)) (after : Group) (w : Submitted) → IsToldAt d p after → slice_get d.groups (after.number.0 - 1) ≡ Some w → w ≡ p.0
+pub submitted_is : (d : DeskSeen) (p : Submitted × (Group × Group)) (after : Group) (w : Submitted) → IsToldAt d p after
+    → slice_get d.groups (after.number.0 - 1) ≡ Some w → w ≡ p.0
 submitted_is d p after w h e = same_Some w p.0 (sym e ∙ h.submitted)
 
 pub within_groups : (d : DeskSeen) (p : Submitted × (Group × Group)) (after : Group) → IsToldAt d p after → after.number.0 ≤ length d.progress.groups
-within_groups d p after h = let l : after.number.0 - 1 < length d.progress.groups = slice_get_within d.progress.groups (after.number.0 - 1) p.1.0 h.before in omega (arith, l)
+within_groups d p after h = let l : after.number.0 - 1 < length d.progress.groups =
+    slice_get_within d.progress.groups (after.number.0 - 1) p.1.0 h.before in omega (arith, l)
 
 pub none_ends : (d : DeskSeen) (p : Submitted × (Group × Group)) (before after : Group) → IsToldAt d p after → before ≡ group_of d.progress.groups after.number
     → is_open before ≡ false → endings_of (p ∷ []) ≡ []
 none_ends d p before after h e closed =
     ap (λ (b : Bool). map ending_of (cond b (p ∷ []) [])) (ap is_open (sym (e ∙ before_is d p after h)) ∙ closed)
 
-pub one_ends : (d : DeskSeen) (p : Submitted × (Group × Group)) (w : Submitted) (before after : Group) → IsToldAt d p after → slice_get d.groups (after.number.0 - 1) ≡ Some w
+pub one_ends : (d : DeskSeen) (p : Submitted × (Group × Group)) (w : Submitted) (before after : Group) → IsToldAt d p after
+    → slice_get d.groups (after.number.0 - 1) ≡ Some w
     → before ≡ group_of d.progress.groups after.number → is_open before ≡ true
     → endings_of (p ∷ []) ≡ ending_of (w, (before, after)) ∷ []
 one_ends d p w before after h s e opened =

@@ -28,14 +28,17 @@ pub opens : (s after : StateSeen) (now : Sec) (slice horizon : ℕ) (semester : 
 opens s after now slice horizon semester lanes rounds workers quota none is = (
   any,
   tt,
-  ap (λ o. step_by any s o (command.Open now slice horizon semester lanes rounds workers quota)) none ∙ ap (λ (t : StateSeen). Some record { reply = Opened; state = t }) (sym is),
+  ap (λ o. step_by any s o (command.Open now slice horizon semester lanes rounds workers quota)) none
+      ∙ ap (λ (t : StateSeen). Some record { reply = Opened; state = t }) (sym is),
 )
 
 -- any other command is refused
 pub not_opened : (s : StateSeen) (c : Command) → s.desk ≡ None
-    → ((now : Sec) (slice horizon : ℕ) (semester : Span) (lanes rounds workers : ℕ) (quota : Option ℕ) → c ≡ command.Open now slice horizon semester lanes rounds workers quota → ⊥)
+    → ((now : Sec) (slice horizon : ℕ) (semester : Span) (lanes rounds workers : ℕ) (quota : Option ℕ)
+    → c ≡ command.Open now slice horizon semester lanes rounds workers quota → ⊥)
     → IsStep s c (refused s NotOpened)
-not_opened s (command.Open now slice horizon semester lanes rounds workers quota) none other = absurd (other now slice horizon semester lanes rounds workers quota refl)
+not_opened s (command.Open now slice horizon semester lanes rounds workers quota) none other =
+    absurd (other now slice horizon semester lanes rounds workers quota refl)
 not_opened s (command.Instrument a b c d e) none other = (any, tt, ap (λ o. step_by any s o (command.Instrument a b c d e)) none)
 not_opened s (command.Telescope a b c d e) none other = (any, tt, ap (λ o. step_by any s o (command.Telescope a b c d e)) none)
 not_opened s (command.Night a b) none other = (any, tt, ap (λ o. step_by any s o (command.Night a b)) none)
@@ -58,7 +61,8 @@ not_opened s (command.Show a) none other = (any, tt, ap (λ o. step_by any s o (
 -- ---- an opened desk
 
 -- a step of an opened desk that was made keeps the state
-pub answered_keeps : (version count : ℕ) (d e : DeskSeen) (c : Command) (reply : Reply) → version < 524288 → IsState (opened version d) → IsCommand c → count ≡ changes c
+pub answered_keeps : (version count : ℕ) (d e : DeskSeen) (c : Command) (reply : Reply) → version < 524288 → IsState (opened version d)
+    → IsCommand c → count ≡ changes c
     → IsStep (opened version d) c record { reply = reply; state = opened (version + changes c) e } → IsState record { version = version + count; desk = Some e }
 answered_keeps version count d e c reply lt h ranges same step =
     subst (λ (n : ℕ). IsState record { version = version + n; desk = Some e }) (sym same)

@@ -1,5 +1,6 @@
 -- What is wanted of the requests of a new group is in the ranges.
-use Rattle.std.proofs.Common.{◌≡◌, ◌∙◌, sym, subst, refl, ℕ, zero, suc, ◌+◌, ◌*◌, ◌/◌, ◌%◌, ◌<◌, ◌≤◌, min, List, [], ◌∷◌, length, map, fold, All, get_or, mul-le-mul, Option, Some, None, arith}
+use Rattle.std.proofs.Common.{◌≡◌, ◌∙◌, sym, subst, refl, ℕ, zero, suc, ◌+◌, ◌*◌, ◌/◌, ◌%◌, ◌<◌, ◌≤◌, min, List, [], ◌∷◌, length, map, fold, All}
+use Rattle.std.proofs.Common.{get_or, mul-le-mul, Option, Some, None, arith}
 use Rattle.std.specs.List.{filter_map, cons_option}
 use Rattle.std.specs.Int.{div_ceil}
 use Rattle.std.specs.Ordering.{nat_cmp, match_ordering}
@@ -55,7 +56,8 @@ insert_few : (ks : List ℕ) (k : ℕ) → length (insert_key nat_cmp ks k) ≤ 
 insert_few [] k = omega arith
 insert_few (x ∷ xs) k = by (nat_cmp k x) (insert_few xs k)
   where
-    by : (o : Ordering) → length (insert_key nat_cmp xs k) ≤ length xs + 1 → length (match_ordering o (k ∷ x ∷ xs) (x ∷ xs) (x ∷ insert_key nat_cmp xs k)) ≤ suc (length xs) + 1
+    by : (o : Ordering) → length (insert_key nat_cmp xs k) ≤ length xs + 1
+        → length (match_ordering o (k ∷ x ∷ xs) (x ∷ xs) (x ∷ insert_key nat_cmp xs k)) ≤ suc (length xs) + 1
     by Less rest = omega arith
     by Equal rest = omega arith
     by Greater rest = omega arith
@@ -97,15 +99,18 @@ value_between document seconds h s =
     let most : div_ceil seconds 60 ≤ 1440 = omega (arith, above, s.high) in
     let first = product_most document.priority 100 document.ipp 2000 h.rank.high h.share.high in
     record {
-      low = product_least (document.priority * document.ipp) (div_ceil seconds 60) (product_least document.priority document.ipp h.rank.low (omega (arith, h.share.low))) least;
+      low = product_least (document.priority * document.ipp) (div_ceil seconds 60)
+          (product_least document.priority document.ipp h.rank.low (omega (arith, h.share.low))) least;
       high = product_most (document.priority * document.ipp) (100 * 2000) (div_ceil seconds 60) 1440 first most;
     }
 
-is_wanted : (now : Sec) (targets : List (List ℕ)) (document : GroupDoc) (m : MadeSeen) → IsGroup document → IsMade now m → IsWanted (length targets) (wanted_of targets document m)
+is_wanted : (now : Sec) (targets : List (List ℕ)) (document : GroupDoc) (m : MadeSeen) → IsGroup document → IsMade now m
+    → IsWanted (length targets) (wanted_of targets document m)
 is_wanted now targets document m g h =
     let cs : List ConfigDoc = m.asked.configurations in
     let few = numbers_few targets cs in
-    let count : length (targets_of targets cs) ≡ length (numbers_of targets cs) = length-map (numbers_of targets cs) (λ n. let t : TargetNo = record { 0 = n } in t) in
+    let count : length (targets_of targets cs) ≡ length (numbers_of targets cs) =
+    length-map (numbers_of targets cs) (λ n. let t : TargetNo = record { 0 = n } in t) in
     record {
       place = h.asked.place;
       type = h.asked.type;
@@ -117,12 +122,15 @@ is_wanted now targets document m g h =
       known = All-map (λ t. t.0 < length targets) (λ n. let t : TargetNo = record { 0 = n } in t) (numbers_of targets cs) (numbers_within targets cs);
     }
 
-all_wanted : (now : Sec) (targets : List (List ℕ)) (document : GroupDoc) (made : List MadeSeen) → IsGroup document → All (IsMade now) made → All (IsWanted (length targets)) (map (wanted_of targets document) made)
-all_wanted now targets document made g h = All-map (IsWanted (length targets)) (wanted_of targets document) made (λ i m l. is_wanted now targets document (get_or made i m) g (h i m l))
+all_wanted : (now : Sec) (targets : List (List ℕ)) (document : GroupDoc) (made : List MadeSeen) → IsGroup document → All (IsMade now) made
+    → All (IsWanted (length targets)) (map (wanted_of targets document) made)
+all_wanted now targets document made g h =
+    All-map (IsWanted (length targets)) (wanted_of targets document) made (λ i m l. is_wanted now targets document (get_or made i m) g (h i m l))
 
 all_asked : (n : ℕ) (now : Sec) (made : List MadeSeen) → All (IsMade now) made → All LastsADay (requests_from n (asks_of made))
 all_asked n now [] h = All-nil LastsADay
-all_asked n now (m ∷ ms) h = All-cons LastsADay _ (requests_from (n + 1) (asks_of ms)) (All-head (IsMade now) m ms h).seconds (all_asked (n + 1) now ms (All-tail (IsMade now) m ms h))
+all_asked n now (m ∷ ms) h = All-cons LastsADay _ (requests_from (n + 1) (asks_of ms)) (All-head (IsMade now) m ms h).seconds
+    (all_asked (n + 1) now ms (All-tail (IsMade now) m ms h))
 
 pub more_targets : (a b : ℕ) (w : Submitted) (g : Group) → a ≤ b → IsAlong a w g → IsAlong b w g
 more_targets a b w g most h = record {
@@ -145,7 +153,8 @@ more_targets a b w g most h = record {
       known = λ i t l. let low = k.known i t l in omega (arith, low, most);
     }
 
-pub is_along : (d : DeskSeen) (document : GroupDoc) (made : List MadeSeen) → IsGroup document → AreMade d.progress.moment document made → IsAlong (length (targets_with d document)) (submitted_of d document made) (group_of d document made)
+pub is_along : (d : DeskSeen) (document : GroupDoc) (made : List MadeSeen) → IsGroup document → AreMade d.progress.moment document made
+    → IsAlong (length (targets_with d document)) (submitted_of d document made) (group_of d document made)
 is_along d document made g h =
     let count : length (group_of d document made).requests ≡ length made = added_count (op_of document made) made d.progress in
     record {

@@ -1,5 +1,6 @@
 -- A desk whose groups have gone on.
-use Rattle.std.proofs.Common.{◌≡◌, ℕ, suc, ◌+◌, ◌<◌, ◌≤◌, ◌^◌, ◌==◌, true, false, List, [], ◌∷◌, ◌++◌, length, map, fold, sum_by, All, get_or, refl, sym, ◌∙◌, ap, subst, arith, inl, inr, ◌⊎◌, Option, Some, None}
+use Rattle.std.proofs.Common.{◌≡◌, ℕ, suc, ◌+◌, ◌<◌, ◌≤◌, ◌^◌, ◌==◌, true, false, List, [], ◌∷◌, ◌++◌, length, map, fold, sum_by, All, get_or, refl}
+use Rattle.std.proofs.Common.{sym, ◌∙◌, ap, subst, arith, inl, inr, ◌⊎◌, Option, Some, None}
 use Rattle.std.specs.List.{AllZip, zip, list_any, filter_map}
 use Rattle.std.specs.Option.{IfSome}
 use Rattle.std.specs.Bool.{IsTrue}
@@ -48,7 +49,8 @@ later_all (w ∷ ws) [] hs z = All-nil (λ p. IsLater p.1.0 p.1.1)
 later_all (w ∷ ws) (g ∷ gs) [] z = absurd z
 later_all (w ∷ ws) (g ∷ gs) (x ∷ hs) z = All-cons (λ p. IsLater p.1.0 p.1.1) (w, (g, x)) (zip ws (zip gs hs)) z.0 (later_all ws gs hs z.1)
 
-numbers_all : (ws : List Submitted) (gs hs : List Group) → length ws ≡ length gs → AllZip IsLater gs hs → map (λ p. p.1.0.number.0) (zip ws (zip gs hs)) ≡ map (λ g. g.number.0) gs
+numbers_all : (ws : List Submitted) (gs hs : List Group) → length ws ≡ length gs → AllZip IsLater gs hs
+    → map (λ p. p.1.0.number.0) (zip ws (zip gs hs)) ≡ map (λ g. g.number.0) gs
 numbers_all [] [] hs n z = refl
 numbers_all [] (g ∷ gs) hs n z = absurd (omega arith)
 numbers_all (w ∷ ws) [] hs n z = refl
@@ -95,13 +97,16 @@ pub are_along : (d : DeskSeen) (after : Progress) → IsDesk d → AllZip IsLate
 are_along d after h z = record {
   held = held_all d.groups d.progress.groups after.groups d.books.holds (as_submitted d h) z h.held;
   later = later_all d.groups d.progress.groups after.groups z;
-  counted = subst (λ (l : List ℕ). (i : ℕ) → i < length l → get_or l i 0 ≡ 0 + i + 1) (sym (numbers_all d.groups d.progress.groups after.groups (as_submitted d h) z)) (counted_from (map (λ g. g.number.0) d.progress.groups) h.sound.numbered.groups);
+  counted = subst (λ (l : List ℕ). (i : ℕ) → i < length l → get_or l i 0 ≡ 0 + i + 1)
+      (sym (numbers_all d.groups d.progress.groups after.groups (as_submitted d h) z))
+      (counted_from (map (λ g. g.number.0) d.progress.groups) h.sound.numbered.groups);
 }
 
 -- ---- what ends
 
 -- the books then are those that the endings leave of the groups that are told
-pub ends_of : (d : DeskSeen) (after : Progress) (cs : List Group) → IsDesk d → AllZip IsLater d.progress.groups after.groups → AreTold d.progress.groups cs after.groups
+pub ends_of : (d : DeskSeen) (after : Progress) (cs : List Group) → IsDesk d → AllZip IsLater d.progress.groups after.groups
+    → AreTold d.progress.groups cs after.groups
     → all_seconds d.books ≤ 10 ^ 18 → EndsAll d.books (groups_along d after) (told_along cs d after)
 ends_of d after cs h z told few =
     ends_all (λ p. is_told cs p.1.1) 0 d.books.entries [] (groups_along d after) d.books.holds (All-nil (λ x. x.group.0 ≤ 0)) (are_along d after h z)
@@ -130,7 +135,8 @@ asked_then : (qs rs : List Request) → AllZip IsLaterRequest qs rs → All Last
 asked_then [] [] z h = All-nil LastsADay
 asked_then [] (r ∷ rs) z h = absurd z
 asked_then (q ∷ qs) [] z h = absurd z
-asked_then (q ∷ qs) (r ∷ rs) z h = All-cons LastsADay r rs (subst (λ (n : ℕ). IsBetween 1 86400 n) (sym z.0.seconds) (All-head LastsADay q qs h)) (asked_then qs rs z.1 (All-tail LastsADay q qs h))
+asked_then (q ∷ qs) (r ∷ rs) z h = All-cons LastsADay r rs (subst (λ (n : ℕ). IsBetween 1 86400 n) (sym z.0.seconds) (All-head LastsADay q qs h))
+    (asked_then qs rs z.1 (All-tail LastsADay q qs h))
 
 pub along_then : (targets : ℕ) (w : Submitted) (g h : Group) → IsAlong targets w g → IsLater g h → IsAlong targets w h
 along_then targets w g h a later =
@@ -138,7 +144,8 @@ along_then targets w g h a later =
     record {
       document = a.document;
       count = a.count ∙ same;
-      shape = subst (λ (n : ℕ). IsBetween 1 (most_requests h.op) n) same (subst (λ (op : Op). IsBetween 1 (most_requests op) (length g.requests)) (sym later.op) a.shape);
+      shape = subst (λ (n : ℕ). IsBetween 1 (most_requests h.op) n) same
+          (subst (λ (op : Op). IsBetween 1 (most_requests op) (length g.requests)) (sym later.op) a.shape);
       wanted = a.wanted;
       asked = asked_then g.requests h.requests later.requests a.asked;
     }
@@ -169,7 +176,8 @@ granted_all xs more (e ∷ es) (x ∷ others) z h =
     All-cons (λ g. All (λ h. IsTrue (has_grant (xs ++ more) h.key)) g.holds) x others
     (λ k d l.
     let any = z.0 k d l in
-    let there : IsTrue (has_grant xs (get_or e.holds any.0 any.1).key) = All-head (λ g. All (λ h. IsTrue (has_grant xs h.key)) g.holds) e es h any.0 any.1 any.2 in
+    let there : IsTrue (has_grant xs (get_or e.holds any.0 any.1).key) =
+    All-head (λ g. All (λ h. IsTrue (has_grant xs h.key)) g.holds) e es h any.0 any.1 any.2 in
     has_grant-append xs more (get_or x.holds k d).key (subst (λ (key : Key). IsTrue (has_grant xs key)) (ap (λ (o : Hold). o.key) any.3 ∙ any.4) there))
     (granted_all xs more es others z.1 (All-tail (λ g. All (λ h. IsTrue (has_grant xs h.key)) g.holds) e es h))
 
@@ -193,7 +201,8 @@ charged_all xs more (e ∷ es) (x ∷ others) z h =
     (charged_all xs more es others z.1 (All-tail (λ g. IfSome g.ipp (λ h. IsTrue (has_grant xs h.key))) e es h))
 
 -- a desk whose groups have gone on is one
-pub progress_keeps : (d : DeskSeen) (after : Progress) → IsDesk d → IsSound after → GoesOn d.progress after → after.len ≡ d.progress.len → after.moment.0 ≤ last_moment
+pub progress_keeps : (d : DeskSeen) (after : Progress) → IsDesk d → IsSound after → GoesOn d.progress after → after.len ≡ d.progress.len
+    → after.moment.0 ≤ last_moment
     → IsDesk (with_progress after d)
 progress_keeps d after h sound on len moment =
     let then : AreAfter d.books (fold after_group d.books (groups_along d after)) (groups_along d after) [] d.books.holds =
@@ -204,15 +213,19 @@ progress_keeps d after h sound on len moment =
       moment = moment;
       sound = sound;
       along = all_along (length d.network.registry.targets) d.groups d.progress.groups after.groups h.along on.later;
-      pending = let a : pending_count after.groups ≤ pending_count d.progress.groups = on.pending in let b : pending_count d.progress.groups ≤ 1024 = h.pending in omega (arith, a, b);
+      pending = let a : pending_count after.groups ≤ pending_count d.progress.groups = on.pending in
+          let b : pending_count d.progress.groups ≤ 1024 = h.pending in omega (arith, a, b);
       once = on.once h.once;
-      held = subst (AllZip IsHeldFor (zip d.groups after.groups)) (sym then.holds) (held_now d.groups d.progress.groups after.groups then.others (as_submitted d h) on.later then.held);
+      held = subst (AllZip IsHeldFor (zip d.groups after.groups)) (sym then.holds)
+          (held_now d.groups d.progress.groups after.groups then.others (as_submitted d h) on.later then.held);
       granted =
           subst (λ (xs : List Entry). All (λ g. All (λ x. IsTrue (has_grant xs x.key)) g.holds) (with_progress after d).books.holds) (sym then.entries)
-          (subst (All (λ g. All (λ x. IsTrue (has_grant (d.books.entries ++ then.more) x.key)) g.holds)) (sym then.holds) (granted_all d.books.entries then.more d.books.holds then.others then.keyed h.granted));
+          (subst (All (λ g. All (λ x. IsTrue (has_grant (d.books.entries ++ then.more) x.key)) g.holds)) (sym then.holds)
+          (granted_all d.books.entries then.more d.books.holds then.others then.keyed h.granted));
       charged =
           subst (λ (xs : List Entry). All (λ g. IfSome g.ipp (λ x. IsTrue (has_grant xs x.key))) (with_progress after d).books.holds) (sym then.entries)
-          (subst (All (λ g. IfSome g.ipp (λ x. IsTrue (has_grant (d.books.entries ++ then.more) x.key)))) (sym then.holds) (charged_all d.books.entries then.more d.books.holds then.others then.charged h.charged));
+          (subst (All (λ g. IfSome g.ipp (λ x. IsTrue (has_grant (d.books.entries ++ then.more) x.key)))) (sym then.holds)
+          (charged_all d.books.entries then.more d.books.holds then.others then.charged h.charged));
       closures = h.closures;
       published = h.published;
     }

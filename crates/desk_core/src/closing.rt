@@ -33,7 +33,8 @@ impl Desk {
     pub(crate) fn open_group(&self, number: GroupNo) -> Result<&Group, Refusal>
         ensures there { IfOk result (λ group. group_at self.now.runs.groups number ≡ Some group.now) }
         ensures opened { IfOk result (λ group. is_open group.now ≡ true) }
-        ensures refused { IfErr result (λ refusal. (started : Group → Option Refusal) → ending_refusal started (group_at self.now.runs.groups number) ≡ Some refusal) }
+        ensures refused { IfErr result (λ refusal. (started : Group → Option Refusal)
+            → ending_refusal started (group_at self.now.runs.groups number) ≡ Some refusal) }
     {
         let Some(group) = self.runs.group(number) else {
             return Err(Refusal::NoSuchGroup);

@@ -25,7 +25,8 @@ use Rattle.desk_events.specs.Words.{state_word}
 use Rattle.desk_events.specs.Replied.{balance_data, member_state_data}
 use Rattle.desk_events.specs.Entry.{data_with, data_of_reply, data_of_entry}
 use Rattle.desk_events.specs.Laws.{ShowsGroup, told}
-use Rattle.desk_events.proofs.WordsBack.{whole_at, text_at, list_at, state_in, state_back, request_in, requests_back, refund_in, refunds_back, balance_in, balance_back, each_back, member_state_in, member_state_back}
+use Rattle.desk_events.proofs.WordsBack.{whole_at, text_at, list_at, state_in, state_back, request_in, requests_back, refund_in, refunds_back}
+use Rattle.desk_events.proofs.WordsBack.{balance_in, balance_back, each_back, member_state_in, member_state_back}
 use Rattle.desk_events.proofs.RefusalsBack.{refused_in, refusal_back, head_in, head_of, head_back}
 
 -- ---- documents
@@ -67,17 +68,24 @@ accepted_in s d =
     cond (bytes_eq s (codes "closed")) reply.Closed (
     cond (bytes_eq s (codes "reopened")) reply.Reopened (
     cond (bytes_eq s (codes "granted")) (reply.Granted (number_at (codes "balance") d)) (
-    cond (bytes_eq s (codes "submitted")) (reply.Submitted (group_at (codes "group") d) (number_at (codes "ipp_charged") d) (requests_at (codes "requests") d)) (
-    cond (bytes_eq s (codes "amended")) (reply.Amended (group_at (codes "group") d) (number_at (codes "ipp_charged") d) (refunds_at (codes "refunded") d) (group_at (codes "replaces") d) (requests_at (codes "requests") d)) (
+    cond (bytes_eq s (codes "submitted"))
+    (reply.Submitted (group_at (codes "group") d) (number_at (codes "ipp_charged") d) (requests_at (codes "requests") d)) (
+    cond (bytes_eq s (codes "amended"))
+    (reply.Amended (group_at (codes "group") d) (number_at (codes "ipp_charged") d) (refunds_at (codes "refunded") d)
+    (group_at (codes "replaces") d) (requests_at (codes "requests") d)) (
     cond (bytes_eq s (codes "withdrawn")) (reply.Withdrawn (refunds_at (codes "refunded") d)) (
-    cond (bytes_eq s (codes "clocked")) (reply.Clocked (requests_at (codes "expired") d) (requests_at (codes "failed") d) (refunds_at (codes "refunded") d) (requests_at (codes "started") d)) (
+    cond (bytes_eq s (codes "clocked"))
+    (reply.Clocked (requests_at (codes "expired") d) (requests_at (codes "failed") d) (refunds_at (codes "refunded") d)
+    (requests_at (codes "started") d)) (
     cond (bytes_eq s (codes "completed")) (reply.Completed (requests_at (codes "canceled") d) (number_at (codes "charged") d)) (
     cond (bytes_eq s (codes "failed")) (reply.Failed (requests_at (codes "expired") d) (refunds_at (codes "refunded") d)) (
     cond (bytes_eq s (codes "taken")) reply.Taken (
     cond (bytes_eq s (codes "published")) (reply.Published (claim_in (unwrap_or (get (codes "claim") d) null))) (
-    cond (bytes_eq s (codes "exported")) (reply.Exported (claim_in (unwrap_or (get (codes "claim") d) null)) (snapshot_in (unwrap_or (get (codes "snapshot") d) null))) (
+    cond (bytes_eq s (codes "exported"))
+    (reply.Exported (claim_in (unwrap_or (get (codes "claim") d) null)) (snapshot_in (unwrap_or (get (codes "snapshot") d) null))) (
     cond (bytes_eq s (codes "balances")) (reply.Balances (list_at balance_in (get (codes "balances") d)))
-    (reply.Shown (document_in (get (codes "document") d)) (group_at (codes "group") d) (list_at member_state_in (get (codes "requests") d)) (state_in (text_at (get (codes "state") d)))))))))))))))))))))
+    (reply.Shown (document_in (get (codes "document") d)) (group_at (codes "group") d) (list_at member_state_in (get (codes "requests") d))
+    (state_in (text_at (get (codes "state") d)))))))))))))))))))))
 
 abbrev reply_in : Data → Reply
 reply_in d = cond (is_some (get (codes "ok") d)) (accepted_in (text_at (get (codes "ok") d)) d) (reply.Refused (refused_in d))
@@ -113,7 +121,9 @@ entry_back e (reply.Amended group ipp_charged refunded replaces requests) h =
     ap₂ (λ fs rs. with_reply e (reply.Amended group ipp_charged fs replaces rs)) (refunds_back refunded) (requests_back requests)
 entry_back e (reply.Withdrawn refunded) h = ap (λ fs. with_reply e (reply.Withdrawn fs)) (refunds_back refunded)
 entry_back e (reply.Clocked expired failed refunded started) h =
-    ap₂ (λ xs fs. with_reply e (reply.Clocked xs (requests_at (codes "failed") (data_of_reply e (reply.Clocked expired failed refunded started))) fs (requests_at (codes "started") (data_of_reply e (reply.Clocked expired failed refunded started))))) (requests_back expired) (refunds_back refunded)
+    ap₂ (λ xs fs. with_reply e (reply.Clocked xs (requests_at (codes "failed") (data_of_reply e (reply.Clocked expired failed refunded started))) fs
+    (requests_at (codes "started") (data_of_reply e (reply.Clocked expired failed refunded started)))))
+    (requests_back expired) (refunds_back refunded)
     ∙ ap₂ (λ xs ss. with_reply e (reply.Clocked expired xs refunded ss)) (requests_back failed) (requests_back started)
 entry_back e (reply.Completed canceled charged) h = ap (λ rs. with_reply e (reply.Completed rs charged)) (requests_back canceled)
 entry_back e (reply.Failed expired refunded) h = ap₂ (λ rs fs. with_reply e (reply.Failed rs fs)) (requests_back expired) (refunds_back refunded)
@@ -122,7 +132,8 @@ entry_back e (reply.Published claim) h = ap (λ c. with_reply e (reply.Published
 entry_back e (reply.Exported claim snapshot) h = ap₂ (λ c s. with_reply e (reply.Exported c s)) (claim_inverse claim) (snapshot_inverse snapshot)
 entry_back e (reply.Balances balances) h = ap (λ bs. with_reply e (reply.Balances bs)) (each_back balance_in balance_data balance_back balances)
 entry_back e (reply.Shown document group requests state) h =
-    ap₂ (λ g ms. with_reply e (reply.Shown g group ms (state_in (state_word state)))) (document_back document h) (each_back member_state_in member_state_data member_state_back requests)
+    ap₂ (λ g ms. with_reply e (reply.Shown g group ms (state_in (state_word state)))) (document_back document h)
+    (each_back member_state_in member_state_data member_state_back requests)
     ∙ ap (λ x. with_reply e (reply.Shown document group requests x)) (state_back state)
 entry_back e (reply.Refused refusal) h = refused_back e refusal
 

@@ -20,7 +20,8 @@ use Rattle.plan_json.specs.Reading.{result_and_then, result_map, read_each}
 use Rattle.plan_json.specs.Span.{span_between, span_of_pair, span_of_elements, span_in, spans_in}
 use Rattle.plan_json.specs.Text.{text_in}
 use Rattle.plan_json.specs.Whole.{number_in}
-use Rattle.plan_json.proofs.Ranges.{Gives, any, weaker, either, if_test, after, made, moment_early, number_member, text_member, moment_member, list_member, each}
+use Rattle.plan_json.proofs.Ranges.{Gives, any, weaker, either, if_test, after, made, moment_early, number_member, text_member, moment_member}
+use Rattle.plan_json.proofs.Ranges.{list_member, each}
 use Rattle.request_model.specs.declared.fault.GroupFault.{GroupFault}
 use Rattle.request_model.specs.declared.group.GroupDoc.{GroupDoc}
 use Rattle.request_model.specs.Fault.{in_group}
@@ -35,14 +36,16 @@ use Rattle.desk_events.specs.declared.read.verb.Verb.{Verb}
 use Rattle.desk_events.specs.declared.read.verb.Verb.TheVariants as verb
 use Rattle.desk_events.specs.Fault.{read_member, read_group}
 use Rattle.desk_events.specs.Account.{account_of, instrument_of as type_of, key_of}
-use Rattle.desk_events.specs.Commands.{open_of, instrument_of, telescope_of, night_of, visibility_of, telescope_scope_of, site_scope_of, scope_of, close_of, reopen_of}
+use Rattle.desk_events.specs.Commands.{open_of, instrument_of, telescope_of, night_of, visibility_of, telescope_scope_of, site_scope_of, scope_of}
+use Rattle.desk_events.specs.Commands.{close_of, reopen_of}
 use Rattle.desk_events.specs.Commands.{grant_of, document_in, submit_of, group_number_of, amend_of, withdraw_of, clock_of, report_of, publish_of, show_of}
 use Rattle.desk_events.specs.Line.{verb_of, command_of, command_in, command_of_bytes, command_of_line}
 use Rattle.plan_base.specs.declared.claim.Claim.{Claim}
 use Rattle.plan_doc.specs.Claim.{claim_of}
 use Rattle.plan_doc.specs.Ranges.{IsClaim}
 use Rattle.plan_doc.proofs.InRange.{claims_are_in_range}
-use Rattle.desk_events.specs.Ranges.{IsOpening, IsInstrument, IsTelescope, AreSpans, IsNight, IsSky, IsScope, IsClosure, IsInstrumentOf, IsKey, IsGrant, IsReport, IsPublication, IsCommand}
+use Rattle.desk_events.specs.Ranges.{IsOpening, IsInstrument, IsTelescope, AreSpans, IsNight, IsSky, IsScope, IsClosure, IsInstrumentOf, IsKey}
+use Rattle.desk_events.specs.Ranges.{IsGrant, IsReport, IsPublication, IsCommand}
 
 -- what was read, its fault being another's
 read : {T : Type 0} {P : T → Type 0} {r : Result T JsonFault} → Gives r P → Gives (read_member r) P
@@ -83,13 +86,15 @@ spans_found : (ms : Members) → Gives (member_of spans_in ms key.Spans) AreSpan
 spans_found ms =
     regrouped (read_each (span_in key.Spans)) (list_in key.Spans 0 512) (ok_or (value_of ms key.Spans) (Missing key.Spans))
     (after (read_each (span_in key.Spans)) (list_member 0 512 ms key.Spans) (λ ds few.
-    weaker (each IsWindow (span_in key.Spans) (span_there key.Spans) ds) (λ ws are. record { count = subst (λ n. n ≤ 512) (sym are.count) few.high; each = are.all })))
+    weaker (each IsWindow (span_in key.Spans) (span_there key.Spans) ds)
+    (λ ws are. record { count = subst (λ n. n ≤ 512) (sym are.count) few.high; each = are.all })))
 
 -- ---- the desk
 
 quota_there : (ms : Members) → Gives (if_there (number_in 1 100000000) ms key.Quota) (λ o. IfSome o (IsBetween 1 100000000))
 quota_there ms =
-    either (is_some (value_of ms key.Quota)) (made (λ o. IfSome o (IsBetween 1 100000000)) Some (number_member 1 100000000 ms key.Quota) (λ n p. p)) (record { ok = tt })
+    either (is_some (value_of ms key.Quota)) (made (λ o. IfSome o (IsBetween 1 100000000)) Some (number_member 1 100000000 ms key.Quota) (λ n p. p))
+    (record { ok = tt })
 
 open_there : (ms : Members) → Gives (open_of ms) IsCommand
 open_there ms =

@@ -12,7 +12,8 @@ use Rattle.desk_events.proofs.EntriesBack.{same_entry}
 
 pub one_entry : OneEntry
 one_entry d e p q same =
-    same_entry d e p.group q.group (texts_are_distinct (data_of_entry d) (data_of_entry e) p.writable.exact q.writable.exact (append_cancel_right _ _ (10 ∷ []) same))
+    same_entry d e p.group q.group (texts_are_distinct (data_of_entry d) (data_of_entry e) p.writable.exact q.writable.exact
+    (append_cancel_right _ _ (10 ∷ []) same))
 
 not_empty : (xs ys : List ℕ) → [] ≡ (xs ++ 10 ∷ []) ++ ys → ⊥
 not_empty [] ys h = cc
@@ -25,6 +26,7 @@ one_history (d ∷ ds) [] p q same = absurd (not_empty (text_of (data_of_entry d
 one_history (d ∷ ds) (e ∷ es) p q same =
     let first = text_of (data_of_entry d) in
     let other = text_of (data_of_entry e) in
-    let lines : first ++ 10 ∷ text_of_history ds ≡ other ++ 10 ∷ text_of_history es = sym (append_assoc first (10 ∷ []) (text_of_history ds)) ∙ same ∙ append_assoc other (10 ∷ []) (text_of_history es) in
+    let lines : first ++ 10 ∷ text_of_history ds ≡ other ++ 10 ∷ text_of_history es = sym (append_assoc first (10 ∷ []) (text_of_history ds)) ∙ same
+    ∙ append_assoc other (10 ∷ []) (text_of_history es) in
     let split = lines_are_distinct (data_of_entry d) (data_of_entry e) (text_of_history ds) (text_of_history es) p.0.writable.exact q.0.writable.exact lines in
     ap₂ (λ (x : ℕ × ℕ × ℕ × Reply) (xs : List (ℕ × ℕ × ℕ × Reply)). x ∷ xs) (same_entry d e p.0.group q.0.group split.0) (one_history ds es p.1 q.1 split.1)

@@ -31,7 +31,8 @@ reason_in s d =
     cond (bytes_eq s (codes "Overlap")) (reason.Overlap (index_at d)) (
     cond (bytes_eq s (codes "OneofTwice")) (reason.OneofTwice (group_at d)) (
     cond (bytes_eq s (codes "AndPartial")) (reason.AndPartial (group_at d)) (
-    cond (bytes_eq s (codes "QuotaOver")) (reason.QuotaOver (whole_at (get (codes "quota") d)) (whole_at (get (codes "seconds") d)) (whole_at (get (codes "most") d))) (
+    cond (bytes_eq s (codes "QuotaOver"))
+    (reason.QuotaOver (whole_at (get (codes "quota") d)) (whole_at (get (codes "seconds") d)) (whole_at (get (codes "most") d))) (
     cond (bytes_eq s (codes "PriceCount")) (reason.PriceCount (whole_at (get (codes "given") d)) (whole_at (get (codes "wanted") d))) (
     cond (bytes_eq s (codes "PriceRange")) (reason.PriceRange (index_at d)) (
     cond (bytes_eq s (codes "QuotaPriceCount")) (reason.QuotaPriceCount (whole_at (get (codes "given") d)) (whole_at (get (codes "wanted") d))) (

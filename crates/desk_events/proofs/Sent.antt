@@ -42,6 +42,7 @@ publication_is version claim is =
 
 pub claims_can_be_sent : ClaimsCanBeSent
 claims_can_be_sent version claim is writable =
-    let document = document_is (text_of (publish_data version claim)) (publish_data version claim) (sent version claim) (texts_are_read_back (publish_data version claim) writable) refl in
+    let document = document_is (text_of (publish_data version claim)) (publish_data version claim) (sent version claim)
+    (texts_are_read_back (publish_data version claim) writable) refl in
     ap (λ r. let c : Result Command CommandFault = result_and_then command_in (read_member r) in c) document
     ∙ ap (λ r. let c : Result Command CommandFault = read_member r in c) (publication_is version claim is)

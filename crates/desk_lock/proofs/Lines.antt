@@ -57,7 +57,8 @@ take_begins b caller read taken c k low does =
       );
     }
 
-pub performed_begins : (b : BookSeen) (caller : ℕ) (answer : BookStep) (taken : TakenParts) (c : BookSeen) → IsBook b → caller < length b.scripts → answer ≡ step.Taken taken
+pub performed_begins : (b : BookSeen) (caller : ℕ) (answer : BookStep) (taken : TakenParts) (c : BookSeen) → IsBook b → caller < length b.scripts
+    → answer ≡ step.Taken taken
     → IsPerformed b caller answer c → BeginsLine b caller taken c
 performed_begins b caller answer taken c k low is done =
     let took : IsPerformed b caller (step.Taken taken) c = subst (λ (x : BookStep). IsPerformed b caller x c) is done in
@@ -73,7 +74,8 @@ published_ends b solved e c p =
     let ends : ends_line e.what ≡ true = ap (λ (x : EventEntry). ends_line x.what) p.1 in
     record {
       scripts = ap (λ (x : BookSeen). x.scripts) is;
-      shut = ap (λ (ts : List (Option TakenParts)). take_of ts caller) takes ∙ get_or-set_same b.takes caller None None (open_below b.takes caller solved.taken p.0);
+      shut = ap (λ (ts : List (Option TakenParts)). take_of ts caller) takes
+          ∙ get_or-set_same b.takes caller None None (open_below b.takes caller solved.taken p.0);
       done = ap (done_of caller) history ∙ done_more caller b.history e mine ends;
       others = λ other differs. (
         ap (λ (ts : List (Option TakenParts)). take_of ts other) takes ∙ get_or-set_other b.takes caller other None None differs,
@@ -82,7 +84,8 @@ published_ends b solved e c p =
     }
 
 -- what was found for the caller's open Take is always published
-pub answered_ends : (b : BookSeen) (solved : SolvedTake) (answer : PublishStep) (c : BookSeen) → take_of b.takes solved.taken.caller ≡ Some solved.taken → IsAnswered b solved answer c
+pub answered_ends : (b : BookSeen) (solved : SolvedTake) (answer : PublishStep) (c : BookSeen)
+    → take_of b.takes solved.taken.caller ≡ Some solved.taken → IsAnswered b solved answer c
     → EndsLine b solved.taken.caller c
 answered_ends b solved (publish.Replied e) c kept a = published_ends b solved e c a
 answered_ends b solved publish.NotTaken c kept a = let clash : None ≡ Some solved.taken = sym a.0 ∙ kept in absurd (cc)
@@ -100,7 +103,8 @@ begun_ends b caller taken c d begins ends = record {
 }
 
 -- the callers' lines are the same, also where memory is wanting
-pub same_scripts : (r : Result (Unit {0}) AllocError) (b : BookSeen) (caller : ℕ) (c : BookSeen) → OnOk r (EndsLine b caller c) → OnErr r (c ≡ b) → c.scripts ≡ b.scripts
+pub same_scripts : (r : Result (Unit {0}) AllocError) (b : BookSeen) (caller : ℕ) (c : BookSeen) → OnOk r (EndsLine b caller c)
+    → OnErr r (c ≡ b) → c.scripts ≡ b.scripts
 same_scripts (Ok done) b caller c ok err = ok.scripts
 same_scripts (Err error) b caller c ok err = ap (λ (x : BookSeen). x.scripts) err
 

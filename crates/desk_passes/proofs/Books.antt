@@ -1,5 +1,6 @@
 -- What a call and a publication add to a book.
-use Rattle.std.proofs.Common.{◌≡◌, ◌≢◌, ℕ, zero, suc, ◌+◌, ◌-◌, ◌<◌, List, [], ◌∷◌, ◌++◌, length, refl, sym, ◌∙◌, ap, subst, ◌⊎◌, inl, inr, arith, length-append}
+use Rattle.std.proofs.Common.{◌≡◌, ◌≢◌, ℕ, zero, suc, ◌+◌, ◌-◌, ◌<◌, List, [], ◌∷◌, ◌++◌, length, refl, sym, ◌∙◌, ap, subst, ◌⊎◌, inl, inr, arith}
+use Rattle.std.proofs.Common.{length-append}
 use Rattle.std.proofs.Common.{Option, Some, None, Result, true, slice_get, slice_set, length-set, get_or-set_same, get_or-set_other}
 use Rattle.std.specs.Prelude.{slice_index_or, replicate}
 use Rattle.std.proofs.Math.ListN.{get_or-append}
@@ -44,7 +45,8 @@ pub record Grows (b : BookSeen) (caller : ℕ) (e : EventEntry) (line : ScriptLi
   pub each : length (script_of c.scripts caller) ≡ done_of caller c.history + begun (take_of c.takes caller)
 
 -- the line of an entry, whatever lines are sent later
-line_later : (scripts longer : List (List ScriptLine)) (caller n : ℕ) (line : ScriptLine) (e : EventEntry) → GoOn scripts longer → slice_get (script_of scripts caller) n ≡ Some line
+line_later : (scripts longer : List (List ScriptLine)) (caller n : ℕ) (line : ScriptLine) (e : EventEntry) → GoOn scripts longer
+    → slice_get (script_of scripts caller) n ≡ Some line
     → e.caller ≡ caller → e.line ≡ n + 1 → line_of longer e ≡ line
 line_later scripts longer caller n line e more at mine number =
     let script : List ScriptLine = script_of scripts caller in
@@ -57,29 +59,35 @@ line_later scripts longer caller n line e more at mine number =
     ∙ get_or-append script rest TooLong n low
     ∙ get_or_from_slice_get script n line TooLong at
 
-lines_grown : (b c : BookSeen) (caller : ℕ) (e : EventEntry) (line : ScriptLine) (longer : List (List ScriptLine)) → IsFull b → Grows b caller e line c → GoOn c.scripts longer
+lines_grown : (b c : BookSeen) (caller : ℕ) (e : EventEntry) (line : ScriptLine) (longer : List (List ScriptLine)) → IsFull b
+    → Grows b caller e line c → GoOn c.scripts longer
     → lined longer c.history ≡ log_of b ++ record { entry = e; line = line } ∷ []
 lines_grown b c caller e line longer full g more =
     ap (lined longer) g.history ∙ lined_more longer b.history e
-    ∙ ap (λ (l : ScriptLine). lined longer b.history ++ record { entry = e; line = l } ∷ []) (line_later c.scripts longer caller (done_of caller b.history) line e more g.at g.mine g.number)
+    ∙ ap (λ (l : ScriptLine). lined longer b.history ++ record { entry = e; line = l } ∷ [])
+    (line_later c.scripts longer caller (done_of caller b.history) line e more g.at g.mine g.number)
     ∙ ap (λ (xs : List SeenEntry). xs ++ record { entry = e; line = line } ∷ []) (full.lines longer (go_further b.scripts c.scripts longer g.longer more))
 
-each_grown : (b c : BookSeen) (caller : ℕ) (e : EventEntry) (line : ScriptLine) → IsFull b → Grows b caller e line c → (other : ℕ) → (other ≡ caller) ⊎ (other ≢ caller)
+each_grown : (b c : BookSeen) (caller : ℕ) (e : EventEntry) (line : ScriptLine) → IsFull b → Grows b caller e line c → (other : ℕ)
+    → (other ≡ caller) ⊎ (other ≢ caller)
     → length (script_of c.scripts other) ≡ done_of other c.history + begun (take_of c.takes other)
 each_grown b c caller e line full g other (inl same) =
     subst (λ (k : ℕ). length (script_of c.scripts k) ≡ done_of k c.history + begun (take_of c.takes k)) (sym same) g.each
 each_grown b c caller e line full g other (inr differs) =
     let stays = g.others other differs in
-    let done : done_of other c.history ≡ done_of other b.history = ap (done_of other) g.history ∙ done_other other b.history e (λ same. differs (sym same ∙ g.mine)) in
+    let done : done_of other c.history ≡ done_of other b.history = ap (done_of other) g.history
+    ∙ done_other other b.history e (λ same. differs (sym same ∙ g.mine)) in
     ap (λ (lines : List ScriptLine). length lines) stays.0
     ∙ full.each other
     ∙ ap (λ (n : ℕ). n + begun (take_of b.takes other)) (sym done)
     ∙ ap (λ (o : Option TakenParts). done_of other c.history + begun o) (sym stays.1)
 
-open_stays : (b c : BookSeen) (caller : ℕ) (e : EventEntry) (line : ScriptLine) → Grows b caller e line c → (other : ℕ) → other ≢ caller → open_take c other ≡ open_take b other
+open_stays : (b c : BookSeen) (caller : ℕ) (e : EventEntry) (line : ScriptLine) → Grows b caller e line c → (other : ℕ) → other ≢ caller
+    → open_take c other ≡ open_take b other
 open_stays b c caller e line g other differs =
     let stays = g.others other differs in
-    let done : done_of other c.history ≡ done_of other b.history = ap (done_of other) g.history ∙ done_other other b.history e (λ same. differs (sym same ∙ g.mine)) in
+    let done : done_of other c.history ≡ done_of other b.history = ap (done_of other) g.history
+    ∙ done_other other b.history e (λ same. differs (sym same ∙ g.mine)) in
     ap (λ (lines : List ScriptLine). open_with (slice_index_or lines (done_of other c.history) TooLong) (take_of c.takes other)) stays.0
     ∙ ap (λ (n : ℕ). open_with (slice_index_or (script_of b.scripts other) n TooLong) (take_of c.takes other)) done
     ∙ ap (open_with (line_next b other)) stays.1
@@ -129,7 +137,8 @@ pub record Called (b : BookSeen) (caller : ℕ) (line : ScriptLine) (answer : Bo
   pub what : more.entry.entry.what ≡ what_of answer
   pub left : open_take c caller ≡ left_open answer line
 
-module _ (b : BookSeen) (caller : ℕ) (line : ScriptLine) (c : BookSeen) (full : IsFull b) (book : IsBook c) (low : caller < length b.scripts) (shut : take_of b.takes caller ≡ None) where
+module _ (b : BookSeen) (caller : ℕ) (line : ScriptLine) (c : BookSeen) (full : IsFull b) (book : IsBook c) (low : caller < length b.scripts)
+    (shut : take_of b.takes caller ≡ None) where
   abbrev script : List ScriptLine
   script = script_of b.scripts caller
 
@@ -167,7 +176,8 @@ module _ (b : BookSeen) (caller : ℕ) (line : ScriptLine) (c : BookSeen) (full 
           ap (λ (ts : List (Option TakenParts)). take_of ts other) takes,
         );
         each = ap (λ (lines : List ScriptLine). length lines) mine ∙ length-append script (line ∷ [])
-            ∙ ap (λ (n : ℕ). n + 1) all_done ∙ sym (ap (λ (o : Option TakenParts). done_of caller c.history + begun o) still ∙ ap (λ (n : ℕ). n + 0) done ∙ (omega arith));
+            ∙ ap (λ (n : ℕ). n + 1) all_done
+            ∙ sym (ap (λ (o : Option TakenParts). done_of caller c.history + begun o) still ∙ ap (λ (n : ℕ). n + 0) done ∙ (omega arith));
       } in
       record {
         more = g.0;
@@ -184,7 +194,8 @@ module _ (b : BookSeen) (caller : ℕ) (line : ScriptLine) (c : BookSeen) (full 
       let takes : c.takes ≡ slice_set b.takes caller (Some taken) = ap (λ (x : BookSeen). x.takes) does.3 in
       let mine : script_of c.scripts caller ≡ script ++ line ∷ [] = ap (λ (ss : List (List ScriptLine)). script_of ss caller) scripts ∙ own_script in
       let done : done_of caller c.history ≡ done_of caller b.history = ap (done_of caller) history ∙ done_same caller b.history e refl refl in
-      let kept : take_of c.takes caller ≡ Some taken = ap (λ (ts : List (Option TakenParts)). take_of ts caller) takes ∙ get_or-set_same b.takes caller (Some taken) None within in
+      let kept : take_of c.takes caller ≡ Some taken = ap (λ (ts : List (Option TakenParts)). take_of ts caller) takes
+      ∙ get_or-set_same b.takes caller (Some taken) None within in
       let at : slice_get (script_of c.scripts caller) (done_of caller b.history) ≡ Some line =
       ap (λ (lines : List ScriptLine). slice_get lines (done_of caller b.history)) mine ∙ at_end script line (done_of caller b.history) all_done in
       let next : line_next c caller ≡ line = ap (λ (n : ℕ). slice_index_or (script_of c.scripts caller) n TooLong) done
@@ -230,7 +241,8 @@ there [] n h = absurd (omega (arith, h))
 there (x ∷ xs) zero h = refl
 there (x ∷ xs) (suc n) h = there xs n (omega (arith, h))
 
-pub published : (b c : BookSeen) (caller : ℕ) (solved : SolvedTake) (e : EventEntry) → IsFull b → IsBook c → caller < length b.scripts → solved.taken.caller ≡ caller
+pub published : (b c : BookSeen) (caller : ℕ) (solved : SolvedTake) (e : EventEntry) → IsFull b → IsBook c → caller < length b.scripts
+    → solved.taken.caller ≡ caller
     → IsPublished b solved e c → Published b caller solved c
 published b c caller solved e full book low named p =
     let kept : take_of b.takes caller ≡ Some solved.taken = subst (λ (k : ℕ). take_of b.takes k ≡ Some solved.taken) named p.0 in
@@ -243,8 +255,10 @@ published b c caller solved e full book low named p =
     let ends : ends_line e.what ≡ true = ap ends_line what in
     let done : done_of caller c.history ≡ done_of caller b.history + 1 = ap (done_of caller) history ∙ done_more caller b.history e mine ends in
     let within : caller < length b.takes = omega (arith, full.book.as_many, low) in
-    let shut : take_of c.takes caller ≡ None = ap (λ (ts : List (Option TakenParts)). take_of ts caller) takes ∙ get_or-set_same b.takes caller None None within in
-    let all : length (script_of b.scripts caller) ≡ done_of caller b.history + 1 = full.each caller ∙ ap (λ (o : Option TakenParts). done_of caller b.history + begun o) kept in
+    let shut : take_of c.takes caller ≡ None = ap (λ (ts : List (Option TakenParts)). take_of ts caller) takes
+    ∙ get_or-set_same b.takes caller None None within in
+    let all : length (script_of b.scripts caller) ≡ done_of caller b.history + 1 = full.each caller
+    ∙ ap (λ (o : Option TakenParts). done_of caller b.history + begun o) kept in
     let own : script_of c.scripts caller ≡ script_of b.scripts caller = ap (λ (ss : List (List ScriptLine)). script_of ss caller) scripts in
     let g = grown b c caller e (line_next b caller) full book record {
       longer = subst (λ (ss : List (List ScriptLine)). GoOn b.scripts ss) (sym scripts) (stay b.scripts);

@@ -1,5 +1,6 @@
 -- Each step keeps the rule.
-use Rattle.std.proofs.Common.{true, ◌≡◌, ◌≢◌, ℕ, zero, suc, ◌<◌, List, [], ◌∷◌, ◌++◌, refl, sym, ◌∙◌, ap, subst, ◌⊎◌, inl, inr, ⊎_elim, arith, Option, Some, None, slice_set, length}
+use Rattle.std.proofs.Common.{true, ◌≡◌, ◌≢◌, ℕ, zero, suc, ◌<◌, List, [], ◌∷◌, ◌++◌, refl, sym, ◌∙◌, ap, subst, ◌⊎◌, inl, inr, ⊎_elim, arith, Option}
+use Rattle.std.proofs.Common.{Some, None, slice_set, length}
 use mathlib.Core.Option.{Option as Home, some, none, some-injective}
 use lib.ListN.{get_elem?}
 use Rattle.atomic_table.proofs.Lists.{at_longer, set_else}
@@ -30,7 +31,8 @@ no_some o x empty is = let clash : None ≡ Some x = sym empty ∙ is in absurd 
 abbrev pub Place : ℕ → List (Home (Option BookSeen)) → List PassView → BookSeen → Type 0
 Place turn homes views b = IsHome turn homes views b ⊎ IsOut turn homes views b
 
-pub place_put : (turn : ℕ) (homes : List (Home (Option BookSeen))) (views : List PassView) (b : BookSeen) (i : ℕ) (v w : PassView) → get_elem? views i ≡ some v → v.turn ≡ None → w.turn ≡ None
+pub place_put : (turn : ℕ) (homes : List (Home (Option BookSeen))) (views : List PassView) (b : BookSeen) (i : ℕ) (v w : PassView)
+    → get_elem? views i ≡ some v → v.turn ≡ None → w.turn ≡ None
     → Place turn homes views b → Place turn homes (slice_set views i w) b
 place_put turn homes views b i v w at still stays (inl home) =
     inl record { word = home.word; slot = home.slot; free = each_set (λ seat u. u.turn ≡ None) views i w home.free stays }
@@ -65,7 +67,8 @@ place_more turn homes views b u stays (inr out) = inr record {
 }
 
 -- the view with the turn is the one that the book is out with
-pub holder_out : (turn : ℕ) (homes : List (Home (Option BookSeen))) (views : List PassView) (b c : BookSeen) (i : ℕ) (v : PassView) → get_elem? views i ≡ some v → v.turn ≡ Some c
+pub holder_out : (turn : ℕ) (homes : List (Home (Option BookSeen))) (views : List PassView) (b c : BookSeen) (i : ℕ) (v : PassView)
+    → get_elem? views i ≡ some v → v.turn ≡ Some c
     → Place turn homes views b → (out : IsOut turn homes views b) × (out.holder ≡ i) × (out.view ≡ v) × (b ≡ c)
 holder_out turn homes views b c i v at has (inl home) = no_some v.turn c (home.free i v at) has
 holder_out turn homes views b c i v at has (inr out) =
@@ -81,7 +84,8 @@ holder_out turn homes views b c i v at has (inr out) =
 -- ---- the root
 
 -- a caller's view isn't the root's
-pub not_root : (callers : ℕ) (b : BookSeen) (views : List PassView) (i caller : ℕ) (v : PassView) → IsRoot callers b views → get_elem? views i ≡ some v → v.caller ≡ Some caller → i ≢ 0
+pub not_root : (callers : ℕ) (b : BookSeen) (views : List PassView) (i caller : ℕ) (v : PassView) → IsRoot callers b views
+    → get_elem? views i ≡ some v → v.caller ≡ Some caller → i ≢ 0
 not_root callers b views i caller v root at is same =
     let one : root.view ≡ v = same_there views 0 root.view v root.at (subst (λ (k : ℕ). get_elem? views k ≡ some v) same at) in
     no_some v.caller caller (ap (λ (u : PassView). u.caller) (sym one) ∙ root.nobody) is
@@ -96,8 +100,10 @@ pub record Replaces (b : BookSeen) (v w : PassView) : Type 0 where
   pub within : IsWithin b w
   pub all : (v.looked ≡ true → EachIsBack v → v.seen ≡ log_of b) → w.looked ≡ true → EachIsBack w → w.seen ≡ log_of b
 
-root_put : (callers : ℕ) (b : BookSeen) (views : List PassView) (i : ℕ) (v w : PassView) → get_elem? views i ≡ some v → w.caller ≡ v.caller → w.passes ≡ v.passes
-    → ((v.looked ≡ true → EachIsBack v → v.seen ≡ log_of b) → w.looked ≡ true → EachIsBack w → w.seen ≡ log_of b) → IsRoot callers b views → IsRoot callers b (slice_set views i w)
+root_put : (callers : ℕ) (b : BookSeen) (views : List PassView) (i : ℕ) (v w : PassView) → get_elem? views i ≡ some v
+    → w.caller ≡ v.caller → w.passes ≡ v.passes
+    → ((v.looked ≡ true → EachIsBack v → v.seen ≡ log_of b) → w.looked ≡ true → EachIsBack w → w.seen ≡ log_of b) → IsRoot callers b views
+    → IsRoot callers b (slice_set views i w)
 root_put callers b views zero v w at same passes all root =
     let is : root.view ≡ v = same_there views 0 root.view v root.at at in
     let held : w.passes ≡ root.view.passes = passes ∙ ap (λ (u : PassView). u.passes) (sym is) in
@@ -123,7 +129,8 @@ root_put callers b views (suc i) v w at same passes all root = record {
   all = root.all;
 }
 
-pub rule_put : (callers turn : ℕ) (homes : List (Home (Option BookSeen))) (views : List PassView) (b : BookSeen) (i : ℕ) (v w : PassView) → Rule callers turn homes views b
+pub rule_put : (callers turn : ℕ) (homes : List (Home (Option BookSeen))) (views : List PassView) (b : BookSeen) (i : ℕ) (v w : PassView)
+    → Rule callers turn homes views b
     → get_elem? views i ≡ some v → Replaces b v w → Rule callers turn homes (slice_set views i w) b
 rule_put callers turn homes views b i v w r at new = record {
   shared = r.shared;
@@ -135,7 +142,8 @@ rule_put callers turn homes views b i v w r at new = record {
 
 -- ---- a view is added that is unheld
 
-pub rule_more : (callers turn : ℕ) (homes : List (Home (Option BookSeen))) (views : List PassView) (b : BookSeen) (u : PassView) → Rule callers turn homes views b
+pub rule_more : (callers turn : ℕ) (homes : List (Home (Option BookSeen))) (views : List PassView) (b : BookSeen) (u : PassView)
+    → Rule callers turn homes views b
     → u.caller ≡ None → u.turn ≡ None → IsWithin b u → Rule callers turn homes (views ++ u ∷ []) b
 rule_more callers turn homes views b u r nobody stays within = record {
   shared = r.shared;
@@ -164,7 +172,8 @@ within_spent b = record {
   nobody = λ _. refl;
 }
 
-pub rule_spent : (callers turn : ℕ) (homes : List (Home (Option BookSeen))) (views : List PassView) (b : BookSeen) (i : ℕ) (v : PassView) → Rule callers turn homes views b
+pub rule_spent : (callers turn : ℕ) (homes : List (Home (Option BookSeen))) (views : List PassView) (b : BookSeen) (i : ℕ) (v : PassView)
+    → Rule callers turn homes views b
     → get_elem? views i ≡ some v → i ≢ 0 → v.turn ≡ None → Rule callers turn homes (slice_set views i spent) b
 rule_spent callers turn homes views b i v r at later still = record {
   shared = r.shared;
@@ -185,20 +194,24 @@ rule_spent callers turn homes views b i v r at later still = record {
 
 -- ---- a caller's view steps
 
-pub record Steps (callers : ℕ) (views : List PassView) (b : BookSeen) (i : ℕ) (w : PassView) (turn : ℕ) (homes : List (Home (Option BookSeen))) (c : BookSeen) : Type 0 where
+pub record Steps (callers : ℕ) (views : List PassView) (b : BookSeen) (i : ℕ) (w : PassView) (turn : ℕ) (homes : List (Home (Option BookSeen)))
+    (c : BookSeen) : Type 0 where
   pub shared : IsShared callers c
   pub place : Place turn homes (slice_set views i w) c
   pub others : (seat : ℕ) (u : PassView) → seat ≢ i → get_elem? views seat ≡ some u → IsWithin b u → IsWithin c u
   pub within : IsWithin c w
-  pub not_made : (caller : ℕ) → ((seat : ℕ) (u : PassView) → get_elem? views seat ≡ some u → u.caller ≢ Some caller) → (of_caller caller (log_of b) ≡ []) × (open_take b caller ≡ None)
+  pub not_made : (caller : ℕ) → ((seat : ℕ) (u : PassView) → get_elem? views seat ≡ some u → u.caller ≢ Some caller)
+      → (of_caller caller (log_of b) ≡ []) × (open_take b caller ≡ None)
       → (of_caller caller (log_of c) ≡ []) × (open_take c caller ≡ None)
 
-pub unmade_apart : (callers : ℕ) (b : BookSeen) (views : List PassView) (root : IsRoot callers b views) (caller : ℕ) → place_of root.view.passes caller ≡ NotMade
+pub unmade_apart : (callers : ℕ) (b : BookSeen) (views : List PassView) (root : IsRoot callers b views) (caller : ℕ)
+    → place_of root.view.passes caller ≡ NotMade
     → (seat : ℕ) (u : PassView) → get_elem? views seat ≡ some u → u.caller ≢ Some caller
 unmade_apart callers b views root caller unmade seat u at mine =
     let clash : NotMade ≡ Out = sym unmade ∙ root.out seat u at caller mine in absurd (cc)
 
-pub rule_steps : (callers turn : ℕ) (homes : List (Home (Option BookSeen))) (views : List PassView) (b : BookSeen) (i caller : ℕ) (v w : PassView) (turn' : ℕ) (homes' : List (Home (Option BookSeen))) (c : BookSeen)
+pub rule_steps : (callers turn : ℕ) (homes : List (Home (Option BookSeen))) (views : List PassView) (b : BookSeen) (i caller : ℕ) (v w : PassView)
+    (turn' : ℕ) (homes' : List (Home (Option BookSeen))) (c : BookSeen)
     → Rule callers turn homes views b → get_elem? views i ≡ some v → v.caller ≡ Some caller → w.caller ≡ v.caller → Steps callers views b i w turn' homes' c
     → Rule callers turn' homes' (slice_set views i w) c
 rule_steps callers turn homes views b i caller v w turn' homes' c r at mine same new =
@@ -221,7 +234,8 @@ rule_steps callers turn homes views b i caller v w turn' homes' c r at mine same
     }
 
 -- the turn is taken
-pub takes_turn : (callers turn : ℕ) (homes : List (Home (Option BookSeen))) (views : List PassView) (b : BookSeen) (i caller : ℕ) (v : PassView) → Rule callers turn homes views b
+pub takes_turn : (callers turn : ℕ) (homes : List (Home (Option BookSeen))) (views : List PassView) (b : BookSeen) (i caller : ℕ) (v : PassView)
+    → Rule callers turn homes views b
     → IsHome turn homes views b → get_elem? views i ≡ some v → v.caller ≡ Some caller → Rule callers 1 (none ∷ []) (slice_set views i (with_turn b v)) b
 takes_turn callers turn homes views b i caller v r home at mine =
     let old : IsWithin b v = r.within i v at in
@@ -236,7 +250,8 @@ takes_turn callers turn homes views b i caller v r home at mine =
         at = set_there views i v (with_turn b v) at;
         has = refl;
         seen = refl;
-        others = each_others (λ seat u. u.turn ≡ None) (λ seat u. seat ≢ i → u.turn ≡ None) views i (with_turn b v) (λ seat u _ _ free _. free) home.free (λ ne. absurd (ne refl));
+        others = each_others (λ seat u. u.turn ≡ None) (λ seat u. seat ≢ i → u.turn ≡ None) views i (with_turn b v)
+            (λ seat u _ _ free _. free) home.free (λ ne. absurd (ne refl));
       };
       others = λ seat u _ _ within. within;
       within = record {
@@ -249,7 +264,8 @@ takes_turn callers turn homes views b i caller v r home at mine =
     }
 
 -- the turn is given back
-pub gives_turn : (callers turn : ℕ) (homes : List (Home (Option BookSeen))) (views : List PassView) (b : BookSeen) (i caller : ℕ) (v : PassView) → Rule callers turn homes views b
+pub gives_turn : (callers turn : ℕ) (homes : List (Home (Option BookSeen))) (views : List PassView) (b : BookSeen) (i caller : ℕ) (v : PassView)
+    → Rule callers turn homes views b
     → (out : IsOut turn homes views b) → out.holder ≡ i → get_elem? views i ≡ some v → v.caller ≡ Some caller
     → Rule callers 0 (some (Some b) ∷ []) (slice_set views i (without_turn v)) b
 gives_turn callers turn homes views b i caller v r out held at mine =
@@ -259,7 +275,8 @@ gives_turn callers turn homes views b i caller v r out held at mine =
       place = inl record {
         word = refl;
         slot = refl;
-        free = each_others (λ seat u. seat ≢ out.holder → u.turn ≡ None) (λ seat u. u.turn ≡ None) views i (without_turn v) (λ seat u ne _ free. free (λ same. ne (same ∙ held))) out.others refl;
+        free = each_others (λ seat u. seat ≢ out.holder → u.turn ≡ None) (λ seat u. u.turn ≡ None) views i (without_turn v)
+            (λ seat u ne _ free. free (λ same. ne (same ∙ held))) out.others refl;
       };
       others = λ seat u _ _ within. within;
       within = record {
@@ -286,7 +303,8 @@ begins_later b c caller seen more begins =
     subst (λ (log : List SeenEntry). BeginsWith log seen) (sym more.log) (begins_more (log_of b) seen (more.entry ∷ []) begins)
 
 -- the entry is counted
-pub counts : (callers turn : ℕ) (homes : List (Home (Option BookSeen))) (views : List PassView) (b c : BookSeen) (i caller : ℕ) (v : PassView) → Rule callers turn homes views b
+pub counts : (callers turn : ℕ) (homes : List (Home (Option BookSeen))) (views : List PassView) (b c : BookSeen) (i caller : ℕ) (v : PassView)
+    → Rule callers turn homes views b
     → (out : IsOut turn homes views b) → out.holder ≡ i → get_elem? views i ≡ some v → v.caller ≡ Some caller → HasOneMore b caller c
     → Rule callers turn homes (slice_set views i (with_entry c caller v)) c
 counts callers turn homes views b c i caller v r out held at mine more =
@@ -303,7 +321,8 @@ counts callers turn homes views b c i caller v r out held at mine more =
         at = set_there views i v w at;
         has = refl;
         seen = refl;
-        others = each_others (λ seat u. seat ≢ out.holder → u.turn ≡ None) (λ seat u. seat ≢ i → u.turn ≡ None) views i w (λ seat u ne _ free _. free (λ same. ne (same ∙ held))) out.others
+        others = each_others (λ seat u. seat ≢ out.holder → u.turn ≡ None) (λ seat u. seat ≢ i → u.turn ≡ None) views i w
+            (λ seat u ne _ free _. free (λ same. ne (same ∙ held))) out.others
             (λ ne. absurd (ne refl));
       };
       others = λ seat u ne there within. record {

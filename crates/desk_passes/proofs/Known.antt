@@ -48,7 +48,8 @@ held_of other ((slot, None) ∷ rest) = other
 held_of other ((slot, Some b) ∷ rest) = b
 
 -- the count tells the view what it became, and its entry's place
-pub counted_as : (before after : Seated) (caller word : ℕ) (c : BookSeen) → before.0.caller ≡ Some caller → before.1 ≡ (0, Some c) ∷ [] → Counts before word after
+pub counted_as : (before after : Seated) (caller word : ℕ) (c : BookSeen) → before.0.caller ≡ Some caller → before.1 ≡ (0, Some c) ∷ []
+    → Counts before word after
     → (after ≡ (with_entry c caller before.0, (0, Some c) ∷ [])) × (word ≡ length before.0.seen)
 counted_as before after caller word c mine carried told =
     let callers : Some told.1 ≡ Some caller = sym told.2 ∙ mine in
@@ -62,7 +63,8 @@ counted_as before after caller word c mine carried told =
 -- ---- what a call leaves
 
 -- a view with all of a book, as its caller has it
-sees_own : (b : BookSeen) (caller : ℕ) (v w : PassView) → v.caller ≡ Some caller → IsFull b → IsOwn b caller w → w.seen ≡ log_of b → w.caller ≡ v.caller → SeesAll w b
+sees_own : (b : BookSeen) (caller : ℕ) (v w : PassView) → v.caller ≡ Some caller → IsFull b → IsOwn b caller w → w.seen ≡ log_of b
+    → w.caller ≡ v.caller → SeesAll w b
 sees_own b caller v w mine full own seen same = record {
   full = full;
   seen = seen;
@@ -72,7 +74,8 @@ sees_own b caller v w mine full own seen same = record {
       subst (λ (n : ℕ). IsOwn b n w) one own;
 }
 
-pub sees_more : (v : PassView) (b : BookSeen) (caller : ℕ) → v.caller ≡ Some caller → GoesOn v b → SeesAll (with_turn b v) b → SeesMore v (without_turn (with_turn b v))
+pub sees_more : (v : PassView) (b : BookSeen) (caller : ℕ) → v.caller ≡ Some caller → GoesOn v b → SeesAll (with_turn b v) b
+    → SeesMore v (without_turn (with_turn b v))
 sees_more v b caller mine goes sees =
     let own : IsOwn b caller (with_turn b v) = sees.mine caller mine in
     record {
@@ -82,7 +85,8 @@ sees_more v b caller mine goes sees =
       knows = (b, sees_own b caller v (without_turn (with_turn b v)) mine sees.full record { low = own.low; own = own.own; take = own.take } refl refl);
     }
 
-pub adds : (v : PassView) (b c : BookSeen) (caller place : ℕ) (more : HasOneMore b caller c) → v.caller ≡ Some caller → GoesOn v b → SeesAll (with_turn b v) b → place ≡ length (log_of b)
+pub adds : (v : PassView) (b c : BookSeen) (caller place : ℕ) (more : HasOneMore b caller c) → v.caller ≡ Some caller → GoesOn v b
+    → SeesAll (with_turn b v) b → place ≡ length (log_of b)
     → Adds v place more.entry (without_turn (with_entry c caller (with_turn b v)))
 adds v b c caller place more mine goes sees at =
     let own : IsOwn b caller (with_turn b v) = sees.mine caller mine in
@@ -91,9 +95,17 @@ adds v b c caller place more mine goes sees at =
       between = goes.seen.0;
       seen = more.log ∙ ap (λ (log : List SeenEntry). log ++ more.entry ∷ []) goes.seen.1;
       stands = at ∙ ap (λ (log : List SeenEntry). length log) goes.seen.1;
-      own = ap (of_caller caller) more.log ∙ own_mine caller (log_of b) more.entry more.mine ∙ ap (λ (xs : List SeenEntry). xs ++ more.entry ∷ []) (sym own.own);
+      own = ap (of_caller caller) more.log ∙ own_mine caller (log_of b) more.entry more.mine
+          ∙ ap (λ (xs : List SeenEntry). xs ++ more.entry ∷ []) (sym own.own);
       mine = mine ∙ ap (λ (n : ℕ). Some n) (sym more.mine);
-      knows = (c, sees_own c caller v w mine more.full record { low = subst (λ (n : ℕ). caller < n) (sym more.callers) own.low; own = refl; take = refl } refl refl);
+      knows = (
+        c,
+        sees_own c caller v w mine more.full record {
+          low = subst (λ (n : ℕ). caller < n) (sym more.callers) own.low;
+          own = refl;
+          take = refl;
+        } refl refl,
+      );
     }
 
 -- ---- what a call needs
@@ -113,12 +125,14 @@ pub record Ready (b : BookSeen) (caller : ℕ) : Type 0 where
   pub shut : take_of b.takes caller ≡ None
   pub over : next_line b caller ≡ None
 
-pub ready : (v : PassView) (b : BookSeen) (caller : ℕ) → v.caller ≡ Some caller → v.take ≡ None → lines_done v.own < 65536 → SeesAll (with_turn b v) b → Ready b caller
+pub ready : (v : PassView) (b : BookSeen) (caller : ℕ) → v.caller ≡ Some caller → v.take ≡ None → lines_done v.own < 65536
+    → SeesAll (with_turn b v) b → Ready b caller
 ready v b caller mine shut room sees =
     let own : IsOwn b caller (with_turn b v) = sees.mine caller mine in
     let empty : take_of b.takes caller ≡ None = none_open (line_next b caller) (take_of b.takes caller) (sym own.take ∙ shut) in
     let done : lines_done v.own ≡ done_of caller b.history = ap lines_done own.own ∙ done_lined b.scripts caller b.history in
-    let all : length (script_of b.scripts caller) ≡ done_of caller b.history + 0 = sees.full.each caller ∙ ap (λ (o : Option TakenParts). done_of caller b.history + begun o) empty in
+    let all : length (script_of b.scripts caller) ≡ done_of caller b.history + 0 = sees.full.each caller
+    ∙ ap (λ (o : Option TakenParts). done_of caller b.history + begun o) empty in
     record {
       low = own.low;
       room = omega (arith, room, done, all);
@@ -127,7 +141,8 @@ ready v b caller mine shut room sees =
     }
 
 -- a call of a line
-pub is_called : (v : PassView) (b c : BookSeen) (caller place : ℕ) (line : ScriptLine) (answer : BookCall) → v.caller ≡ Some caller → GoesOn v b → SeesAll (with_turn b v) b
+pub is_called : (v : PassView) (b c : BookSeen) (caller place : ℕ) (line : ScriptLine) (answer : BookCall) → v.caller ≡ Some caller → GoesOn v b
+    → SeesAll (with_turn b v) b
     → place ≡ length (log_of b) → Called b caller line answer c
     → IsCalled v line (answered answer record { place = place }) (without_turn (with_entry c caller (with_turn b v)))
 is_called v b c caller place line call.Replied mine goes sees at called =
@@ -145,7 +160,8 @@ open_is line (Some taken) t h =
     (ap (λ (x : OpenTake). Some x.taken) is, ap (λ (x : OpenTake). x.line) is)
 
 -- what a pass has open was taken by its caller from the book
-pub taken_open : (v : PassView) (b : BookSeen) (caller : ℕ) (t : OpenTake) → SeesAll v b → v.caller ≡ Some caller → v.take ≡ Some t → take_of b.takes caller ≡ Some t.taken
+pub taken_open : (v : PassView) (b : BookSeen) (caller : ℕ) (t : OpenTake) → SeesAll v b → v.caller ≡ Some caller → v.take ≡ Some t
+    → take_of b.takes caller ≡ Some t.taken
 taken_open v b caller t sees mine is =
     let own : IsOwn b caller v = sees.mine caller mine in (open_is (line_next b caller) (take_of b.takes caller) t (sym own.take ∙ is)).0
 
@@ -157,7 +173,8 @@ pub record Open (v : PassView) (b : BookSeen) (caller : ℕ) (solved : SolvedTak
   pub is_open : v.take ≡ Some take
   pub line : take.line ≡ line_next b caller
 
-pub opened : (v : PassView) (b : BookSeen) (caller : ℕ) (solved : SolvedTake) → v.caller ≡ Some caller → SeesAll (with_turn b v) b → IsForTake v solved → Open v b caller solved
+pub opened : (v : PassView) (b : BookSeen) (caller : ℕ) (solved : SolvedTake) → v.caller ≡ Some caller → SeesAll (with_turn b v) b
+    → IsForTake v solved → Open v b caller solved
 opened v b caller solved mine sees is =
     let own : IsOwn b caller (with_turn b v) = sees.mine caller mine in
     let found = open_is (line_next b caller) (take_of b.takes caller) is.0 (sym own.take ∙ is.1) in
@@ -173,7 +190,8 @@ opened v b caller solved mine sees is =
     }
 
 -- what was found for the open Take is always published
-pub replies : (b : BookSeen) (solved : SolvedTake) (answer : PublishStep) (c : BookSeen) → take_of b.takes solved.taken.caller ≡ Some solved.taken → IsAnswered b solved answer c
+pub replies : (b : BookSeen) (solved : SolvedTake) (answer : PublishStep) (c : BookSeen) → take_of b.takes solved.taken.caller ≡ Some solved.taken
+    → IsAnswered b solved answer c
     → (e : EventEntry) × (answer ≡ publish.Replied e) × IsBookPublished b solved e c
 replies b solved (publish.Replied e) c kept is = (e, refl, is)
 replies b solved publish.NotTaken c kept is = let clash : None ≡ Some solved.taken = sym is.0 ∙ kept in absurd (cc)
@@ -183,7 +201,8 @@ pub none_else : (answer : PublishStep) (e : EventEntry) → answer ≡ publish.R
 none_else answer e is (inl other) = let clash : publish.Replied e ≡ publish.NotTaken = sym is ∙ other in absurd (cc)
 none_else answer e is (inr other) = let clash : publish.Replied e ≡ publish.OtherTake = sym is ∙ other in absurd (cc)
 
-pub is_published : (v : PassView) (b c : BookSeen) (caller place : ℕ) (solved : SolvedTake) (t : OpenTake) → v.caller ≡ Some caller → GoesOn v b → SeesAll (with_turn b v) b → place ≡ length (log_of b)
+pub is_published : (v : PassView) (b c : BookSeen) (caller place : ℕ) (solved : SolvedTake) (t : OpenTake) → v.caller ≡ Some caller → GoesOn v b
+    → SeesAll (with_turn b v) b → place ≡ length (log_of b)
     → v.take ≡ Some t → t.line ≡ line_next b caller → Published b caller solved c
     → IsPublished v solved place (without_turn (with_entry c caller (with_turn b v)))
 is_published v b c caller place solved t mine goes sees at is line p = (
@@ -211,7 +230,8 @@ entry_there scripts None x h = cc
 entry_there scripts (Some e) x h = let is : with_line_of scripts e ≡ x = cc in ap (λ (y : SeenEntry). Some y.entry) is
 
 -- the entry at a place that was seen is the book's
-pub seen_entry : (v : PassView) (b : BookSeen) (place : ℕ) → GoesOn v b → place < length v.seen → (x : SeenEntry) × (slice_get v.seen place ≡ Some x) × (slice_get b.history place ≡ Some x.entry)
+pub seen_entry : (v : PassView) (b : BookSeen) (place : ℕ) → GoesOn v b → place < length v.seen → (x : SeenEntry) × (slice_get v.seen place ≡ Some x)
+    × (slice_get b.history place ≡ Some x.entry)
 seen_entry v b place goes low =
     let it = at_place v.seen goes.seen.0 place low in (
       it.0,
@@ -220,7 +240,8 @@ seen_entry v b place goes low =
           (sym (slice_get-map (with_line_of b.scripts) b.history place) ∙ ap (λ (log : List SeenEntry). slice_get log place) goes.seen.1 ∙ it.2),
     )
 
-pub writes : (r : Result (Unit {0}) AllocError) (v : PassView) (b : BookSeen) (place : ℕ) (e : EventEntry) (old new : List ℕ) → GoesOn v b → place < length v.seen
+pub writes : (r : Result (Unit {0}) AllocError) (v : PassView) (b : BookSeen) (place : ℕ) (e : EventEntry) (old new : List ℕ)
+    → GoesOn v b → place < length v.seen
     → Some e ≡ slice_get b.history place → OnOk r (new ≡ old ++ text_of_entry e) → OnOk r (WritesEntry v place old new)
 writes (Err x) v b place e old new goes low there written = tt
 writes (Ok x) v b place e old new goes low there written =
@@ -231,13 +252,16 @@ writes (Ok x) v b place e old new goes low there written =
 
 -- ---- the end
 
-closed_slot : {callers : ℕ} {v : PassView} {slots : List (Option BookSeen)} (c : Closes callers v slots) (r : Option BookSeen) → get_elem? slots 0 ≡ some r → Some c.book ≡ r
+closed_slot : {callers : ℕ} {v : PassView} {slots : List (Option BookSeen)} (c : Closes callers v slots) (r : Option BookSeen)
+    → get_elem? slots 0 ≡ some r → Some c.book ≡ r
 closed_slot c r at = some-injective (Some c.book) r (sym c.slot ∙ at)
 
-pub closed_none : {callers : ℕ} {v : PassView} {slots : List (Option BookSeen)} (c : Closes callers v slots) (r : Option BookSeen) → get_elem? slots 0 ≡ some r → r ≡ None → ⊥
+pub closed_none : {callers : ℕ} {v : PassView} {slots : List (Option BookSeen)} (c : Closes callers v slots) (r : Option BookSeen)
+    → get_elem? slots 0 ≡ some r → r ≡ None → ⊥
 closed_none c r at empty = let clash : Some c.book ≡ None = closed_slot c r at ∙ empty in absurd (cc)
 
-pub closed_book : {callers : ℕ} {v : PassView} {slots : List (Option BookSeen)} (c : Closes callers v slots) (r : Option BookSeen) (book : BookSeen) → get_elem? slots 0 ≡ some r → r ≡ Some book
+pub closed_book : {callers : ℕ} {v : PassView} {slots : List (Option BookSeen)} (c : Closes callers v slots) (r : Option BookSeen) (book : BookSeen)
+    → get_elem? slots 0 ≡ some r → r ≡ Some book
     → (length book.scripts ≡ callers) × (v.seen ≡ log_of book) × EachHasEntry book
 closed_book {callers} {v} {slots} c r book at is =
     let both : Some c.book ≡ Some book = closed_slot c r at ∙ is in

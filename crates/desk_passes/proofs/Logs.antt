@@ -1,5 +1,6 @@
 -- Lists of entries with their lines.
-use Rattle.std.proofs.Common.{◌≡◌, ◌≢◌, ℕ, ◌+◌, List, [], ◌∷◌, ◌++◌, length, Bool, true, false, cond, ◌==◌, refl, sym, ◌∙◌, ap, append-nil, append_assoc, count_by}
+use Rattle.std.proofs.Common.{◌≡◌, ◌≢◌, ℕ, ◌+◌, List, [], ◌∷◌, ◌++◌, length, Bool, true, false, cond, ◌==◌, refl, sym, ◌∙◌, ap, append-nil}
+use Rattle.std.proofs.Common.{append_assoc, count_by}
 use Rattle.std.proofs.lemmas.Bool.{ne_eqb, eq-eqb}
 use Rattle.std.proofs.lemmas.List.{map-append, length-map}
 use Rattle.std.proofs.lemmas.List.Elements.{filter-append}
@@ -43,7 +44,8 @@ own_other caller log x is =
     ∙ ap (λ (xs : List SeenEntry). of_caller caller log ++ xs) (alone_other (x.entry.caller == caller) x (ne_eqb x.entry.caller caller is))
     ∙ append-nil (of_caller caller log)
 
-pub lined_more : (scripts : List (List ScriptLine)) (history : List EventEntry) (e : EventEntry) → lined scripts (history ++ e ∷ []) ≡ lined scripts history ++ with_line_of scripts e ∷ []
+pub lined_more : (scripts : List (List ScriptLine)) (history : List EventEntry) (e : EventEntry)
+    → lined scripts (history ++ e ∷ []) ≡ lined scripts history ++ with_line_of scripts e ∷ []
 lined_more scripts history e = map-append (with_line_of scripts) history (e ∷ [])
 
 pub length_lined : (scripts : List (List ScriptLine)) (history : List EventEntry) → length (lined scripts history) ≡ length history
@@ -57,14 +59,16 @@ done_one_more log x = sum_by_push (λ y. cond (ends_line y.entry.what) 1 0) log 
 abbrev ends : List EventEntry → ℕ
 ends es = count_by (λ e. ends_line e.what) es
 
-done_each : (b : Bool) (x : SeenEntry) (xs : List SeenEntry) (es : List EventEntry) → lines_done xs ≡ ends es → lines_done (cond b (x ∷ xs) xs) ≡ ends (cond b (x.entry ∷ es) es)
+done_each : (b : Bool) (x : SeenEntry) (xs : List SeenEntry) (es : List EventEntry) → lines_done xs ≡ ends es
+    → lines_done (cond b (x ∷ xs) xs) ≡ ends (cond b (x.entry ∷ es) es)
 done_each true x xs es h =
     sum_by-cons (λ y. cond (ends_line y.entry.what) 1 0) x xs
     ∙ ap (λ (n : ℕ). cond (ends_line x.entry.what) 1 0 + n) h
     ∙ sym (sum_by-cons (λ e. cond (ends_line e.what) 1 0) x.entry es)
 done_each false x xs es h = h
 
-pub done_lined : (scripts : List (List ScriptLine)) (caller : ℕ) (history : List EventEntry) → lines_done (of_caller caller (lined scripts history)) ≡ done_of caller history
+pub done_lined : (scripts : List (List ScriptLine)) (caller : ℕ) (history : List EventEntry)
+    → lines_done (of_caller caller (lined scripts history)) ≡ done_of caller history
 done_lined scripts caller [] = refl
 done_lined scripts caller (e ∷ es) =
     done_each (e.caller == caller) (with_line_of scripts e) (of_caller caller (lined scripts es)) (entries_of caller es) (done_lined scripts caller es)

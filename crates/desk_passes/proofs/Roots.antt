@@ -1,5 +1,6 @@
 -- The root's passes are made and come back: that keeps the rule.
-use Rattle.std.proofs.Common.{true, false, ◌≡◌, ◌≢◌, ℕ, zero, suc, ◌<◌, List, [], ◌∷◌, ◌++◌, refl, sym, ◌∙◌, ap, subst, arith, Option, Some, None, slice_set, length}
+use Rattle.std.proofs.Common.{true, false, ◌≡◌, ◌≢◌, ℕ, zero, suc, ◌<◌, List, [], ◌∷◌, ◌++◌, refl, sym, ◌∙◌, ap, subst, arith, Option, Some, None}
+use Rattle.std.proofs.Common.{slice_set, length}
 use Rattle.std.proofs.Common.{length-set, get_or-set_same, get_or-set_other}
 use mathlib.Core.Option.{Option as Home, some}
 use lib.ListN.{get_elem?}
@@ -23,7 +24,8 @@ place_low (x ∷ xs) zero h = omega arith
 place_low (x ∷ xs) (suc n) h = let less : n < length xs = place_low xs n h in omega arith
 
 -- a caller's pass is made
-pub makes_pass : (callers turn : ℕ) (homes : List (Home (Option BookSeen))) (views : List PassView) (b : BookSeen) (caller : ℕ) (v : PassView) → Rule callers turn homes views b
+pub makes_pass : (callers turn : ℕ) (homes : List (Home (Option BookSeen))) (views : List PassView) (b : BookSeen) (caller : ℕ) (v : PassView)
+    → Rule callers turn homes views b
     → get_elem? views 0 ≡ some v → place_of v.passes caller ≡ NotMade
     → Rule callers turn homes (slice_set views 0 (with_pass_out caller v) ++ new_pass caller v ∷ []) b
 makes_pass callers turn homes views b caller v r at unmade =
@@ -40,7 +42,8 @@ makes_pass callers turn homes views b caller v r at unmade =
     let unmade' : place_of r.root.view.passes caller ≡ NotMade = sym (ap (λ (ps : List PassPlace). place_of ps caller) passes) ∙ unmade in
     let unheld : EachView (λ seat x. x.caller ≢ Some caller) views = unmade_apart callers b views r.root caller unmade' in
     let mid : List PassView = slice_set views 0 w in
-    let none_mid : EachView (λ seat x. x.caller ≢ Some caller) mid = each_set (λ seat x. x.caller ≢ Some caller) views 0 w unheld (λ mine. no_some v.caller caller nobody mine) in
+    let none_mid : EachView (λ seat x. x.caller ≢ Some caller) mid =
+    each_set (λ seat x. x.caller ≢ Some caller) views 0 w unheld (λ mine. no_some v.caller caller nobody mine) in
     record {
       shared = r.shared;
       place = place_more turn homes mid b u refl (place_put turn homes views b 0 v w at still still r.place);
@@ -72,19 +75,22 @@ makes_pass callers turn homes views b caller v r at unmade =
             (each_set (λ seat x. (caller' : ℕ) → x.caller ≡ Some caller' → place_of w.passes caller' ≡ Out) views 0 w
             (λ seat x there caller' mine.
             let ne : caller' ≢ caller = λ same. unheld seat x there (mine ∙ ap (λ (n : ℕ). Some n) same) in
-            get_or-set_other v.passes caller caller' Out Back ne ∙ ap (λ (ps : List PassPlace). place_of ps caller') passes ∙ r.root.out seat x there caller' mine)
+            get_or-set_other v.passes caller caller' Out Back ne ∙ ap (λ (ps : List PassPlace). place_of ps caller') passes
+            ∙ r.root.out seat x there caller' mine)
             (λ caller' mine. no_some v.caller caller' nobody mine))
             (λ caller' mine. let one : caller ≡ caller' = cc in subst (λ (n : ℕ). place_of w.passes n ≡ Out) one here);
         not_made = λ caller' unmade''.
             let ne : caller' ≢ caller = λ same.
             let clash : Out ≡ NotMade = sym here ∙ ap (place_of w.passes) (sym same) ∙ unmade'' in absurd (cc) in
-            r.root.not_made caller' (sym (ap (λ (ps : List PassPlace). place_of ps caller') passes) ∙ sym (get_or-set_other v.passes caller caller' Out Back ne) ∙ unmade'');
+            r.root.not_made caller' (sym (ap (λ (ps : List PassPlace). place_of ps caller') passes)
+            ∙ sym (get_or-set_other v.passes caller caller' Out Back ne) ∙ unmade'');
         all = λ looked back. absurd (back caller here);
       };
     }
 
 -- the root is told of a pass that is back, which is no view's any more
-pub takes_back : (callers turn : ℕ) (homes : List (Home (Option BookSeen))) (views : List PassView) (b : BookSeen) (caller : ℕ) (v w : PassView) → Rule callers turn homes views b
+pub takes_back : (callers turn : ℕ) (homes : List (Home (Option BookSeen))) (views : List PassView) (b : BookSeen) (caller : ℕ) (v w : PassView)
+    → Rule callers turn homes views b
     → get_elem? views 0 ≡ some v → EachView (λ seat u. u.caller ≢ Some caller) views → caller < callers
     → w.caller ≡ v.caller → w.turn ≡ v.turn → w.passes ≡ slice_set v.passes caller Back → w.looked ≡ false → IsWithin b w
     → Rule callers turn homes (slice_set views 0 w) b
@@ -95,8 +101,10 @@ takes_back callers turn homes views b caller v w r at unheld low same turned bac
     let count : length v.passes ≡ callers = ap (λ (x : PassView). length x.passes) (sym is) ∙ r.root.count in
     let passes : v.passes ≡ r.root.view.passes = ap (λ (x : PassView). x.passes) (sym is) in
     let others : (other : ℕ) → other ≢ caller → place_of w.passes other ≡ place_of r.root.view.passes other = λ other ne.
-    ap (λ (ps : List PassPlace). place_of ps other) back ∙ get_or-set_other v.passes caller other Back Back ne ∙ ap (λ (ps : List PassPlace). place_of ps other) passes in
-    let here : place_of w.passes caller ≡ Back = ap (λ (ps : List PassPlace). place_of ps caller) back ∙ get_or-set_same v.passes caller Back Back (omega (arith, low, count)) in
+    ap (λ (ps : List PassPlace). place_of ps other) back ∙ get_or-set_other v.passes caller other Back Back ne
+    ∙ ap (λ (ps : List PassPlace). place_of ps other) passes in
+    let here : place_of w.passes caller ≡ Back = ap (λ (ps : List PassPlace). place_of ps caller) back
+    ∙ get_or-set_same v.passes caller Back Back (omega (arith, low, count)) in
     record {
       shared = r.shared;
       place = place_put turn homes views b 0 v w at still (turned ∙ still) r.place;

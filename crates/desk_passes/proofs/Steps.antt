@@ -1,5 +1,6 @@
 -- What the table asks of each step.
-use Rattle.std.proofs.Common.{true, ◌≡◌, ◌≢◌, ℕ, zero, suc, ◌+◌, ◌%◌, ◌^◌, ◌<◌, List, [], ◌∷◌, ◌++◌, refl, sym, ◌∙◌, ap, subst, ◌⊎◌, inl, inr, arith, Option, Some, None, slice_set, slice_index, length, mod-eq_of_lt}
+use Rattle.std.proofs.Common.{true, ◌≡◌, ◌≢◌, ℕ, zero, suc, ◌+◌, ◌%◌, ◌^◌, ◌<◌, List, [], ◌∷◌, ◌++◌, refl, sym, ◌∙◌, ap, subst, ◌⊎◌, inl, inr, arith}
+use Rattle.std.proofs.Common.{Option, Some, None, slice_set, slice_index, length, mod-eq_of_lt}
 use Rattle.std.specs.Prelude.{replicate}
 use Rattle.std.proofs.Common.{length-append, ◌≤◌}
 use Rattle.std.proofs.lemmas.List.{length-replicate}
@@ -18,7 +19,8 @@ use Rattle.desk_passes.specs.Seen.{log_of, open_with, line_next, EachHasEntry}
 use Rattle.desk_passes.specs.Knowing.{IsFull, IsOwn, SeesAll}
 use Rattle.desk_passes.specs.Plays.{Seated, GoesOn, Looks, GetsTurn, TriesTurn, Counts, GivesTurn}
 use Rattle.desk_passes.specs.Rule.{EachIsBack, EachView, IsHome, IsOut, IsWithin, place_of, Rule, RuleHolds}
-use Rattle.desk_passes.specs.Steps.{spent, first_view, having_seen, with_turn, with_entry, without_turn, with_pass_out, new_pass, copied, informed, with_back, with_pass_back}
+use Rattle.desk_passes.specs.Steps.{spent, first_view, having_seen, with_turn, with_entry, without_turn, with_pass_out, new_pass, copied, informed}
+use Rattle.desk_passes.specs.Steps.{with_back, with_pass_back}
 use Rattle.desk_passes.specs.Turns.{HasOneMore, HasEntry}
 use Rattle.desk_passes.proofs.Logs.{begins_same, begins_none, length_lined}
 use Rattle.desk_passes.proofs.Views.{each_others, swap_first}
@@ -82,7 +84,13 @@ module _ (callers : ℕ) (s : State (Option BookSeen) PassView) (id : ℕ) (me :
             passes = refl;
             still = still;
             stays = still;
-            within = record { seen = begins_same (log_of b); told = begins_none (log_of b); mine = λ c is. let it : IsOwn b c v = within.mine c is in record { low = it.low; own = it.own; take = it.take }; nobody = λ _. still };
+            within = record {
+              seen = begins_same (log_of b);
+              told = begins_none (log_of b);
+              mine = λ c is. let it : IsOwn b c v = within.mine c is in
+                  record { low = it.low; own = it.own; take = it.take };
+              nobody = λ _. still;
+            };
             all = λ _ _ _. refl;
           };
         },
@@ -100,7 +108,8 @@ module _ (callers : ℕ) (s : State (Option BookSeen) PassView) (id : ℕ) (me :
           book = b;
           turn = 1;
           words = ap (λ (ws : List ℕ). slice_set ws 1 1) h.words;
-          rule = subst (λ (hs : List (Home (Option BookSeen))). Rule callers 1 hs (slice_set s.views id w) b) (ap (λ (hs : List (Home (Option BookSeen))). slice_set hs 0 none) (sym home.slot))
+          rule = subst (λ (hs : List (Home (Option BookSeen))). Rule callers 1 hs (slice_set s.views id w) b)
+              (ap (λ (hs : List (Home (Option BookSeen))). slice_set hs 0 none) (sym home.slot))
               (takes_turn callers h.turn s.homes s.views b id caller v h.rule home at mine);
         },
         (b, refl, goes_on b v within, sees_all w refl refl refl refl),
@@ -164,7 +173,8 @@ module _ (callers : ℕ) (s : State (Option BookSeen) PassView) (id : ℕ) (me :
       let w : PassView = without_turn v in
       let held = holder_out h.turn s.homes s.views b c id v at has h.rule.place in
       let homes : put_back s.homes me.1 ≡ some (Some b) ∷ [] =
-      ap (put_back s.homes) carried ∙ ap (λ (hs : List (Home (Option BookSeen))). slice_set hs 0 (some (Some c))) held.0.slot ∙ ap (λ (x : BookSeen). some (Some x) ∷ []) (sym held.3) in (
+      ap (put_back s.homes) carried ∙ ap (λ (hs : List (Home (Option BookSeen))). slice_set hs 0 (some (Some c))) held.0.slot
+      ∙ ap (λ (x : BookSeen). some (Some x) ∷ []) (sym held.3) in (
         w,
         gives,
         tt,
@@ -180,16 +190,23 @@ module _ (callers : ℕ) (s : State (Option BookSeen) PassView) (id : ℕ) (me :
 
 -- ---- views are cut in two, and put together
 
-splits_pass : (callers : ℕ) (s : State (Option BookSeen) PassView) (v : PassView) (caller : ℕ) → place_of v.passes caller ≡ NotMade → RuleHolds callers s → get_elem? s.views 0 ≡ some v
+splits_pass : (callers : ℕ) (s : State (Option BookSeen) PassView) (v : PassView) (caller : ℕ) → place_of v.passes caller ≡ NotMade
+    → RuleHolds callers s → get_elem? s.views 0 ≡ some v
     → RuleHolds callers record { words = s.words; homes = s.homes; views = slice_set s.views 0 (with_pass_out caller v) ++ new_pass caller v ∷ [] }
 splits_pass callers s v caller unmade h at =
     record { book = h.book; turn = h.turn; words = h.words; rule = makes_pass callers h.turn s.homes s.views h.book caller v h.rule at unmade }
 
-pub splits_pass_at : (callers : ℕ) (s : State (Option BookSeen) PassView) (id : ℕ) (v : PassView) (caller : ℕ) → id ≡ 0 → place_of v.passes caller ≡ NotMade → RuleHolds callers s
+pub splits_pass_at : (callers : ℕ) (s : State (Option BookSeen) PassView) (id : ℕ) (v : PassView) (caller : ℕ) → id ≡ 0
+    → place_of v.passes caller ≡ NotMade → RuleHolds callers s
     → get_elem? s.views id ≡ some v
     → RuleHolds callers record { words = s.words; homes = s.homes; views = slice_set s.views id (with_pass_out caller v) ++ new_pass caller v ∷ [] }
 splits_pass_at callers s id v caller first unmade h at =
-    subst (λ (k : ℕ). RuleHolds callers record { words = s.words; homes = s.homes; views = slice_set s.views k (with_pass_out caller v) ++ new_pass caller v ∷ [] }) (sym first)
+    subst (λ (k : ℕ). RuleHolds callers record {
+      words = s.words;
+      homes = s.homes;
+      views = slice_set s.views k (with_pass_out caller v)
+          ++ new_pass caller v ∷ [];
+    }) (sym first)
     (splits_pass callers s v caller unmade h (subst (λ (k : ℕ). get_elem? s.views k ≡ some v) first at))
 
 pub splits_note : (callers : ℕ) (s : State (Option BookSeen) PassView) (id : ℕ) (v : PassView) → RuleHolds callers s → get_elem? s.views id ≡ some v
@@ -220,7 +237,8 @@ informed_within b v w old other = record {
   nobody = old.nobody;
 }
 
-pub joins_note : (callers : ℕ) (s : State (Option BookSeen) PassView) (id other : ℕ) (v w : PassView) → v.turn ≡ None → w.caller ≡ None → w.passes ≡ [] → RuleHolds callers s
+pub joins_note : (callers : ℕ) (s : State (Option BookSeen) PassView) (id other : ℕ) (v w : PassView) → v.turn ≡ None → w.caller ≡ None
+    → w.passes ≡ [] → RuleHolds callers s
     → get_elem? s.views id ≡ some v → ¬ (other ≡ id) → get_elem? (slice_set s.views id (informed v w)) other ≡ some w
     → RuleHolds callers record { words = s.words; homes = s.homes; views = slice_set (slice_set s.views id (informed v w)) other spent }
 joins_note callers s id other v w still nobody no_passes h at ne there =
@@ -250,7 +268,8 @@ joins_note callers s id other v w still nobody no_passes h at ne there =
       rule = rule_spent callers h.turn s.homes (slice_set s.views id both) b other w mid there later (within.nobody nobody);
     }
 
-pub joins_pass : (callers : ℕ) (s : State (Option BookSeen) PassView) (id other caller : ℕ) (v w : PassView) → id ≡ 0 → w.caller ≡ Some caller → w.turn ≡ None → RuleHolds callers s
+pub joins_pass : (callers : ℕ) (s : State (Option BookSeen) PassView) (id other caller : ℕ) (v w : PassView) → id ≡ 0 → w.caller ≡ Some caller
+    → w.turn ≡ None → RuleHolds callers s
     → get_elem? s.views id ≡ some v → ¬ (other ≡ id) → get_elem? (slice_set s.views id (with_pass_back v w)) other ≡ some w
     → RuleHolds callers record { words = s.words; homes = s.homes; views = slice_set (slice_set s.views id (with_pass_back v w)) other spent }
 joins_pass callers s id other caller v w first mine still h at ne there =
@@ -278,7 +297,8 @@ joins_pass callers s id other caller v w first mine still h at ne there =
       turn = h.turn;
       words = h.words;
       rule = subst (λ (vs : List PassView). Rule callers h.turn s.homes vs b) (sym swapped)
-          (takes_back callers h.turn s.homes views b caller v both mid (set_else s.views other 0 spent (λ e. later (sym e)) ∙ at') unheld (subst (λ (n : ℕ). caller < n) h.rule.shared.count own.low)
+          (takes_back callers h.turn s.homes views b caller v both mid (set_else s.views other 0 spent (λ e. later (sym e)) ∙ at') unheld
+          (subst (λ (n : ℕ). caller < n) h.rule.shared.count own.low)
           refl refl (ap (with_back v.passes) mine) refl
           record {
             seen = old.seen;
@@ -337,19 +357,22 @@ pub record Closes (callers : ℕ) (v : PassView) (slots : List (Option BookSeen)
   pub seen : v.seen ≡ log_of book
   pub each : EachHasEntry book
 
-nobody_out : (callers turn : ℕ) (homes : List (Home (Option BookSeen))) (views : List PassView) (b : BookSeen) (v : PassView) → Rule callers turn homes views b → get_elem? views 0 ≡ some v
+nobody_out : (callers turn : ℕ) (homes : List (Home (Option BookSeen))) (views : List PassView) (b : BookSeen) (v : PassView)
+    → Rule callers turn homes views b → get_elem? views 0 ≡ some v
     → EachIsBack v → (out : IsOut turn homes views b) → (o : Option ℕ) → out.view.caller ≡ o → ⊥
 nobody_out callers turn homes views b v r at back out None is = no_some out.view.turn b ((r.within out.holder out.view out.at).nobody is) out.has
 nobody_out callers turn homes views b v r at back out (Some caller) is =
     let one : r.root.view ≡ v = same_there views 0 r.root.view v r.root.at at in
     back caller (ap (λ (u : PassView). place_of u.passes caller) (sym one) ∙ r.root.out out.holder out.view out.at caller is)
 
-at_home : (callers turn : ℕ) (homes : List (Home (Option BookSeen))) (views : List PassView) (b : BookSeen) (v : PassView) → Rule callers turn homes views b → get_elem? views 0 ≡ some v
+at_home : (callers turn : ℕ) (homes : List (Home (Option BookSeen))) (views : List PassView) (b : BookSeen) (v : PassView)
+    → Rule callers turn homes views b → get_elem? views 0 ≡ some v
     → EachIsBack v → IsHome turn homes views b ⊎ IsOut turn homes views b → IsHome turn homes views b
 at_home callers turn homes views b v r at back (inl home) = home
 at_home callers turn homes views b v r at back (inr out) = absurd (nobody_out callers turn homes views b v r at back out out.view.caller refl)
 
-pub closes : (callers : ℕ) (v : PassView) (id : ℕ) (words : List ℕ) (slots : List (Option BookSeen)) → id ≡ 0 → v.looked ≡ true → EachIsBack v → Final (Seen (RuleHolds callers) id v) words slots
+pub closes : (callers : ℕ) (v : PassView) (id : ℕ) (words : List ℕ) (slots : List (Option BookSeen)) → id ≡ 0 → v.looked ≡ true → EachIsBack v
+    → Final (Seen (RuleHolds callers) id v) words slots
     → Closes callers v slots
 closes callers v id words slots first looked back final =
     let s : State (Option BookSeen) PassView = final.0 in
@@ -360,6 +383,7 @@ closes callers v id words slots first looked back final =
       book = h.book;
       slot = final.4 0 (Some h.book) (subst (λ (hs : List (Home (Option BookSeen))). get_elem? hs 0 ≡ some (some (Some h.book))) (sym home.slot) refl);
       count = h.rule.shared.count;
-      seen = (subst (λ (u : PassView). u.looked ≡ true → EachIsBack u → u.seen ≡ log_of h.book) (same_there s.views 0 h.rule.root.view v h.rule.root.at at) h.rule.root.all) looked back;
+      seen = (subst (λ (u : PassView). u.looked ≡ true → EachIsBack u → u.seen ≡ log_of h.book)
+          (same_there s.views 0 h.rule.root.view v h.rule.root.at at) h.rule.root.all) looked back;
       each = h.rule.shared.full.each;
     }

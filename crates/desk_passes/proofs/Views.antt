@@ -59,9 +59,11 @@ swap_first (x ∷ xs) (suc i) v w ne = refl
 abbrev KeepsCaller : PassView → PassView → Type 0
 KeepsCaller v w = (caller : ℕ) → w.caller ≡ Some caller → v.caller ≡ Some caller
 
-pub apart_set : (views : List PassView) (i : ℕ) (v w : PassView) → AreApart views → get_elem? views i ≡ some v → KeepsCaller v w → AreApart (slice_set views i w)
+pub apart_set : (views : List PassView) (i : ℕ) (v w : PassView) → AreApart views → get_elem? views i ≡ some v → KeepsCaller v w
+    → AreApart (slice_set views i w)
 apart_set views i v w apart at keeps =
-    each_others (λ seat u. Unit {0}) (λ j x. EachView (λ k y. (caller : ℕ) → x.caller ≡ Some caller → y.caller ≡ Some caller → j ≡ k) (slice_set views i w)) views i w
+    each_others (λ seat u. Unit {0})
+    (λ j x. EachView (λ k y. (caller : ℕ) → x.caller ≡ Some caller → y.caller ≡ Some caller → j ≡ k) (slice_set views i w)) views i w
     (λ j x ne there _.
     each_others (λ seat u. Unit {0}) (λ k y. (caller : ℕ) → x.caller ≡ Some caller → y.caller ≡ Some caller → j ≡ k) views i w
     (λ k y _ there' _ caller a b. apart j x there k y there' caller a b)
@@ -74,7 +76,8 @@ apart_set views i v w apart at keeps =
     (λ caller a b. refl))
 
 -- one view more, of a caller that no other is of
-pub apart_more : (views : List PassView) (u : PassView) → AreApart views → ((caller : ℕ) → u.caller ≡ Some caller → EachView (λ seat v. v.caller ≢ Some caller) views)
+pub apart_more : (views : List PassView) (u : PassView) → AreApart views
+    → ((caller : ℕ) → u.caller ≡ Some caller → EachView (λ seat v. v.caller ≢ Some caller) views)
     → AreApart (views ++ u ∷ [])
 apart_more views u apart new =
     each_more (λ j x. EachView (λ k y. (caller : ℕ) → x.caller ≡ Some caller → y.caller ≡ Some caller → j ≡ k) (views ++ u ∷ [])) views u

@@ -26,7 +26,8 @@ use Rattle.desk_runs.proofs.Single.{change_where, all_later}
 use Rattle.desk_runs.proofs.Adding.{pending_low, new_free}
 
 -- the next group is the same where the same numbers are taken
-same_next : (op : Op) (asks : List Ask) (s t : Progress) → length t.groups ≡ length s.groups → length (requests_of t.groups) ≡ length (requests_of s.groups) → next_group op asks t ≡ next_group op asks s
+same_next : (op : Op) (asks : List Ask) (s t : Progress) → length t.groups ≡ length s.groups
+    → length (requests_of t.groups) ≡ length (requests_of s.groups) → next_group op asks t ≡ next_group op asks s
 same_next op asks s t g r =
     ap (λ (n : ℕ). let x : Group = record { number = record { 0 = n + 1 }; op = op; requests = requests_from (length (requests_of t.groups) + 1) asks } in x) g
     ∙ ap (λ (n : ℕ). let x : Group = record { number = record { 0 = length s.groups + 1 }; op = op; requests = requests_from (n + 1) asks } in x) r
@@ -42,14 +43,18 @@ or_false true = refl
 or_false false = refl
 
 -- the new group has none of the requests before it
-not_new : (op : Op) (asks : List Ask) (s : Progress) (gs : List Group) (number : RequestNo) → number.0 ≤ length (requests_of s.groups) → is_pending_at (gs ++ next_group op asks s ∷ []) number ≡ is_pending_at gs number
+not_new : (op : Op) (asks : List Ask) (s : Progress) (gs : List Group) (number : RequestNo) → number.0 ≤ length (requests_of s.groups)
+    → is_pending_at (gs ++ next_group op asks s ∷ []) number ≡ is_pending_at gs number
 not_new op asks s gs number low =
     let has : Group → Bool = λ g. list_any (λ q. is_request number q && is_pending q.state) g.requests in
     list_any-append has gs (next_group op asks s ∷ [])
-    ∙ ap (λ (b : Bool). is_pending_at gs number || (b || false)) (none_with (is_request number) (λ q. is_pending q.state) (next_group op asks s).requests (new_free (length (requests_of s.groups)) asks number low))
+    ∙ ap (λ (b : Bool). is_pending_at gs number || (b || false))
+    (none_with (is_request number) (λ q. is_pending q.state) (next_group op asks s).requests
+    (new_free (length (requests_of s.groups)) asks number low))
     ∙ or_false (is_pending_at gs number)
 
-pub withdrawal_commutes : (s : Progress) (n : GroupNo) (op : Op) (asks : List Ask) → IsSound s → n.0 ≤ length s.groups → withdrawn n (with_group op asks s) ≡ with_group op asks (withdrawn n s)
+pub withdrawal_commutes : (s : Progress) (n : GroupNo) (op : Op) (asks : List Ask) → IsSound s → n.0 ≤ length s.groups
+    → withdrawn n (with_group op asks s) ≡ with_group op asks (withdrawn n s)
 withdrawal_commutes s n op asks h low =
     let f : Group → Group = change_where (is_group n) canceled in
     let hs : List Group = map f s.groups in

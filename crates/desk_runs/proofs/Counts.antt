@@ -1,5 +1,6 @@
 -- How many requests are pending, and how often one is observed.
-use Rattle.std.proofs.Common.{◌≡◌, ◌≢◌, ℕ, zero, suc, ◌+◌, ◌<◌, ◌≤◌, ◌^◌, ◌==◌, Bool, true, false, cond, ◌||◌, List, [], ◌∷◌, length, map, filter, All, get_or, sum_by, refl, sym, ◌∙◌, ap, subst, arith, inl, inr}
+use Rattle.std.proofs.Common.{◌≡◌, ◌≢◌, ℕ, zero, suc, ◌+◌, ◌<◌, ◌≤◌, ◌^◌, ◌==◌, Bool, true, false, cond, ◌||◌, List, [], ◌∷◌, length, map, filter, All}
+use Rattle.std.proofs.Common.{get_or, sum_by, refl, sym, ◌∙◌, ap, subst, arith, inl, inr}
 use Rattle.std.specs.List.{AllZip, list_any, count_by}
 use Rattle.std.proofs.lemmas.Bool.{or_parts, or_cases, cases_Bool, eqb-true, eq-eqb}
 use Rattle.std.proofs.lemmas.List.Folds.{list_any_at}
@@ -52,9 +53,11 @@ some_count p (x ∷ xs) e =
 pub pending_sum : (gs : List Group) → pending_count gs ≡ sum_by pending_of gs
 pending_sum [] = refl
 pending_sum (g ∷ gs) =
-    sum_by-append (λ q. cond (is_pending q.state) 1 0) g.requests (requests_of gs) ∙ ap (λ (n : ℕ). pending_of g + n) (pending_sum gs) ∙ sym (sum_by-cons pending_of g gs)
+    sum_by-append (λ q. cond (is_pending q.state) 1 0) g.requests (requests_of gs) ∙ ap (λ (n : ℕ). pending_of g + n) (pending_sum gs)
+    ∙ sym (sum_by-cons pending_of g gs)
 
-sum_open : (b : Bool) (g : Group) (gs : List Group) (n : ℕ) → (b ≡ false → pending_of g ≡ 0) → sum_by pending_of gs ≡ n → sum_by pending_of (cond b (g ∷ gs) gs) ≡ pending_of g + n
+sum_open : (b : Bool) (g : Group) (gs : List Group) (n : ℕ) → (b ≡ false → pending_of g ≡ 0) → sum_by pending_of gs ≡ n
+    → sum_by pending_of (cond b (g ∷ gs) gs) ≡ pending_of g + n
 sum_open true g gs n none e = sum_by-cons pending_of g gs ∙ ap (λ (m : ℕ). pending_of g + m) e
 sum_open false g gs n none e = let zero_here : pending_of g ≡ 0 = none refl in omega arith
 
@@ -62,7 +65,8 @@ sum_open false g gs n none e = let zero_here : pending_of g ≡ 0 = none refl in
 open_sum : (gs : List Group) → sum_by pending_of (filter is_open gs) ≡ sum_by pending_of gs
 open_sum [] = refl
 open_sum (g ∷ gs) =
-    sum_open (is_open g) g (filter is_open gs) (sum_by pending_of gs) (none_count (λ q. is_pending q.state) g.requests) (open_sum gs) ∙ sym (sum_by-cons pending_of g gs)
+    sum_open (is_open g) g (filter is_open gs) (sum_by pending_of gs) (none_count (λ q. is_pending q.state) g.requests) (open_sum gs)
+    ∙ sym (sum_by-cons pending_of g gs)
 
 sum_map : (gs : List Group) (ns : List GroupNo) → sum_by pending_of (groups_of gs ns) ≡ sum_by (λ n. pending_of (group_of gs n)) ns
 sum_map gs [] = refl
@@ -71,9 +75,11 @@ sum_map gs (n ∷ ns) =
     ∙ sym (sum_by-cons (λ m. pending_of (group_of gs m)) n ns)
 
 -- counting those of the open groups counts all
-pub counted_open : (gs : List Group) (ns : List GroupNo) → IsCounted (map (λ g. g.number.0) gs) → ns ≡ map (λ g. g.number) (filter is_open gs) → sum_by (λ n. pending_of (group_of gs n)) ns ≡ pending_count gs
+pub counted_open : (gs : List Group) (ns : List GroupNo) → IsCounted (map (λ g. g.number.0) gs) → ns ≡ map (λ g. g.number) (filter is_open gs)
+    → sum_by (λ n. pending_of (group_of gs n)) ns ≡ pending_count gs
 counted_open gs ns h e =
-    ap (sum_by (λ n. pending_of (group_of gs n))) e ∙ sym (sum_map gs (map (λ g. g.number) (filter is_open gs))) ∙ ap (sum_by pending_of) (opened_groups gs h) ∙ open_sum gs ∙ sym (pending_sum gs)
+    ap (sum_by (λ n. pending_of (group_of gs n))) e ∙ sym (sum_map gs (map (λ g. g.number) (filter is_open gs)))
+    ∙ ap (sum_by pending_of) (opened_groups gs h) ∙ open_sum gs ∙ sym (pending_sum gs)
 
 -- there are no more than requests
 pub pending_most : (gs : List Group) → pending_count gs ≤ length (requests_of gs)
@@ -86,7 +92,8 @@ pub record Recounted (hs : List Group) (ns : List GroupNo) : Type 0 where
   pub few : sum_by (λ n. pending_of (group_of hs n)) ns < 2 ^ 32
   pub all : sum_by (λ n. pending_of (group_of hs n)) ns ≡ pending_count hs
 
-pub recounted : (gs hs : List Group) (before ns : List GroupNo) → AllZip IsLater gs hs → IsNumbered hs → length (requests_of gs) < 2 ^ 32 → before ≡ map (λ g. g.number) (filter is_open gs) → ns ≡ filter (is_open_at hs) before → Recounted hs ns
+pub recounted : (gs hs : List Group) (before ns : List GroupNo) → AllZip IsLater gs hs → IsNumbered hs → length (requests_of gs) < 2 ^ 32
+    → before ≡ map (λ g. g.number) (filter is_open gs) → ns ≡ filter (is_open_at hs) before → Recounted hs ns
 recounted gs hs before ns later numbered few e k =
     let opened : ns ≡ map (λ g. g.number) (filter is_open hs) = opened_after gs hs before ns later numbered e k in
     let all : sum_by (λ n. pending_of (group_of hs n)) ns ≡ pending_count hs = counted_open hs ns numbered.groups opened in
@@ -103,7 +110,8 @@ all_pending n [] = refl
 all_pending n (ask ∷ asks) =
     let rest : count_by (λ q. is_pending q.state) (requests_from (n + 1) asks) ≡ length asks = all_pending (n + 1) asks in
     let first : Request = record { number = record { 0 = n }; seconds = ask.seconds; last = ask.last; state = Pending } in
-    let sum : count_by (λ q. is_pending q.state) (requests_from n (ask ∷ asks)) ≡ 1 + count_by (λ q. is_pending q.state) (requests_from (n + 1) asks) = sum_by-cons (λ (q : Request). cond (is_pending q.state) 1 0) first (requests_from (n + 1) asks) in
+    let sum : count_by (λ q. is_pending q.state) (requests_from n (ask ∷ asks)) ≡ 1 + count_by (λ q. is_pending q.state)
+    (requests_from (n + 1) asks) = sum_by-cons (λ (q : Request). cond (is_pending q.state) 1 0) first (requests_from (n + 1) asks) in
     omega (arith, rest, sum)
 
 -- all of a new group
@@ -125,7 +133,8 @@ fewer_requests [] (y ∷ ys) z = absurd z
 fewer_requests (x ∷ xs) [] z = absurd z
 fewer_requests (x ∷ xs) (y ∷ ys) z =
     let rest : count_by (λ q. is_pending q.state) ys ≤ count_by (λ q. is_pending q.state) xs = fewer_requests xs ys z.1 in
-    let first : cond (is_pending y.state) 1 0 ≤ cond (is_pending x.state) 1 0 = no_more (is_pending x.state) (is_pending y.state) (λ e. ap is_pending (sym (z.0.pending e)) ∙ e) in
+    let first : cond (is_pending y.state) 1 0 ≤ cond (is_pending x.state) 1 0 =
+    no_more (is_pending x.state) (is_pending y.state) (λ e. ap is_pending (sym (z.0.pending e)) ∙ e) in
     let before = sum_by-cons (λ (q : Request). cond (is_pending q.state) 1 0) x xs in
     let after = sum_by-cons (λ (q : Request). cond (is_pending q.state) 1 0) y ys in
     omega (arith, rest, first, before, after)
@@ -141,7 +150,8 @@ abbrev pub times_of : ℕ → List Observation → ℕ
 times_of n os = count_by (λ o. o.request.0 == n) os
 
 -- apart from the first, none is of the same request
-apart : (o : Observation) (os : List Observation) (n : ℕ) → o.request.0 ≡ n → ((k : ℕ) (d : Observation) → k < length os → o.request.0 ≢ (get_or os k d).request.0) → list_any (λ x. x.request.0 == n) os ≡ false
+apart : (o : Observation) (os : List Observation) (n : ℕ) → o.request.0 ≡ n
+    → ((k : ℕ) (d : Observation) → k < length os → o.request.0 ≢ (get_or os k d).request.0) → list_any (λ x. x.request.0 == n) os ≡ false
 apart o [] n e h = refl
 apart o (x ∷ xs) n e h =
     let other : x.request.0 ≢ n = λ same. h 0 x (omega arith) (e ∙ sym same) in
@@ -189,4 +199,5 @@ counts_once (o ∷ os) h (suc i) (suc j) d l m =
 
 -- so none is observed twice where none is observed more often than before
 pub once_fewer : (before after : List Observation) → ((n : ℕ) → times_of n after ≤ times_of n before) → IsObservedAtMostOnce before → IsObservedAtMostOnce after
-once_fewer before after less h = counts_once after (λ n. let most : times_of n before ≤ 1 = once_counts before n h in let fewer : times_of n after ≤ times_of n before = less n in omega (arith, most, fewer))
+once_fewer before after less h = counts_once after (λ n. let most : times_of n before ≤ 1 = once_counts before n h in
+    let fewer : times_of n after ≤ times_of n before = less n in omega (arith, most, fewer))

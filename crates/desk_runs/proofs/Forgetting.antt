@@ -34,7 +34,8 @@ last_of a before r m =
     let count : length a.groups.items ≡ length before.groups + 1 = ap length are ∙ many in
     let asked : length g.requests ≡ length m.asks = asked_length (length (requests_of before.groups) + 1) m.asks in
     let place : length a.groups.items - 1 ≡ length before.groups = omega arith in
-    let owners : a.owners.items ≡ owners_from 0 before.groups ++ replicate (length g.requests) (0 + length before.groups) = r.owners ∙ ap (owners_from 0) are ∙ owners_more 0 before.groups g in
+    let owners : a.owners.items ≡ owners_from 0 before.groups ++ replicate (length g.requests) (0 + length before.groups) = r.owners
+    ∙ ap (owners_from 0) are ∙ owners_more 0 before.groups g in
     let owned : length a.owners.items ≡ length (owners_from 0 before.groups) + length m.asks =
     ap length owners ∙ length-append (owners_from 0 before.groups) (replicate (length g.requests) (0 + length before.groups))
     ∙ ap (λ (n : ℕ). length (owners_from 0 before.groups) + n) (length-replicate (length g.requests) (0 + length before.groups) ∙ asked) in
@@ -65,7 +66,8 @@ last_of a before r m =
     at_last (y ∷ ys) x d = at_last ys x d
 
 -- the same, as it is found
-pub found_last : (a : Inside) (s before : Progress) (groups : List Group) (g : Group) (size : ℕ) → IsRuns a → progress_of a ≡ s → IsOneMore before s → groups ≡ a.groups.items → g ≡ get_or a.groups.items (length groups - 1) g → size ≡ length g.requests
+pub found_last : (a : Inside) (s before : Progress) (groups : List Group) (g : Group) (size : ℕ) → IsRuns a → progress_of a ≡ s → IsOneMore before s
+    → groups ≡ a.groups.items → g ≡ get_or a.groups.items (length groups - 1) g → size ≡ length g.requests
     → Last a before size
 found_last a s before groups g size r e m same at n =
     let found = last_of a before r (subst (IsOneMore before) (sym e) m) in
@@ -75,4 +77,5 @@ found_last a s before groups g size r e m same at n =
 -- what is left is the state before
 pub left_of : (s before : Progress) (groups : List Group) → IsOneMore before s → groups ≡ before.groups → record s { groups = groups } ≡ before
 left_of s before groups m e =
-    ap (λ (l : List Group). let p : Progress = record s { groups = l } in p) e ∙ ap (λ (p : Progress). let q : Progress = record p { groups = before.groups } in q) m.added
+    ap (λ (l : List Group). let p : Progress = record s { groups = l } in p) e
+    ∙ ap (λ (p : Progress). let q : Progress = record p { groups = before.groups } in q) m.added

@@ -35,7 +35,8 @@ withdrawal_goes_on s number =
     (λ n. fewer_kept (λ o. is_pending_at (withdrawn number s).groups o.request) (λ o. o.request.0 == n) s.kept s.running)
 
 -- a report first changes groups and observations, and then the moment does what it does
-then_settled : (s t : Progress) → AllZip IsLater s.groups t.groups → ((n : ℕ) → times_of n (t.kept ++ t.running) ≤ times_of n (s.kept ++ s.running)) → GoesOn s (settle t)
+then_settled : (s t : Progress) → AllZip IsLater s.groups t.groups → ((n : ℕ) → times_of n (t.kept ++ t.running) ≤ times_of n (s.kept ++ s.running))
+    → GoesOn s (settle t)
 then_settled s t later fewer =
     goes_on s (settle t) (later_groups s.groups t.groups (settle t).groups later (later_after t))
     (λ n.

@@ -1,5 +1,6 @@
 -- Groups that are there, by their numbers and by those of their running requests.
-use Rattle.std.proofs.Common.{◌≡◌, ℕ, suc, ◌+◌, ◌-◌, ◌<◌, ◌≤◌, ◌==◌, true, false, List, [], ◌∷◌, length, map, slice_get, sym, ◌∙◌, ap, arith, inl, inr, Some, None}
+use Rattle.std.proofs.Common.{◌≡◌, ℕ, suc, ◌+◌, ◌-◌, ◌<◌, ◌≤◌, ◌==◌, true, false, List, [], ◌∷◌, length, map, slice_get, sym, ◌∙◌, ap, arith, inl, inr}
+use Rattle.std.proofs.Common.{Some, None}
 use Rattle.std.proofs.lemmas.Bool.{or_cases, cases_lt, cases_Bool, eqb-true, cond-true, cond-false}
 use Rattle.std.proofs.lemmas.Option.{slice_get_within, get_or_from_slice_get}
 use Rattle.plan_base.specs.declared.number.GroupNo.{GroupNo}
@@ -28,7 +29,8 @@ pending_found (g ∷ gs) number e = elim (cases_Bool (has_request number g)) [
       (rest.0, cond-false (has_request number g) (Some g) (group_with gs number) miss ∙ rest.1)
 ]
 
-pub placed_pending : (gs : List Group) (os : List Observation) (number : RequestNo) → AllPending gs os → is_placed os number ≡ true → is_pending_at gs number ≡ true
+pub placed_pending : (gs : List Group) (os : List Observation) (number : RequestNo) → AllPending gs os → is_placed os number ≡ true
+    → is_pending_at gs number ≡ true
 placed_pending gs [] number h e = cc
 placed_pending gs (o ∷ os) number h e = elim (or_cases (o.request.0 == number.0) (is_placed os number) e) [
   | inl here ↦ sym (ap (λ (n : ℕ). is_pending_at gs (record { 0 = n })) (eqb-true o.request.0 number.0 here)) ∙ h 0 o (omega arith)

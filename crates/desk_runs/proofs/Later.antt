@@ -27,7 +27,8 @@ later_choice : (b : Bool) (state : RequestState) (q : Request) → is_pending st
 later_choice true state q e = record { number = refl; seconds = refl; last = refl; pending = λ p. let bad : false ≡ true = sym e ∙ p in cc }
 later_choice false state q e = record { number = refl; seconds = refl; last = refl; pending = λ p. refl }
 
-later_requests : (test : Request → Bool) (state : RequestState) (qs : List Request) → is_pending state ≡ false → AllZip IsLaterRequest qs (map (λ q. cond (test q) (with_state state q) q) qs)
+later_requests : (test : Request → Bool) (state : RequestState) (qs : List Request) → is_pending state ≡ false
+    → AllZip IsLaterRequest qs (map (λ q. cond (test q) (with_state state q) q) qs)
 later_requests test state [] e = tt
 later_requests test state (q ∷ qs) e = (later_choice (test q) state q e, later_requests test state qs e)
 
@@ -77,7 +78,8 @@ pub later_turned : (running : List Observation) (now : Sec) (g : Group) → IsLa
 later_turned running now g =
     let past : Group = with_past running now g in
     later_then g past (with_lost running past) (later_change (is_past running now) WindowExpired g refl)
-    (of_choice (λ (x : Group). IsLater past x) (is_lost past) (change_requests (is_waiting running) WindowExpired past) past (λ t. later_change (is_waiting running) WindowExpired past refl) (λ f. later_self past))
+    (of_choice (λ (x : Group). IsLater past x) (is_lost past) (change_requests (is_waiting running) WindowExpired past) past
+    (λ t. later_change (is_waiting running) WindowExpired past refl) (λ f. later_self past))
 
 pub later_canceled : (g : Group) → IsLater g (canceled g)
 later_canceled g = later_change (λ q. is_pending q.state) Canceled g refl
@@ -119,7 +121,8 @@ pub group_numbers : (gs hs : List Group) → AllZip IsLater gs hs → map (λ g.
 group_numbers [] [] h = refl
 group_numbers [] (y ∷ ys) h = absurd h
 group_numbers (x ∷ xs) [] h = absurd h
-group_numbers (x ∷ xs) (y ∷ ys) h = ap (λ (n : ℕ). n ∷ map (λ g. g.number.0) ys) (ap (λ r. r.0) h.0.number) ∙ ap (λ (l : List ℕ). x.number.0 ∷ l) (group_numbers xs ys h.1)
+group_numbers (x ∷ xs) (y ∷ ys) h = ap (λ (n : ℕ). n ∷ map (λ g. g.number.0) ys) (ap (λ r. r.0) h.0.number)
+    ∙ ap (λ (l : List ℕ). x.number.0 ∷ l) (group_numbers xs ys h.1)
 
 pub all_numbers : (gs hs : List Group) → AllZip IsLater gs hs → map (λ q. q.number.0) (requests_of hs) ≡ map (λ q. q.number.0) (requests_of gs)
 all_numbers [] [] h = refl
@@ -144,7 +147,8 @@ has_in number [] [] h = refl
 has_in number [] (y ∷ ys) h = absurd h
 has_in number (x ∷ xs) [] h = absurd h
 has_in number (x ∷ xs) (y ∷ ys) h =
-    ap (λ (r : RequestNo). (r.0 == number.0) || list_any (is_request number) ys) h.0.number ∙ ap (λ (b : Bool). (x.number.0 == number.0) || b) (has_in number xs ys h.1)
+    ap (λ (r : RequestNo). (r.0 == number.0) || list_any (is_request number) ys) h.0.number
+    ∙ ap (λ (b : Bool). (x.number.0 == number.0) || b) (has_in number xs ys h.1)
 
 pub has_later : (number : RequestNo) (g h : Group) → IsLater g h → has_request number h ≡ has_request number g
 has_later number g h later = has_in number g.requests h.requests later.requests
@@ -157,7 +161,8 @@ pub placed_later : (g h : Group) → IsLater g h → (os : List Observation) →
 placed_later g h later os = count_same (λ o. has_request o.request h) (λ o. has_request o.request g) (λ o. has_later o.request g h later) os
 
 -- of a ONEOF at most one request is observed later, where of each group no more are
-pub once_later : (gs hs : List Group) (before after : List Observation) → AllZip IsLater gs hs → ((g : Group) → placed_in g after ≤ placed_in g before) → IsOneOfOnce gs before → IsOneOfOnce hs after
+pub once_later : (gs hs : List Group) (before after : List Observation) → AllZip IsLater gs hs
+    → ((g : Group) → placed_in g after ≤ placed_in g before) → IsOneOfOnce gs before → IsOneOfOnce hs after
 once_later [] [] before after h less once = All-nil (λ g. is_oneof g.op ≡ true → placed_in g after ≤ 1)
 once_later [] (y ∷ ys) before after h less once = absurd h
 once_later (x ∷ xs) [] before after h less once = absurd h
@@ -183,4 +188,5 @@ owners_later i [] [] h = refl
 owners_later i [] (y ∷ ys) h = absurd h
 owners_later i (x ∷ xs) [] h = absurd h
 owners_later i (x ∷ xs) (y ∷ ys) h =
-    ap (λ (l : List ℕ). l ++ owners_from (i + 1) ys) (owners_same i x.requests y.requests h.0.requests) ∙ ap (λ (l : List ℕ). map (λ q. i) x.requests ++ l) (owners_later (i + 1) xs ys h.1)
+    ap (λ (l : List ℕ). l ++ owners_from (i + 1) ys) (owners_same i x.requests y.requests h.0.requests)
+    ∙ ap (λ (l : List ℕ). map (λ q. i) x.requests ++ l) (owners_later (i + 1) xs ys h.1)

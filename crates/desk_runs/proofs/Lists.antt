@@ -35,7 +35,8 @@ and_false false = refl
 
 -- what a filter by the opposite keeps doesn't pass
 pub fails_after : {X : Type 0} (p : X → Bool) (xs : List X) → All (λ x. p x ≡ false) (filter (λ x. not (p x)) xs)
-fails_after p xs = All-weaker (λ x. not (p x) ≡ true) (λ x. p x ≡ false) (λ x h. not_true (p x) h) (filter (λ x. not (p x)) xs) (filter_passes (λ x. not (p x)) xs)
+fails_after p xs = All-weaker (λ x. not (p x) ≡ true) (λ x. p x ≡ false) (λ x h. not_true (p x) h) (filter (λ x. not (p x)) xs)
+    (filter_passes (λ x. not (p x)) xs)
 
 -- where none passes, all pass the opposite
 pub passes_opposite : {X : Type 0} (p : X → Bool) (xs : List X) → All (λ x. p x ≡ false) xs → All (λ x. not (p x) ≡ true) xs

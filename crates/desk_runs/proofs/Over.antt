@@ -1,5 +1,6 @@
 -- After a moment, a report or a withdrawal what is over stays as it is.
-use Rattle.std.proofs.Common.{◌≡◌, ℕ, ◌+◌, ◌≤◌, Bool, true, false, cond, not, ◌&&◌, List, [], ◌∷◌, ◌++◌, length, map, All, get_or, refl, sym, ◌∙◌, ap, subst, arith, inl, inr}
+use Rattle.std.proofs.Common.{◌≡◌, ℕ, ◌+◌, ◌≤◌, Bool, true, false, cond, not, ◌&&◌, List, [], ◌∷◌, ◌++◌, length, map, All, get_or, refl, sym, ◌∙◌, ap}
+use Rattle.std.proofs.Common.{subst, arith, inl, inr}
 use Rattle.std.specs.List.{AllZip, list_any}
 use Rattle.std.proofs.lemmas.Bool.{and_parts, or_cases, eqb-true}
 use Rattle.std.proofs.lemmas.List.{length-append, length-map, get_or-map, get_or_append_left, get_or-append-add}
@@ -39,9 +40,11 @@ over_choice false state q h = λ over. refl
 abbrev OnlyPending : (Request → Bool) → Request → Type 0
 OnlyPending test q = test q ≡ true → is_pending q.state ≡ true
 
-over_requests : (test : Request → Bool) (state : RequestState) (qs : List Request) → All (OnlyPending test) qs → AllZip IsOverStill qs (map (λ q. cond (test q) (with_state state q) q) qs)
+over_requests : (test : Request → Bool) (state : RequestState) (qs : List Request) → All (OnlyPending test) qs
+    → AllZip IsOverStill qs (map (λ q. cond (test q) (with_state state q) q) qs)
 over_requests test state [] h = tt
-over_requests test state (q ∷ qs) h = (over_choice (test q) state q (All-head (OnlyPending test) q qs h), over_requests test state qs (All-tail (OnlyPending test) q qs h))
+over_requests test state (q ∷ qs) h =
+    (over_choice (test q) state q (All-head (OnlyPending test) q qs h), over_requests test state qs (All-tail (OnlyPending test) q qs h))
 
 over_same : (qs : List Request) → AllZip IsOverStill qs qs
 over_same [] = tt
@@ -91,12 +94,14 @@ over_completed : (number : RequestNo) (g : Group) → All (OnlyPending (is_reque
 over_completed number g h =
     let done : Group = change_requests (is_request number) Completed g in
     let first : IsOverIn g done = over_requests (is_request number) Completed g.requests h in
-    of_choice (λ (x : Group). IsOverIn g x) (is_oneof g.op) (canceled done) done (λ t. over_lists g.requests done.requests (canceled done).requests first (over_canceled done)) (λ f. first)
+    of_choice (λ (x : Group). IsOverIn g x) (is_oneof g.op) (canceled done) done
+    (λ t. over_lists g.requests done.requests (canceled done).requests first (over_canceled done)) (λ f. first)
 
 over_map : (f : Group → Group) (gs : List Group) → All (λ g. IsOverIn g (f g)) gs → AllZip IsOverStill (requests_of gs) (requests_of (map f gs))
 over_map f [] h = tt
 over_map f (g ∷ gs) h =
-    over_join g.requests (f g).requests (requests_of gs) (requests_of (map f gs)) (All-head (λ x. IsOverIn x (f x)) g gs h) (over_map f gs (All-tail (λ x. IsOverIn x (f x)) g gs h))
+    over_join g.requests (f g).requests (requests_of gs) (requests_of (map f gs)) (All-head (λ x. IsOverIn x (f x)) g gs h)
+    (over_map f gs (All-tail (λ x. IsOverIn x (f x)) g gs h))
 
 -- ---- a moment and a withdrawal
 
@@ -121,7 +126,8 @@ withdrawal_leaves_over s number =
 -- ---- a report
 
 -- no request further on has the number
-none_further : (b : ℕ) (number : RequestNo) (xs : List Request) → IsCountedFrom b (map (λ q. q.number.0) xs) → number.0 ≤ b → All (OnlyPending (is_request number)) xs
+none_further : (b : ℕ) (number : RequestNo) (xs : List Request) → IsCountedFrom b (map (λ q. q.number.0) xs) → number.0 ≤ b
+    → All (OnlyPending (is_request number)) xs
 none_further b number xs h low = λ k d l is.
     let len : length (map (λ q. q.number.0) xs) ≡ length xs = length-map xs (λ q. q.number.0) in
     let at : get_or (map (λ q. q.number.0) xs) k 0 ≡ b + k + 1 = h k (omega arith) in
@@ -130,7 +136,8 @@ none_further b number xs h low = λ k d l is.
     absurd (omega arith)
 
 -- where the request with the number is pending, no other has the number
-only_pending : (b : ℕ) (number : RequestNo) (xs : List Request) → IsCountedFrom b (map (λ q. q.number.0) xs) → list_any (λ q. is_request number q && is_pending q.state) xs ≡ true → All (OnlyPending (is_request number)) xs
+only_pending : (b : ℕ) (number : RequestNo) (xs : List Request) → IsCountedFrom b (map (λ q. q.number.0) xs)
+    → list_any (λ q. is_request number q && is_pending q.state) xs ≡ true → All (OnlyPending (is_request number)) xs
 only_pending b number [] h e = All-nil (OnlyPending (is_request number))
 only_pending b number (x ∷ xs) h e =
     let first : x.number.0 ≡ b + 1 = counted_head b x.number.0 (map (λ q. q.number.0) xs) h in
@@ -160,18 +167,22 @@ each_group P (g ∷ gs) h =
     (each_group P gs (λ k d l. subst P (get_or-append-add g.requests (requests_of gs) k d) (h (length g.requests + k) d (omega arith))))
 
 -- of the requests with the number of a running one all are pending
-running_pending : (s : Progress) (number : RequestNo) → IsSound s → is_placed s.running number ≡ true → All (λ g. All (OnlyPending (is_request number)) g.requests) s.groups
+running_pending : (s : Progress) (number : RequestNo) → IsSound s → is_placed s.running number ≡ true
+    → All (λ g. All (OnlyPending (is_request number)) g.requests) s.groups
 running_pending s number h runs =
     let pending : is_pending_at s.groups number ≡ true = placed_pending s.groups s.running number h.running runs in
     each_group (OnlyPending (is_request number)) s.groups
-    (only_pending 0 number (requests_of s.groups) (counted_from (map (λ q. q.number.0) (requests_of s.groups)) h.numbered.requests) (sym (pending_flat number s.groups) ∙ pending))
+    (only_pending 0 number (requests_of s.groups) (counted_from (map (λ q. q.number.0) (requests_of s.groups)) h.numbered.requests)
+    (sym (pending_flat number s.groups) ∙ pending))
 
-pub report_leaves_over : (s : Progress) (number : RequestNo) (completes : Bool) → IsSound s → is_placed s.running number ≡ true → StaysOver s (reported number completes s)
+pub report_leaves_over : (s : Progress) (number : RequestNo) (completes : Bool) → IsSound s → is_placed s.running number ≡ true
+    → StaysOver s (reported number completes s)
 report_leaves_over s number true h runs =
     let done : Progress = with_completed number (without_running number s) in
     let changes : Group → Group = change_where (has_request number) (completed number) in
     let first : StaysOver s done =
     over_map changes s.groups
-    (All-weaker (λ g. All (OnlyPending (is_request number)) g.requests) (λ g. IsOverIn g (changes g)) (λ g all. over_where (has_request number) (completed number) g (over_completed number g all)) s.groups (running_pending s number h runs)) in
+    (All-weaker (λ g. All (OnlyPending (is_request number)) g.requests) (λ g. IsOverIn g (changes g))
+    (λ g all. over_where (has_request number) (completed number) g (over_completed number g all)) s.groups (running_pending s number h runs)) in
     over_lists (requests_of s.groups) (requests_of done.groups) (requests_of (settle done).groups) first (over_after done)
 report_leaves_over s number false h runs = over_after (without_running number s)

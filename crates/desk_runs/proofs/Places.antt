@@ -1,8 +1,10 @@
 -- Groups and requests at the places of their numbers.
-use Rattle.std.proofs.Common.{◌≡◌, ◌≢◌, ℕ, zero, suc, ◌+◌, ◌-◌, ◌<◌, ◌≤◌, ◌==◌, Bool, true, false, cond, List, [], ◌∷◌, ◌++◌, length, map, filter, All, get_or, refl, sym, ◌∙◌, ap, subst, arith, inl, inr, Option, Some, None}
+use Rattle.std.proofs.Common.{◌≡◌, ◌≢◌, ℕ, zero, suc, ◌+◌, ◌-◌, ◌<◌, ◌≤◌, ◌==◌, Bool, true, false, cond, List, [], ◌∷◌, ◌++◌, length, map, filter, All}
+use Rattle.std.proofs.Common.{get_or, refl, sym, ◌∙◌, ap, subst, arith, inl, inr, Option, Some, None}
 use Rattle.std.specs.List.{slice_get, list_any, fold}
 use Rattle.std.proofs.lemmas.Bool.{cases_lt, eqb-true, eq-eqb, false_from_ne_true}
-use Rattle.std.proofs.lemmas.List.{append_assoc, length-map, length_push, get_or-map, get_or_default, get_or_append_left, get_or-append_right, get_or-append-add, map-append, set_at, length-append}
+use Rattle.std.proofs.lemmas.List.{append_assoc, length-map, length_push, get_or-map, get_or_default, get_or_append_left, get_or-append_right}
+use Rattle.std.proofs.lemmas.List.{get_or-append-add, map-append, set_at, length-append}
 use Rattle.std.proofs.lemmas.List.Elements.{All-filter}
 use Rattle.std.proofs.lemmas.List.Folds.{map_fixed, list_any_at, list_any_none}
 use Rattle.plan_base.specs.declared.number.GroupNo.{GroupNo}
@@ -93,8 +95,10 @@ put_step : (b : Bool) (f : Group → Group) (ps xs ys : List Group) (x : Group) 
 put_step true f ps xs ys x same there rest = ap (λ (l : List Group). fold put l ys) there ∙ rest
 put_step false f ps xs ys x same there rest = ap (λ (g : Group). fold put (ps ++ g ∷ xs) ys) (sym (same refl)) ∙ rest
 
-filter_cons : (p : Group → Bool) (f : Group → Group) (x : Group) (xs : List Group) → map f (filter p (x ∷ xs)) ≡ map f (cond (p x) (x ∷ []) []) ++ map f (filter p xs)
-filter_cons p f x xs = elim (p x) as (λ b. map f (cond b (x ∷ filter p xs) (filter p xs)) ≡ map f (cond b (x ∷ []) []) ++ map f (filter p xs)) [ true ↦ refl | false ↦ refl ]
+filter_cons : (p : Group → Bool) (f : Group → Group) (x : Group) (xs : List Group)
+    → map f (filter p (x ∷ xs)) ≡ map f (cond (p x) (x ∷ []) []) ++ map f (filter p xs)
+filter_cons p f x xs = elim (p x) as (λ b. map f (cond b (x ∷ filter p xs) (filter p xs)) ≡ map f (cond b (x ∷ []) []) ++ map f (filter p xs))
+    [ true ↦ refl | false ↦ refl ]
 
 pub put_from : (p : Group → Bool) (f : Group → Group) (ps xs : List Group) → ((g : Group) → p g ≡ false → f g ≡ g) → ((g : Group) → (f g).number ≡ g.number)
     → IsCountedFrom (length ps) (map (λ g. g.number.0) xs) → fold put (ps ++ xs) (map f (filter p xs)) ≡ ps ++ map f xs
@@ -105,10 +109,14 @@ put_from p f ps (x ∷ xs) same keeps h =
     let place : length ps ≡ (f x).number.0 - 1 = omega arith in
     let there : put (ps ++ x ∷ xs) (f x) ≡ ps ++ f x ∷ xs = set_at ps x xs (f x) ((f x).number.0 - 1) place in
     let longer : length (ps ++ f x ∷ []) ≡ length ps + 1 = length_push ps (f x) in
-    let tail : IsCountedFrom (length (ps ++ f x ∷ [])) (map (λ g. g.number.0) xs) = subst (λ (n : ℕ). IsCountedFrom n (map (λ g. g.number.0) xs)) (sym longer) (counted_tail (length ps) x.number.0 (map (λ g. g.number.0) xs) h) in
+    let tail : IsCountedFrom (length (ps ++ f x ∷ [])) (map (λ g. g.number.0) xs) =
+    subst (λ (n : ℕ). IsCountedFrom n (map (λ g. g.number.0) xs)) (sym longer)
+    (counted_tail (length ps) x.number.0 (map (λ g. g.number.0) xs) h) in
     let rest : fold put ((ps ++ f x ∷ []) ++ xs) (map f (filter p xs)) ≡ (ps ++ f x ∷ []) ++ map f xs = put_from p f (ps ++ f x ∷ []) xs same keeps tail in
     ap (λ (l : List Group). fold put (ps ++ x ∷ xs) l) (filter_cons p f x xs)
-    ∙ put_step (p x) f ps xs (map f (filter p xs)) x (same x) there (ap (λ (l : List Group). fold put l (map f (filter p xs))) (sym (append_assoc ps (f x ∷ []) xs)) ∙ rest ∙ append_assoc ps (f x ∷ []) (map f xs))
+    ∙ put_step (p x) f ps xs (map f (filter p xs)) x (same x) there
+    (ap (λ (l : List Group). fold put l (map f (filter p xs))) (sym (append_assoc ps (f x ∷ []) xs)) ∙ rest
+    ∙ append_assoc ps (f x ∷ []) (map f xs))
 
 -- the groups that a function changes, put in their places, are all groups under the function
 pub put_all : (p : Group → Bool) (f : Group → Group) (gs : List Group) → ((g : Group) → p g ≡ false → f g ≡ g) → ((g : Group) → (f g).number ≡ g.number)
@@ -118,7 +126,8 @@ put_all p f gs same keeps h = put_from p f [] gs same keeps (counted_from (map (
 -- ---- the group of a request
 
 -- a request of the group has the number, where the group's numbers go on from b and this is one of them
-has_here : (b k : ℕ) (number : RequestNo) (qs : List Request) → IsCountedFrom b (map (λ q. q.number.0) qs) → number.0 ≡ b + k + 1 → k < length qs → list_any (is_request number) qs ≡ true
+has_here : (b k : ℕ) (number : RequestNo) (qs : List Request) → IsCountedFrom b (map (λ q. q.number.0) qs) → number.0 ≡ b + k + 1 → k < length qs
+    → list_any (is_request number) qs ≡ true
 has_here b k number [] h e l = absurd (omega arith)
 has_here b k number (q ∷ qs) h e l =
     let d : Request = q in
@@ -128,7 +137,8 @@ has_here b k number (q ∷ qs) h e l =
     list_any_at (is_request number) (q ∷ qs) k d l (eq-eqb (get_or (q ∷ qs) k d).number.0 number.0 is)
 
 -- none has it, where it is beyond them
-has_not : (b k : ℕ) (number : RequestNo) (qs : List Request) → IsCountedFrom b (map (λ q. q.number.0) qs) → number.0 ≡ b + k + 1 → length qs ≤ k → list_any (is_request number) qs ≡ false
+has_not : (b k : ℕ) (number : RequestNo) (qs : List Request) → IsCountedFrom b (map (λ q. q.number.0) qs) → number.0 ≡ b + k + 1 → length qs ≤ k
+    → list_any (is_request number) qs ≡ false
 has_not b k number qs h e far = list_any_none (is_request number) qs (λ j d l.
     let len : length (map (λ q. q.number.0) qs) ≡ length qs = length-map qs (λ q. q.number.0) in
     let at : get_or (map (λ q. q.number.0) qs) j 0 ≡ b + j + 1 = h j (omega arith) in
@@ -140,7 +150,8 @@ abbrev no_request : Request
 no_request = record { number = record { 0 = 0 }; seconds = 0; last = record { 0 = 0 }; state = Pending }
 
 pub counted_front : (b : ℕ) (xs ys : List ℕ) → IsCountedFrom b (xs ++ ys) → IsCountedFrom b xs
-counted_front b xs ys h = λ i l. let len : length (xs ++ ys) ≡ length xs + length ys = length-append xs ys in sym (get_or_append_left xs ys 0 i l) ∙ h i (omega arith)
+counted_front b xs ys h = λ i l. let len : length (xs ++ ys) ≡ length xs + length ys = length-append xs ys in
+    sym (get_or_append_left xs ys 0 i l) ∙ h i (omega arith)
 
 pub counted_back : (b : ℕ) (xs ys : List ℕ) → IsCountedFrom b (xs ++ ys) → IsCountedFrom (b + length xs) ys
 counted_back b xs ys h = λ i l.
@@ -150,26 +161,32 @@ counted_back b xs ys h = λ i l.
     omega arith
 
 -- the numbers of the first group's requests, and those of the others
-pub front_of : (b : ℕ) (g : Group) (gs : List Group) → IsCountedFrom b (map (λ q. q.number.0) (requests_of (g ∷ gs))) → IsCountedFrom b (map (λ q. q.number.0) g.requests)
-front_of b g gs h = counted_front b (map (λ q. q.number.0) g.requests) (map (λ q. q.number.0) (requests_of gs)) (subst (IsCountedFrom b) (map-append (λ q. q.number.0) g.requests (requests_of gs)) h)
+pub front_of : (b : ℕ) (g : Group) (gs : List Group) → IsCountedFrom b (map (λ q. q.number.0) (requests_of (g ∷ gs)))
+    → IsCountedFrom b (map (λ q. q.number.0) g.requests)
+front_of b g gs h = counted_front b (map (λ q. q.number.0) g.requests) (map (λ q. q.number.0) (requests_of gs))
+    (subst (IsCountedFrom b) (map-append (λ q. q.number.0) g.requests (requests_of gs)) h)
 
-pub back_of : (b : ℕ) (g : Group) (gs : List Group) → IsCountedFrom b (map (λ q. q.number.0) (requests_of (g ∷ gs))) → IsCountedFrom (b + length g.requests) (map (λ q. q.number.0) (requests_of gs))
+pub back_of : (b : ℕ) (g : Group) (gs : List Group) → IsCountedFrom b (map (λ q. q.number.0) (requests_of (g ∷ gs)))
+    → IsCountedFrom (b + length g.requests) (map (λ q. q.number.0) (requests_of gs))
 back_of b g gs h =
     subst (λ (n : ℕ). IsCountedFrom (b + n) (map (λ q. q.number.0) (requests_of gs))) (length-map g.requests (λ q. q.number.0))
-    (counted_back b (map (λ q. q.number.0) g.requests) (map (λ q. q.number.0) (requests_of gs)) (subst (IsCountedFrom b) (map-append (λ q. q.number.0) g.requests (requests_of gs)) h))
+    (counted_back b (map (λ q. q.number.0) g.requests) (map (λ q. q.number.0) (requests_of gs))
+    (subst (IsCountedFrom b) (map-append (λ q. q.number.0) g.requests (requests_of gs)) h))
 
 -- as many owners as requests
 pub owners_length : (p : ℕ) (gs : List Group) → length (owners_from p gs) ≡ length (requests_of gs)
 owners_length p [] = refl
 owners_length p (g ∷ gs) =
-    let a : length (map (λ q. p) g.requests ++ owners_from (p + 1) gs) ≡ length (map (λ q. p) g.requests) + length (owners_from (p + 1) gs) = length-append (map (λ q. p) g.requests) (owners_from (p + 1) gs) in
+    let a : length (map (λ q. p) g.requests ++ owners_from (p + 1) gs) ≡ length (map (λ q. p) g.requests) + length (owners_from (p + 1) gs) =
+    length-append (map (λ q. p) g.requests) (owners_from (p + 1) gs) in
     let b : length (map (λ q. p) g.requests) ≡ length g.requests = length-map g.requests (λ q. p) in
     let c : length (owners_from (p + 1) gs) ≡ length (requests_of gs) = owners_length (p + 1) gs in
     let d : length (g.requests ++ requests_of gs) ≡ length g.requests + length (requests_of gs) = length-append g.requests (requests_of gs) in
     omega arith
 
 -- no group has a request of a number at or below that after which they go on
-pub with_none : (b : ℕ) (number : RequestNo) (gs : List Group) → IsCountedFrom b (map (λ q. q.number.0) (requests_of gs)) → number.0 ≤ b → group_with gs number ≡ None
+pub with_none : (b : ℕ) (number : RequestNo) (gs : List Group) → IsCountedFrom b (map (λ q. q.number.0) (requests_of gs)) → number.0 ≤ b
+    → group_with gs number ≡ None
 with_none b number [] h e = refl
 with_none b number (g ∷ gs) h e =
     find_step (has_request number g) g (group_with gs number) None
@@ -181,7 +198,8 @@ with_none b number (g ∷ gs) h e =
     (with_none (b + length g.requests) number gs (back_of b g gs h) (omega arith))
 
 -- nor of one beyond all
-pub with_beyond : (b p k : ℕ) (number : RequestNo) (gs : List Group) → IsCountedFrom b (map (λ q. q.number.0) (requests_of gs)) → number.0 ≡ b + k + 1 → length (requests_of gs) ≤ k → group_with gs number ≡ None
+pub with_beyond : (b p k : ℕ) (number : RequestNo) (gs : List Group) → IsCountedFrom b (map (λ q. q.number.0) (requests_of gs)) → number.0 ≡ b + k + 1
+    → length (requests_of gs) ≤ k → group_with gs number ≡ None
 with_beyond b p k number [] h e far = refl
 with_beyond b p k number (g ∷ gs) h e far =
     let d : length (g.requests ++ requests_of gs) ≡ length g.requests + length (requests_of gs) = length-append g.requests (requests_of gs) in
@@ -213,10 +231,12 @@ owns_later p o number g gs h r =
       within = omega arith;
       group =
           let next : o - p ≡ suc (o - (p + 1)) = omega arith in
-          find_step (has_request number g) g (group_with gs number) (Some (get_or gs (o - (p + 1)) no_group)) h r.group ∙ ap (λ (i : ℕ). Some (get_or (g ∷ gs) i no_group)) (sym next);
+          find_step (has_request number g) g (group_with gs number) (Some (get_or gs (o - (p + 1)) no_group)) h r.group
+          ∙ ap (λ (i : ℕ). Some (get_or (g ∷ gs) i no_group)) (sym next);
     }
 
-pub owner_from : (b p k : ℕ) (number : RequestNo) (gs : List Group) → IsCountedFrom b (map (λ q. q.number.0) (requests_of gs)) → number.0 ≡ b + k + 1 → k < length (requests_of gs) → Owns p (get_or (owners_from p gs) k p) number gs
+pub owner_from : (b p k : ℕ) (number : RequestNo) (gs : List Group) → IsCountedFrom b (map (λ q. q.number.0) (requests_of gs)) → number.0 ≡ b + k + 1
+    → k < length (requests_of gs) → Owns p (get_or (owners_from p gs) k p) number gs
 owner_from b p k number [] h e l = absurd (omega arith)
 owner_from b p k number (g ∷ gs) h e l =
     let all : length (g.requests ++ requests_of gs) ≡ length g.requests + length (requests_of gs) = length-append g.requests (requests_of gs) in
@@ -229,11 +249,13 @@ owner_from b p k number (g ∷ gs) h e l =
           (has_here b k number g.requests (front_of b g gs h) e here)
       | inr beyond ↦
           let j : ℕ = k - length g.requests in
-          let rest : Owns (p + 1) (get_or (owners_from (p + 1) gs) j (p + 1)) number gs = owner_from (b + length g.requests) (p + 1) j number gs (back_of b g gs h) (omega arith) (omega arith) in
+          let rest : Owns (p + 1) (get_or (owners_from (p + 1) gs) j (p + 1)) number gs =
+          owner_from (b + length g.requests) (p + 1) j number gs (back_of b g gs h) (omega arith) (omega arith) in
           let count : length (owners_from (p + 1) gs) ≡ length (requests_of gs) = owners_length (p + 1) gs in
           let inside : j < length (owners_from (p + 1) gs) = omega arith in
           let same : get_or (owners_from p (g ∷ gs)) k p ≡ get_or (owners_from (p + 1) gs) j (p + 1) =
-          get_or-append_right (map (λ q. p) g.requests) (owners_from (p + 1) gs) (length g.requests) k p mapped beyond ∙ get_or_default (owners_from (p + 1) gs) j p (p + 1) inside in
+          get_or-append_right (map (λ q. p) g.requests) (owners_from (p + 1) gs) (length g.requests) k p mapped beyond
+          ∙ get_or_default (owners_from (p + 1) gs) j p (p + 1) inside in
           owns_later p (get_or (owners_from p (g ∷ gs)) k p) number g gs (has_not b k number g.requests (front_of b g gs h) e beyond)
           (subst (λ (o : ℕ). Owns (p + 1) o number gs) (sym same) rest)
     ]

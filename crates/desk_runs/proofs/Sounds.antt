@@ -1,5 +1,6 @@
 -- A moment leaves a sound state.
-use Rattle.std.proofs.Common.{◌≡◌, ℕ, ◌+◌, ◌<◌, ◌≤◌, ◌==◌, Bool, true, false, cond, not, ◌&&◌, List, [], ◌∷◌, ◌++◌, length, map, filter, All, get_or, refl, sym, ◌∙◌, ap, subst, arith, inl, inr}
+use Rattle.std.proofs.Common.{◌≡◌, ℕ, ◌+◌, ◌<◌, ◌≤◌, ◌==◌, Bool, true, false, cond, not, ◌&&◌, List, [], ◌∷◌, ◌++◌, length, map, filter, All, get_or}
+use Rattle.std.proofs.Common.{refl, sym, ◌∙◌, ap, subst, arith, inl, inr}
 use Rattle.std.specs.List.{AllZip, list_any, count_by}
 use Rattle.std.proofs.lemmas.Bool.{and_parts, and_right, or_cases, or_left, or_right, eqb-true, eq-eqb}
 use Rattle.std.proofs.lemmas.List.Elements.{All-append, All-filter, filter_passes}
@@ -15,7 +16,8 @@ use Rattle.desk_runs.specs.declared.observation.Observation.{Observation}
 use Rattle.plan_base.specs.States.{is_pending}
 use Rattle.desk_runs.specs.Numbers.{is_request, has_request, is_pending_at, is_placed}
 use Rattle.desk_runs.specs.Progress.{Progress}
-use Rattle.desk_runs.specs.Clock.{has_begun, has_ended, beginning, started, stopped, is_waiting, is_past, with_state, change_requests, with_past, is_lost, with_lost, settle, at_moment}
+use Rattle.desk_runs.specs.Clock.{has_begun, has_ended, beginning, started, stopped, is_waiting, is_past, with_state, change_requests, with_past}
+use Rattle.desk_runs.specs.Clock.{is_lost, with_lost, settle, at_moment}
 use Rattle.desk_runs.specs.Sound.{IsNumbered, IsSound, IsOneOfOnce, AllPending, IsLater}
 use Rattle.desk_runs.proofs.Lists.{of_choice}
 use Rattle.desk_runs.proofs.Settling.{facts_of, settle_settles}
@@ -31,11 +33,13 @@ not_waiting running q e = ap (λ (b : Bool). is_pending q.state && not b) e ∙ 
 not_past : (running : List Observation) (now : Sec) (q : Request) → is_placed running q.number ≡ true → is_past running now q ≡ false
 not_past running now q e = and_right _ (is_waiting running q) (not_waiting running q e)
 
-placed_number : (running : List Observation) (number : RequestNo) (q : Request) → is_placed running number ≡ true → is_request number q ≡ true → is_placed running q.number ≡ true
+placed_number : (running : List Observation) (number : RequestNo) (q : Request) → is_placed running number ≡ true → is_request number q ≡ true
+    → is_placed running q.number ≡ true
 placed_number running number q e h = ap (λ (n : ℕ). list_any (λ o. o.request.0 == n) running) (eqb-true q.number.0 number.0 h) ∙ e
 
 -- a test that passes before a map passes after, where the map leaves what passes
-pub any_kept : {X : Type 0} (p : X → Bool) (f : X → X) → ((x : X) → p x ≡ true → p (f x) ≡ true) → (xs : List X) → list_any p xs ≡ true → list_any p (map f xs) ≡ true
+pub any_kept : {X : Type 0} (p : X → Bool) (f : X → X) → ((x : X) → p x ≡ true → p (f x) ≡ true) → (xs : List X) → list_any p xs ≡ true
+    → list_any p (map f xs) ≡ true
 any_kept p f h [] e = e
 any_kept p f h (x ∷ xs) e = elim (or_cases (p x) (list_any p xs) e) [
   | inl here ↦ or_left (p (f x)) (list_any p (map f xs)) (h x here)
@@ -46,25 +50,32 @@ any_kept p f h (x ∷ xs) e = elim (or_cases (p x) (list_any p xs) e) [
 abbrev pub is_pending_request : RequestNo → Request → Bool
 is_pending_request number q = is_request number q && is_pending q.state
 
-kept_by_change : (running : List Observation) (number : RequestNo) (test : Request → Bool) → ((q : Request) → is_placed running q.number ≡ true → test q ≡ false) → is_placed running number ≡ true
+kept_by_change : (running : List Observation) (number : RequestNo) (test : Request → Bool)
+    → ((q : Request) → is_placed running q.number ≡ true → test q ≡ false) → is_placed running number ≡ true
     → (q : Request) → is_pending_request number q ≡ true → is_pending_request number (cond (test q) (with_state WindowExpired q) q) ≡ true
 kept_by_change running number test free placed q e =
     let no : test q ≡ false = free q (placed_number running number q placed (and_parts (is_request number q) (is_pending q.state) e).0) in
-    of_choice (λ (r : Request). is_pending_request number r ≡ true) (test q) (with_state WindowExpired q) q (λ t. let bad : false ≡ true = sym no ∙ t in cc) (λ f. e)
+    of_choice (λ (r : Request). is_pending_request number r ≡ true) (test q) (with_state WindowExpired q) q
+    (λ t. let bad : false ≡ true = sym no ∙ t in cc) (λ f. e)
 
 abbrev pub has_pending : RequestNo → Group → Bool
 has_pending number g = list_any (is_pending_request number) g.requests
 
-kept_by_turn : (running : List Observation) (now : Sec) (number : RequestNo) → is_placed running number ≡ true → (g : Group) → has_pending number g ≡ true → has_pending number (turned running now g) ≡ true
+kept_by_turn : (running : List Observation) (now : Sec) (number : RequestNo) → is_placed running number ≡ true → (g : Group)
+    → has_pending number g ≡ true → has_pending number (turned running now g) ≡ true
 kept_by_turn running now number placed g e =
     let past : Group = with_past running now g in
-    let first : has_pending number past ≡ true = any_kept (is_pending_request number) (λ q. cond (is_past running now q) (with_state WindowExpired q) q) (kept_by_change running number (is_past running now) (not_past running now) placed) g.requests e in
+    let first : has_pending number past ≡ true =
+    any_kept (is_pending_request number) (λ q. cond (is_past running now q) (with_state WindowExpired q) q)
+    (kept_by_change running number (is_past running now) (not_past running now) placed) g.requests e in
     of_choice (λ (x : Group). has_pending number x ≡ true) (is_lost past) (change_requests (is_waiting running) WindowExpired past) past
-    (λ t. any_kept (is_pending_request number) (λ q. cond (is_waiting running q) (with_state WindowExpired q) q) (kept_by_change running number (is_waiting running) (not_waiting running) placed) past.requests first)
+    (λ t. any_kept (is_pending_request number) (λ q. cond (is_waiting running q) (with_state WindowExpired q) q)
+    (kept_by_change running number (is_waiting running) (not_waiting running) placed) past.requests first)
     (λ f. first)
 
 -- a request that is running and pending is pending after the two steps on groups
-pub pending_after : (running : List Observation) (now : Sec) (gs : List Group) (number : RequestNo) → is_placed running number ≡ true → is_pending_at gs number ≡ true → is_pending_at (map (turned running now) gs) number ≡ true
+pub pending_after : (running : List Observation) (now : Sec) (gs : List Group) (number : RequestNo) → is_placed running number ≡ true
+    → is_pending_at gs number ≡ true → is_pending_at (map (turned running now) gs) number ≡ true
 pending_after running now gs number placed e = any_kept (has_pending number) (turned running now) (kept_by_turn running now number placed) gs e
 
 -- ---- what a moment needs
@@ -88,14 +99,17 @@ running_after s r =
     let running : List Observation = (stopped (started s)).running in
     let before : AllPending s.groups running =
     All-filter (λ o. not (has_ended s.len s.moment o)) (λ o. is_pending_at s.groups o.request ≡ true) (s.running ++ beginning s)
-    (All-append (λ o. is_pending_at s.groups o.request ≡ true) s.running (beginning s) r.running (all_kept (λ o. is_pending_at s.groups o.request ≡ true) (has_begun s.len s.moment) s.kept r.begun)) in
-    λ k d l. subst (λ (gs : List Group). is_pending_at gs (get_or running k d).request ≡ true) (map_twice s running) (pending_after running s.moment s.groups (get_or running k d).request (placed_here running k d l) (before k d l))
+    (All-append (λ o. is_pending_at s.groups o.request ≡ true) s.running (beginning s) r.running
+    (all_kept (λ o. is_pending_at s.groups o.request ≡ true) (has_begun s.len s.moment) s.kept r.begun)) in
+    λ k d l. subst (λ (gs : List Group). is_pending_at gs (get_or running k d).request ≡ true) (map_twice s running)
+    (pending_after running s.moment s.groups (get_or running k d).request (placed_here running k d l) (before k d l))
   where
     map_map : (f h : Group → Group) (gs : List Group) → map (λ g. h (f g)) gs ≡ map h (map f gs)
     map_map f h [] = refl
     map_map f h (g ∷ gs) = ap (λ (l : List Group). h (f g) ∷ l) (map_map f h gs)
 
-    map_twice : (s : Progress) (running : List Observation) → map (turned running s.moment) s.groups ≡ map (with_lost running) (map (with_past running s.moment) s.groups)
+    map_twice : (s : Progress) (running : List Observation)
+        → map (turned running s.moment) s.groups ≡ map (with_lost running) (map (with_past running s.moment) s.groups)
     map_twice s running = map_map (with_past running s.moment) (with_lost running) s.groups
 
 count_filters : (p q : Observation → Bool) (xs : List Observation) → count_by q (filter p xs) + count_by q (filter (λ o. not (p o)) xs) ≡ count_by q xs
@@ -124,12 +138,15 @@ groups_after s = sym (map_both (with_past (settle s).running s.moment) (with_los
 -- what a moment leaves is sound
 pub settle_sound : (s : Progress) → IsReady s → IsSound (settle s)
 settle_sound s r =
-    let later : AllZip IsLater s.groups (settle s).groups = subst (AllZip IsLater s.groups) (sym (groups_after s)) (later_map (turned (settle s).running s.moment) (later_turned (settle s).running s.moment) s.groups) in
+    let later : AllZip IsLater s.groups (settle s).groups =
+    subst (AllZip IsLater s.groups) (sym (groups_after s))
+    (later_map (turned (settle s).running s.moment) (later_turned (settle s).running s.moment) s.groups) in
     record {
       numbered = numbered_later s.groups (settle s).groups later r.numbered;
       settled = settle_settles s;
       running = running_after s r;
-      once = once_later s.groups (settle s).groups (s.kept ++ s.running) ((settle s).kept ++ (settle s).running) later (λ g. fewer_after s (λ o. has_request o.request g)) r.once;
+      once = once_later s.groups (settle s).groups (s.kept ++ s.running) ((settle s).kept ++ (settle s).running) later
+          (λ g. fewer_after s (λ o. has_request o.request g)) r.once;
     }
 
 -- a sound state is ready for another moment

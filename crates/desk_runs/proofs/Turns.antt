@@ -1,5 +1,6 @@
 -- What a moment does to groups, one after another.
-use Rattle.std.proofs.Common.{◌≡◌, ℕ, ◌+◌, ◌<◌, Bool, true, false, cond, ◌&&◌, List, [], ◌∷◌, ◌++◌, length, map, filter, All, get_or, take, refl, ◌∙◌, ap, inl, inr}
+use Rattle.std.proofs.Common.{◌≡◌, ℕ, ◌+◌, ◌<◌, Bool, true, false, cond, ◌&&◌, List, [], ◌∷◌, ◌++◌, length, map, filter, All, get_or, take, refl, ◌∙◌}
+use Rattle.std.proofs.Common.{ap, inl, inr}
 use Rattle.std.specs.List.{list_any, flat_map}
 use Rattle.std.proofs.lemmas.Bool.{or_parts, and_cases}
 use Rattle.std.proofs.lemmas.List.{append-nil, map-append, map_more}
@@ -45,7 +46,8 @@ over_none [] = refl
 over_none (q ∷ qs) = ap (λ (b : Bool). cond b (q.number ∷ became is_over qs qs) (became is_over qs qs)) (same_state q.state) ∙ over_none qs
 
 -- nothing is over in a group that isn't touched
-pub untouched_over : (running : List Observation) (now : Sec) (g : Group) → is_touched running now g ≡ false → became is_over g.requests (turned running now g).requests ≡ []
+pub untouched_over : (running : List Observation) (now : Sec) (g : Group) → is_touched running now g ≡ false
+    → became is_over g.requests (turned running now g).requests ≡ []
 untouched_over running now g e = ap (λ (h : Group). became is_over g.requests h.requests) (untouched running now g e) ∙ over_none g.requests
 
 -- ---- steps of loops
@@ -56,11 +58,13 @@ map_choice f false g = refl
 
 -- one group more of those that are changed
 pub changed_more : (p : Group → Bool) (f : Group → Group) (gs : List Group) (ns : List GroupNo) (i : ℕ) (d : GroupNo) → i < length ns
-    → map f (filter p (groups_of gs (take (i + 1) ns))) ≡ map f (filter p (groups_of gs (take i ns))) ++ cond (p (group_of gs (get_or ns i d))) (f (group_of gs (get_or ns i d)) ∷ []) []
+    → map f (filter p (groups_of gs (take (i + 1) ns))) ≡ map f (filter p (groups_of gs (take i ns)))
+    ++ cond (p (group_of gs (get_or ns i d))) (f (group_of gs (get_or ns i d)) ∷ []) []
 changed_more p f gs ns i d l =
     let g : Group = group_of gs (get_or ns i d) in
     let before : List Group = groups_of gs (take i ns) in
-    ap (λ (l : List Group). map f (filter p l)) (map_more (group_of gs) ns i d l) ∙ ap (map f) (filter-append p before (g ∷ [])) ∙ map-append f (filter p before) (filter p (g ∷ []))
+    ap (λ (l : List Group). map f (filter p l)) (map_more (group_of gs) ns i d l) ∙ ap (map f) (filter-append p before (g ∷ []))
+    ∙ map-append f (filter p before) (filter p (g ∷ []))
     ∙ ap (λ (l : List Group). map f (filter p before) ++ l) (map_choice f (p g) g)
 
 -- and of what they give
@@ -69,4 +73,5 @@ pub gathered_more : (h : Group → List RequestNo) (gs : List Group) (ns : List 
 gathered_more h gs ns i d l =
     let g : Group = group_of gs (get_or ns i d) in
     let before : List Group = groups_of gs (take i ns) in
-    ap (flat_map h) (map_more (group_of gs) ns i d l) ∙ flat_map-append h before (g ∷ []) ∙ ap (λ (l : List RequestNo). flat_map h before ++ l) (append-nil (h g))
+    ap (flat_map h) (map_more (group_of gs) ns i d l) ∙ flat_map-append h before (g ∷ [])
+    ∙ ap (λ (l : List RequestNo). flat_map h before ++ l) (append-nil (h g))

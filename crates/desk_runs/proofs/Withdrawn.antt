@@ -1,5 +1,6 @@
 -- A withdrawal leaves a sound state.
-use Rattle.std.proofs.Common.{◌≡◌, ℕ, ◌≤◌, Bool, true, false, cond, not, List, [], ◌∷◌, ◌++◌, map, filter, All, get_or, refl, sym, ◌∙◌, ap, subst, arith, inl, inr, Some}
+use Rattle.std.proofs.Common.{◌≡◌, ℕ, ◌≤◌, Bool, true, false, cond, not, List, [], ◌∷◌, ◌++◌, map, filter, All, get_or, refl, sym, ◌∙◌, ap, subst}
+use Rattle.std.proofs.Common.{arith, inl, inr, Some}
 use Rattle.std.specs.List.{AllZip, list_any, count_by, fold}
 use Rattle.std.proofs.lemmas.Bool.{and_left, and_right, or_cases, or_left, or_right, eqb-true, cases_Bool, cond-true, cond-false, false_from_ne_true}
 use Rattle.std.proofs.lemmas.List.Elements.{All-nil, All-cons, All-head, All-tail, All-map, All-weaker, All-filter, filter_passes}
@@ -37,21 +38,25 @@ none_pending g =
     (λ q. of_choice (λ (r : Request). is_pending r.state ≡ false) (is_pending q.state) (with_state Canceled q) q (λ t. refl) (λ f. f)))
 
 none_waiting : (running : List Observation) (g : Group) → All (λ q. is_waiting running q ≡ false) (canceled g).requests
-none_waiting running g = All-weaker (λ q. is_pending q.state ≡ false) (λ q. is_waiting running q ≡ false) (λ q e. and_left (is_pending q.state) (not (is_placed running q.number)) e) (canceled g).requests (none_pending g)
+none_waiting running g = All-weaker (λ q. is_pending q.state ≡ false) (λ q. is_waiting running q ≡ false)
+    (λ q e. and_left (is_pending q.state) (not (is_placed running q.number)) e) (canceled g).requests (none_pending g)
 
 past_canceled : (running : List Observation) (now : Sec) (g : Group) → with_past running now (canceled g) ≡ canceled g
 past_canceled running now g =
     change_none (is_past running now) WindowExpired (canceled g)
-    (All-weaker (λ q. is_waiting running q ≡ false) (λ q. is_past running now q ≡ false) (λ q e. and_right _ (is_waiting running q) e) (canceled g).requests (none_waiting running g))
+    (All-weaker (λ q. is_waiting running q ≡ false) (λ q. is_past running now q ≡ false) (λ q e. and_right _ (is_waiting running q) e)
+    (canceled g).requests (none_waiting running g))
 
 lost_canceled : (running : List Observation) (g : Group) → with_lost running (canceled g) ≡ canceled g
 lost_canceled running g = lost_none running (canceled g) (none_waiting running g)
 
 -- what is fixed for each group stays so where one is canceled
-fixed_where : (T : Group → Group) (p : Group → Bool) → ((g : Group) → T (canceled g) ≡ canceled g) → (gs : List Group) → All (λ g. T g ≡ g) gs → All (λ g. T g ≡ g) (map (change_where p canceled) gs)
+fixed_where : (T : Group → Group) (p : Group → Bool) → ((g : Group) → T (canceled g) ≡ canceled g) → (gs : List Group) → All (λ g. T g ≡ g) gs
+    → All (λ g. T g ≡ g) (map (change_where p canceled) gs)
 fixed_where T p h gs fixed =
     All-map (λ g. T g ≡ g) (change_where p canceled) gs
-    (All-weaker (λ g. T g ≡ g) (λ g. T (change_where p canceled g) ≡ change_where p canceled g) (λ g e. of_choice (λ (x : Group). T x ≡ x) (p g) (canceled g) g (λ t. h g) (λ f. e)) gs fixed)
+    (All-weaker (λ g. T g ≡ g) (λ g. T (change_where p canceled g) ≡ change_where p canceled g)
+    (λ g e. of_choice (λ (x : Group). T x ≡ x) (p g) (canceled g) g (λ t. h g) (λ f. e)) gs fixed)
 
 -- the facts of a settled state after a withdrawal
 pub withdrawn_facts : (s : Progress) (n : GroupNo) → Facts s → Facts (withdrawn n s)
@@ -63,7 +68,8 @@ withdrawn_facts s n f = record {
   pending = filter_passes (λ o. is_pending_at (withdrawn n s).groups o.request) s.kept;
 }
 
-idle_has_none : (running : List Observation) (number : RequestNo) (qs : List Request) → is_placed running number ≡ true → All (λ q. is_placed running q.number ≡ false) qs → list_any (is_pending_request number) qs ≡ false
+idle_has_none : (running : List Observation) (number : RequestNo) (qs : List Request) → is_placed running number ≡ true
+    → All (λ q. is_placed running q.number ≡ false) qs → list_any (is_pending_request number) qs ≡ false
 idle_has_none running number qs placed idle =
     list_any_none (is_pending_request number) qs
     (All-weaker (λ q. is_placed running q.number ≡ false) (λ q. is_pending_request number q ≡ false)
@@ -71,13 +77,15 @@ idle_has_none running number qs placed idle =
     (λ is. let bad : false ≡ true = sym none ∙ ap (λ (n : ℕ). is_placed running (record { 0 = n })) (eqb-true q.number.0 number.0 is) ∙ placed in cc))) qs idle)
 
 -- a running request stays pending where an idle group is canceled
-pending_where : (running : List Observation) (number : RequestNo) (p : Group → Bool) → is_placed running number ≡ true → (gs : List Group) → All (λ g. p g ≡ true → IsIdle running g) gs → is_pending_at gs number ≡ true → is_pending_at (map (change_where p canceled) gs) number ≡ true
+pending_where : (running : List Observation) (number : RequestNo) (p : Group → Bool) → is_placed running number ≡ true → (gs : List Group)
+    → All (λ g. p g ≡ true → IsIdle running g) gs → is_pending_at gs number ≡ true → is_pending_at (map (change_where p canceled) gs) number ≡ true
 pending_where running number p placed [] idle e = e
 pending_where running number p placed (g ∷ gs) idle e = elim (or_cases (has_pending number g) (is_pending_at gs number) e) [
   | inl here ↦
       or_left (has_pending number (change_where p canceled g)) (is_pending_at (map (change_where p canceled) gs) number)
       (of_choice (λ (x : Group). has_pending number x ≡ true) (p g) (canceled g) g
-      (λ t. let bad : false ≡ true = sym (idle_has_none running number g.requests placed (All-head (λ x. p x ≡ true → IsIdle running x) g gs idle t)) ∙ here in cc) (λ f. here))
+      (λ t. let bad : false ≡ true = sym (idle_has_none running number g.requests placed (All-head (λ x. p x ≡ true → IsIdle running x) g gs idle t))
+      ∙ here in cc) (λ f. here))
   | inr there ↦
       or_right (has_pending number (change_where p canceled g)) (is_pending_at (map (change_where p canceled) gs) number)
       (pending_where running number p placed gs (All-tail (λ x. p x ≡ true → IsIdle running x) g gs idle) there)
@@ -99,10 +107,12 @@ withdrawn_sound s n h idle =
       numbered = numbered_later s.groups (withdrawn n s).groups later h.numbered;
       settled = settled_by (withdrawn n s) (withdrawn_facts s n (facts_of s h.settled));
       running = λ k d l. pending_where s.running (get_or s.running k d).request (is_group n) (placed_here s.running k d l) s.groups idle (h.running k d l);
-      once = once_later s.groups (withdrawn n s).groups (s.kept ++ s.running) ((withdrawn n s).kept ++ s.running) later (λ g. fewer_kept (λ o. is_pending_at (withdrawn n s).groups o.request) (λ o. has_request o.request g) s.kept s.running) h.once;
+      once = once_later s.groups (withdrawn n s).groups (s.kept ++ s.running) ((withdrawn n s).kept ++ s.running) later
+          (λ g. fewer_kept (λ o. is_pending_at (withdrawn n s).groups o.request) (λ o. has_request o.request g) s.kept s.running) h.once;
     }
 
-picked_idle : (p : Group → Bool) (gs : List Group) (g0 : Group) (running : List Observation) → filter p gs ≡ g0 ∷ [] → IsIdle running g0 → All (λ g. p g ≡ true → IsIdle running g) gs
+picked_idle : (p : Group → Bool) (gs : List Group) (g0 : Group) (running : List Observation) → filter p gs ≡ g0 ∷ [] → IsIdle running g0
+    → All (λ g. p g ≡ true → IsIdle running g) gs
 picked_idle p [] g0 running e idle = All-nil (λ g. p g ≡ true → IsIdle running g)
 picked_idle p (g ∷ gs) g0 running e idle = elim (cases_Bool (p g)) [
   | inl hit ↦
@@ -129,27 +139,33 @@ pub record IsWithdrawal (s : Progress) (n : GroupNo) (c : Change) : Type 0 where
   pub does : changed s c ≡ withdrawn n s
   pub can : CanChange s c
 
-pub withdrawal : (s : Progress) (n : GroupNo) (g0 : Group) (kept : List Observation) (over : List RequestNo) → IsSound s → group_at s.groups n ≡ Some g0 → IsIdle s.running g0 → over ≡ became is_over g0.requests (canceled g0).requests
-    → kept ≡ filter (λ o. not (is_among o.request over)) s.kept → IsWithdrawal s n (record { now = s.moment; groups = canceled g0 ∷ []; kept = kept; running = s.running })
+pub withdrawal : (s : Progress) (n : GroupNo) (g0 : Group) (kept : List Observation) (over : List RequestNo) → IsSound s
+    → group_at s.groups n ≡ Some g0 → IsIdle s.running g0 → over ≡ became is_over g0.requests (canceled g0).requests
+    → kept ≡ filter (λ o. not (is_among o.request over)) s.kept
+    → IsWithdrawal s n (record { now = s.moment; groups = canceled g0 ∷ []; kept = kept; running = s.running })
 withdrawal s n g0 kept over h at idle o k =
     let pick : filter (is_group n) s.groups ≡ g0 ∷ [] = picked_from 0 s.groups n g0 (counted_from (map (λ g. g.number.0) s.groups) h.numbered.groups) at in
     let groups : fold put s.groups (canceled g0 ∷ []) ≡ (withdrawn n s).groups = put_one (is_group n) canceled s.groups g0 later_canceled h.numbered pick in
     let kept_are : kept ≡ (withdrawn n s).kept =
-    k ∙ ap (λ (l : List RequestNo). filter (λ x. not (is_among x.request l)) s.kept) o ∙ drop_one (is_group n) canceled s.groups g0 s.kept later_canceled h.numbered pick (facts_of s h.settled).pending in
+    k ∙ ap (λ (l : List RequestNo). filter (λ x. not (is_among x.request l)) s.kept) o
+    ∙ drop_one (is_group n) canceled s.groups g0 s.kept later_canceled h.numbered pick (facts_of s h.settled).pending in
     let c : Change = record { now = s.moment; groups = canceled g0 ∷ []; kept = kept; running = s.running } in
     let does : changed s c ≡ withdrawn n s =
-    ap (λ (l : List Group). let p : Progress = record s { groups = l; kept = kept } in p) groups ∙ ap (λ (l : List Observation). let p : Progress = record s { groups = (withdrawn n s).groups; kept = l } in p) kept_are in
+    ap (λ (l : List Group). let p : Progress = record s { groups = l; kept = kept } in p) groups
+    ∙ ap (λ (l : List Observation). let p : Progress = record s { groups = (withdrawn n s).groups; kept = l } in p) kept_are in
     record {
       does = does;
       can = record {
         later = subst (λ (p : Progress). AllZip IsLater s.groups p.groups) (sym does) (all_later (is_group n) canceled later_canceled s.groups);
-        told = subst (λ (p : Progress). AreTold s.groups (canceled g0 ∷ []) p.groups) (sym does) (told_one (is_group n) canceled s.groups g0 later_canceled h.numbered pick);
+        told = subst (λ (p : Progress). AreTold s.groups (canceled g0 ∷ []) p.groups) (sym does)
+            (told_one (is_group n) canceled s.groups g0 later_canceled h.numbered pick);
         sound = subst IsSound (sym does) (withdrawn_sound s n h (picked_idle (is_group n) s.groups g0 s.running pick idle));
       };
     }
 
 -- the same of what was computed step by step
-pub withdrawal_found : (s : Progress) (n : GroupNo) (g0 after : Group) (over : List RequestNo) (running : List Observation) (c : Change) → IsSound s → group_at s.groups n ≡ Some g0 → IsIdle s.running g0 → after ≡ canceled g0
+pub withdrawal_found : (s : Progress) (n : GroupNo) (g0 after : Group) (over : List RequestNo) (running : List Observation) (c : Change) → IsSound s
+    → group_at s.groups n ≡ Some g0 → IsIdle s.running g0 → after ≡ canceled g0
     → over ≡ became is_over g0.requests after.requests → running ≡ s.running
     → c ≡ record { now = s.moment; groups = after ∷ []; kept = filter (λ o. not (is_among o.request over)) s.kept; running = running } → IsWithdrawal s n c
 withdrawal_found s n g0 after over running c h at idle a o r e =
@@ -167,5 +183,6 @@ idle_found s n g w e = let both : Some w.group ≡ Some g = sym w.there ∙ e in
 -- a withdrawal that may be made leaves a sound state
 pub withdrawable_sound : (s : Progress) (n : GroupNo) → IsSound s → IsWithdrawable n s → IsSound (withdrawn n s)
 withdrawable_sound s n h w =
-    let pick : filter (is_group n) s.groups ≡ w.group ∷ [] = picked_from 0 s.groups n w.group (counted_from (map (λ g. g.number.0) s.groups) h.numbered.groups) w.there in
+    let pick : filter (is_group n) s.groups ≡ w.group ∷ [] =
+    picked_from 0 s.groups n w.group (counted_from (map (λ g. g.number.0) s.groups) h.numbered.groups) w.there in
     withdrawn_sound s n h (picked_idle (is_group n) s.groups w.group s.running pick w.idle)

@@ -81,7 +81,8 @@ MomentLeavesOver = (s : Progress) (now : Sec) → StaysOver s (settle (at_moment
 
 -- a report on a running request, which is pending
 abbrev pub ReportLeavesOver : Type 0
-ReportLeavesOver = (s : Progress) (number : RequestNo) (completes : Bool) → IsSound s → is_placed s.running number ≡ true → StaysOver s (reported number completes s)
+ReportLeavesOver = (s : Progress) (number : RequestNo) (completes : Bool) → IsSound s → is_placed s.running number ≡ true
+    → StaysOver s (reported number completes s)
 
 -- and so does a withdrawal, whether or not its group is there
 abbrev pub WithdrawalLeavesOver : Type 0

@@ -20,7 +20,8 @@ use Rattle.explain.specs.Through.{IsTableUntil}
 use Rattle.explain.specs.Steps.{IsFilled, IsChart}
 use Rattle.explain.proofs.BestsUntil.{table_until}
 
-module _ (s : Parts) (prices : List ℤ) (t : ℕ) (rows : List (List Start)) (orderly : IsOrderly s) (listing : IsListing s prices t (IsBefore s (length (listed s))) rows) where
+module _ (s : Parts) (prices : List ℤ) (t : ℕ) (rows : List (List Start)) (orderly : IsOrderly s)
+    (listing : IsListing s prices t (IsBefore s (length (listed s))) rows) where
   module _ (table : List ℤ) (filled : IsFilled rows table) where
     -- the number until slice k
     abbrev until_slice : ℕ → ℤ
@@ -29,7 +30,8 @@ module _ (s : Parts) (prices : List ℤ) (t : ℕ) (rows : List (List Start)) (o
     rises : (k : ℕ) → s.first.0 ≤ k → k < horizon_end s → until_slice k ≤ℤ until_slice (suc k)
     rises k from below =
         let count : length rows ≡ s.slices = listing.count in
-        let up : (entry table (k - s.first.0) +ℤ pos 0) ≤ℤ entry table (k - s.first.0 + 1) = filled.above (k - s.first.0) (k - s.first.0 + 1) (pos 0) (omega arith, inl (refl, refl)) in
+        let up : (entry table (k - s.first.0) +ℤ pos 0) ≤ℤ entry table (k - s.first.0 + 1) =
+        filled.above (k - s.first.0) (k - s.first.0 + 1) (pos 0) (omega arith, inl (refl, refl)) in
         let next : entry table (suc k - s.first.0) ≡ entry table (k - s.first.0 + 1) = ap (entry table) (omega arith) in
         omega (arith, ints)
 
@@ -41,13 +43,15 @@ module _ (s : Parts) (prices : List ℤ) (t : ℕ) (rows : List (List Start)) (o
         let begins : s.first.0 ≤ p.slice.0 = start.possible.begins in
         let ends : p.slice.0 + size_of s p.request.0 ≤ s.first.0 + s.slices = start.possible.ends in
         let after : s.first.0 + x.0.after ≡ p.slice.0 + size_of s p.request.0 = x.2.ends_so in
-        let up : (entry table (p.slice.0 - s.first.0) +ℤ x.0.weight) ≤ℤ entry table x.0.after = filled.above (p.slice.0 - s.first.0) x.0.after x.0.weight (omega arith, inr (x.0, x.1, refl, refl)) in
+        let up : (entry table (p.slice.0 - s.first.0) +ℤ x.0.weight) ≤ℤ entry table x.0.after =
+        filled.above (p.slice.0 - s.first.0) x.0.after x.0.weight (omega arith, inr (x.0, x.1, refl, refl)) in
         let there : entry table (slice_after s p - s.first.0) ≡ entry table x.0.after = ap (entry table) (omega arith) in
         let weighs : x.0.weight ≡ weight s prices p = x.2.weighs_so in
         omega (arith, ints)
 
     reached_by : (k : ℕ) → s.first.0 ≤ k → k < horizon_end s
-        → (until_slice (suc k) ≡ until_slice k) ⊎ ((p : Placement) × IsStartOn s t p × (slice_after s p ≡ suc k) × (until_slice (suc k) ≡ until_slice p.slice.0 +ℤ weight s prices p))
+        → (until_slice (suc k) ≡ until_slice k)
+        ⊎ ((p : Placement) × IsStartOn s t p × (slice_after s p ≡ suc k) × (until_slice (suc k) ≡ until_slice p.slice.0 +ℤ weight s prices p))
     reached_by k from below =
         let next : entry table (suc k - s.first.0) ≡ entry table (k - s.first.0 + 1) = ap (entry table) (omega arith) in
         elim (filled.reached (k - s.first.0 + 1)) [
@@ -76,10 +80,12 @@ module _ (s : Parts) (prices : List ℤ) (t : ℕ) (rows : List (List Start)) (o
     }
 
   -- the tables are the telescope's chart
-  pub is_chart : (chart : Chart) → length chart.after.items ≡ length rows + 1 → IsFilled rows chart.until.items → IsRecursion rows chart.after.items → IsChart s prices t chart
+  pub is_chart : (chart : Chart) → length chart.after.items ≡ length rows + 1 → IsFilled rows chart.until.items → IsRecursion rows chart.after.items
+      → IsChart s prices t chart
   is_chart chart count until after = record {
     until_count = until.count ∙ ap (λ (n : ℕ). n + 1) listing.count;
     after_count = count ∙ ap (λ (n : ℕ). n + 1) listing.count;
     until = table_until s prices t orderly (λ k. entry chart.until.items (k - s.first.0)) (until_is chart.until.items until);
-    after = table_best s prices t orderly (λ k. entry chart.after.items (k - s.first.0)) (rows_table s prices t (λ y. y.weight) (λ y. y.after) rows chart.after.items orderly (rows_are s prices t rows listing) after);
+    after = table_best s prices t orderly (λ k. entry chart.after.items (k - s.first.0))
+        (rows_table s prices t (λ y. y.weight) (λ y. y.after) rows chart.after.items orderly (rows_are s prices t rows listing) after);
   }

@@ -1,8 +1,10 @@
 -- The greatest that groups of each kind give where one of their requests is taken.
-use Rattle.std.proofs.Common.{◌≡◌, ◌≢◌, ℕ, ◌*◌, ◌<◌, ◌≤◌, ◌⊎◌, inl, inr, not, ◌==◌, ℤ, pos, ◌+ℤ◌, ◌-ℤ◌, ◌≤ℤ◌, List, [], ◌∷◌, length, map, slice_index_or, filter, Option, Some, None, All, AllPairs, Contains, refl, sym, ◌∙◌, ap, subst, arith}
+use Rattle.std.proofs.Common.{◌≡◌, ◌≢◌, ℕ, ◌*◌, ◌<◌, ◌≤◌, ◌⊎◌, inl, inr, not, ◌==◌, ℤ, pos, ◌+ℤ◌, ◌-ℤ◌, ◌≤ℤ◌, List, [], ◌∷◌, length, map}
+use Rattle.std.proofs.Common.{slice_index_or, filter, Option, Some, None, All, AllPairs, Contains, refl, sym, ◌∙◌, ap, subst, arith}
 use Rattle.std.proofs.lemmas.Int.{ints}
 use Rattle.std.proofs.lemmas.List.{length-map, get_or-map}
-use Rattle.std.proofs.lemmas.List.Elements.{All-nil, All-head, All-tail, All-cons, All-filter, All-contains, All-contains_itself, Contains-get_or, filter_passes}
+use Rattle.std.proofs.lemmas.List.Elements.{All-nil, All-head, All-tail, All-cons, All-filter, All-contains, All-contains_itself, Contains-get_or}
+use Rattle.std.proofs.lemmas.List.Elements.{filter_passes}
 use Rattle.std.proofs.lemmas.List.Kept.{AllPairs-cons, AllPairs-filter}
 use Rattle.plan_base.specs.declared.parts.Parts.{Parts}
 use Rattle.plan_base.specs.declared.parts.Op.TheVariants.{Single, Many, OneOf, And}
@@ -38,7 +40,8 @@ pub taken_out : (c : ℕ → ℤ) (r : ℕ) (xs : List ℕ) → AllPairs (λ a b
 taken_out c r xs once has =
     let same : List ℕ = filter (λ x. x == r) xs in
     let split : total c xs ≡ total c same +ℤ total c (filter (λ x. not (x == r)) xs) = total_split c (λ x. x == r) xs in
-    let here : total c same ≡ c r = exactly_once c r same (λ i d l. same_from_test _ r (filter_passes (λ x. x == r) xs i d l)) (AllPairs-filter (λ a b. a ≢ b) (λ x. x == r) xs once) (contains_filter (λ x. x == r) xs r has (test_from_same r r refl)) in
+    let here : total c same ≡ c r = exactly_once c r same (λ i d l. same_from_test _ r (filter_passes (λ x. x == r) xs i d l))
+    (AllPairs-filter (λ a b. a ≢ b) (λ x. x == r) xs once) (contains_filter (λ x. x == r) xs r has (test_from_same r r refl)) in
     omega (arith, ints)
 
 others_within : (m : ℕ) (ms xs : List ℕ) → All (Contains (m ∷ ms)) xs → All (Contains ms) (filter (λ x. not (x == m)) xs)
@@ -48,13 +51,15 @@ others_within m ms xs a = λ i d l.
     elim (contains_cases m _ ms kept) [ inl e ↦ absurd (differs (sym e)) | inr c ↦ c ]
 
 -- lists of the same numbers, each once, have the same sum
-whole_sum : (c : ℕ → ℤ) (ms xs : List ℕ) → AllPairs (λ a b. a ≢ b) ms → All (Contains ms) xs → AllPairs (λ a b. a ≢ b) xs → ((r : ℕ) → Contains ms r → Contains xs r) → total c xs ≡ total c ms
+whole_sum : (c : ℕ → ℤ) (ms xs : List ℕ) → AllPairs (λ a b. a ≢ b) ms → All (Contains ms) xs → AllPairs (λ a b. a ≢ b) xs
+    → ((r : ℕ) → Contains ms r → Contains xs r) → total c xs ≡ total c ms
 whole_sum c [] [] distinct a once has = refl
 whole_sum c [] (x ∷ xs) distinct a once has = absurd (omega (arith, (All-head (Contains []) x xs a).1))
 whole_sum c (m ∷ ms) xs distinct a once has =
     let others : List ℕ = filter (λ x. not (x == m)) xs in
     let out : total c xs ≡ c m +ℤ total c others = taken_out c m xs once (has m (contains_first m ms)) in
-    let rest : total c others ≡ total c ms = whole_sum c ms others (pairs_tail (λ a b. a ≢ b) m ms distinct) (others_within m ms xs a) (AllPairs-filter (λ a b. a ≢ b) (λ x. not (x == m)) xs once)
+    let rest : total c others ≡ total c ms = whole_sum c ms others (pairs_tail (λ a b. a ≢ b) m ms distinct) (others_within m ms xs a)
+    (AllPairs-filter (λ a b. a ≢ b) (λ x. not (x == m)) xs once)
     (λ r in_rest.
     let differs : r ≢ m = λ e. All-contains (λ y. m ≢ y) ms r (pairs_head (λ a b. a ≢ b) m ms distinct) in_rest (sym e) in
     contains_filter (λ x. not (x == m)) xs r (has r (contains_rest m r ms in_rest)) (test_from_differ r m differs)) in
@@ -122,7 +127,8 @@ module _ (s : Parts) (c : ℕ → ℤ) (g r : ℕ) (of : IsOf s g r) where
       reached = elim (has_or_not r rebate.reached.0) [
         | inl has ↦ (rebate.reached.0, record { allowed = rebate.reached.1; has = has }, rebate.reached.2)
         | inr none ↦
-            let apart : All (λ x. r ≢ x) rebate.reached.0 = λ i d l e. none (subst (Contains rebate.reached.0) (sym e) (Contains-get_or rebate.reached.0 i d l)) in
+            let apart : All (λ x. r ≢ x) rebate.reached.0 =
+            λ i d l e. none (subst (Contains rebate.reached.0) (sym e) (Contains-get_or rebate.reached.0 i d l)) in
             let longer : IsChoiceWith s g r (r ∷ rebate.reached.0) = with_it rebate.reached.0 rebate.reached.1 apart in
             let most : total c (r ∷ rebate.reached.0) ≤ℤ b = rebate.bound (r ∷ rebate.reached.0) longer.allowed in
             let is : total c rebate.reached.0 ≡ b = rebate.reached.2 in
@@ -140,10 +146,15 @@ module _ (s : Parts) (c : ℕ → ℤ) (g r : ℕ) (of : IsOf s g r) where
           let high : total c choice ≤ℤ b = rebate.bound choice allowed in
           let is : total c rebate.reached.0 ≡ b = rebate.reached.2 in
           let low : b ≤ℤ total c choice = elim (has_or_not r rebate.reached.0) [
-            | inl has ↦ let out : total c rebate.reached.0 ≡ c r +ℤ total c choice = taken_out c r rebate.reached.0 rebate.reached.1.once has in omega (arith, ints)
+            | inl has ↦ let out : total c rebate.reached.0 ≡ c r +ℤ total c choice = taken_out c r rebate.reached.0 rebate.reached.1.once has in
+                omega (arith, ints)
             | inr none ↦
-                let split : total c rebate.reached.0 ≡ total c (filter (λ x. x == r) rebate.reached.0) +ℤ total c choice = total_split c (λ x. x == r) rebate.reached.0 in
-                let nothing : total c (filter (λ x. x == r) rebate.reached.0) ≡ pos 0 = none_same c r rebate.reached.0 (filter (λ x. x == r) rebate.reached.0) (λ i d l. same_from_test _ r (filter_passes (λ x. x == r) rebate.reached.0 i d l)) (All-filter (λ x. x == r) (Contains rebate.reached.0) rebate.reached.0 (All-contains_itself rebate.reached.0)) none in
+                let split : total c rebate.reached.0 ≡ total c (filter (λ x. x == r) rebate.reached.0) +ℤ total c choice =
+                total_split c (λ x. x == r) rebate.reached.0 in
+                let nothing : total c (filter (λ x. x == r) rebate.reached.0) ≡ pos 0 =
+                none_same c r rebate.reached.0 (filter (λ x. x == r) rebate.reached.0)
+                (λ i d l. same_from_test _ r (filter_passes (λ x. x == r) rebate.reached.0 i d l))
+                (All-filter (λ x. x == r) (Contains rebate.reached.0) rebate.reached.0 (All-contains_itself rebate.reached.0)) none in
                 omega (arith, ints)
           ] in
           (r ∷ choice, with_it choice allowed (rest_apart rebate.reached.0), omega (arith, ints));
@@ -190,14 +201,22 @@ module _ (s : Parts) (c : ℕ → ℤ) (g r : ℕ) (of : IsOf s g r) where
     reached = (
       ms,
       record {
-        allowed = record { members = are.members; once = are.once; one_of = λ k. let bad : OneOf ≡ And = one_kind s g OneOf And k kind in cc; whole = λ k. inl are.complete };
+        allowed = record {
+          members = are.members;
+          once = are.once;
+          one_of = λ k. let bad : OneOf ≡ And = one_kind s g OneOf And k kind in
+              cc;
+          whole = λ k. inl are.complete;
+        };
         has = are.complete r of;
       },
       refl,
     );
     bound = λ choice with_r. elim (with_r.allowed.whole kind) [
       | inl all ↦
-          let same : total c choice ≡ total c ms = whole_sum c ms choice are.once (λ i d l. are.complete _ (with_r.allowed.members i d l)) with_r.allowed.once (λ x has. all x (All-contains (IsOf s g) ms x are.members has)) in
+          let same : total c choice ≡ total c ms =
+          whole_sum c ms choice are.once (λ i d l. are.complete _ (with_r.allowed.members i d l)) with_r.allowed.once
+          (λ x has. all x (All-contains (IsOf s g) ms x are.members has)) in
           omega (arith, ints)
       | inr none ↦ absurd (none r of with_r.has)
     ];
@@ -221,14 +240,16 @@ pub record IsMemberAt (s : Parts) (f : ℕ → ℤ) (g i : ℕ) (q : RequestPart
   pub within : i < length (map f (members s g))
   pub value : slice_index_or (map f (members s g)) i (pos 0) ≡ f q.request.0
 
-pub member_at : (s : Parts) (f : ℕ → ℤ) (g i : ℕ) (y : GroupPart) (qs : List RequestPart) (q : RequestPart) → IsOrderly s → g < length s.groups → slice_index_or s.groups g y ≡ y → qs ≡ y.requests
+pub member_at : (s : Parts) (f : ℕ → ℤ) (g i : ℕ) (y : GroupPart) (qs : List RequestPart) (q : RequestPart) → IsOrderly s → g < length s.groups
+    → slice_index_or s.groups g y ≡ y → qs ≡ y.requests
     → i < length qs → q ≡ slice_index_or qs i q → IsMemberAt s f g i q
 member_at s f g i y qs q o l is same below at =
     let all : members s g ≡ map (λ x. x.request.0) qs = members_read s g y l is ∙ ap (λ (xs : List RequestPart). map (λ x. x.request.0) xs) (sym same) in
     let size : length (map (λ x. x.request.0) qs) ≡ length qs = length-map qs (λ x. x.request.0) in
     let sizes : length (members s g) ≡ length (map (λ x. x.request.0) qs) = ap (λ (xs : List ℕ). length xs) all in
     let mapped : length (map f (members s g)) ≡ length (members s g) = length-map (members s g) f in
-    let number : slice_index_or (members s g) i 0 ≡ q.request.0 = ap (λ (xs : List ℕ). slice_index_or xs i 0) all ∙ get_or-map (λ x. x.request.0) qs i q 0 below ∙ ap (λ (x : RequestPart). x.request.0) (sym at) in
+    let number : slice_index_or (members s g) i 0 ≡ q.request.0 = ap (λ (xs : List ℕ). slice_index_or xs i 0) all
+    ∙ get_or-map (λ x. x.request.0) qs i q 0 below ∙ ap (λ (x : RequestPart). x.request.0) (sym at) in
     let here : i < length (members s g) = omega arith in
     record {
       of = is_of_member s g q.request.0 o (subst (Contains (members s g)) number (Contains-get_or (members s g) i 0 here));
@@ -236,14 +257,18 @@ member_at s f g i y qs q o l is same below at =
       value = get_or-map f (members s g) i 0 (pos 0) here ∙ ap f number;
     }
 
-pub members_count : (s : Parts) (f : ℕ → ℤ) (g : ℕ) (y : GroupPart) (qs : List RequestPart) → g < length s.groups → slice_index_or s.groups g y ≡ y → qs ≡ y.requests → length (map f (members s g)) ≡ length qs
+pub members_count : (s : Parts) (f : ℕ → ℤ) (g : ℕ) (y : GroupPart) (qs : List RequestPart) → g < length s.groups → slice_index_or s.groups g y ≡ y
+    → qs ≡ y.requests → length (map f (members s g)) ≡ length qs
 members_count s f g y qs l is same =
-    length-map (members s g) f ∙ ap (λ (xs : List ℕ). length xs) (members_read s g y l is) ∙ length-map y.requests (λ x. x.request.0) ∙ ap (λ (xs : List RequestPart). length xs) (sym same)
+    length-map (members s g) f ∙ ap (λ (xs : List ℕ). length xs) (members_read s g y l is) ∙ length-map y.requests (λ x. x.request.0)
+    ∙ ap (λ (xs : List RequestPart). length xs) (sym same)
 
 -- the net price, as it is read
-pub net_read : (s : Parts) (prices : List ℤ) (quota_prices us : List ℕ) (r u seconds : ℕ) (q : Option ℕ) (p cost : ℤ) → p ≡ price s prices r → cost ≡ pos (u * seconds) → u ≡ price_of us q → us ≡ quota_prices
+pub net_read : (s : Parts) (prices : List ℤ) (quota_prices us : List ℕ) (r u seconds : ℕ) (q : Option ℕ) (p cost : ℤ) → p ≡ price s prices r
+    → cost ≡ pos (u * seconds) → u ≡ price_of us q → us ≡ quota_prices
     → q ≡ quota_of s r → seconds_of s r ≡ seconds → (p -ℤ cost) ≡ net_price s prices quota_prices r
 net_read s prices quota_prices us r u seconds q p cost is_p is_cost is_u is_us is_q is_seconds =
     let price_is : u ≡ price_of quota_prices (quota_of s r) = is_u ∙ ap (λ (xs : List ℕ). price_of xs q) is_us ∙ ap (price_of quota_prices) is_q in
-    let product : u * seconds ≡ quota_cost quota_prices (seconds_of s r) (quota_of s r) = ap (λ (n : ℕ). n * seconds) price_is ∙ ap (λ (n : ℕ). price_of quota_prices (quota_of s r) * n) (sym is_seconds) ∙ cost_read quota_prices (seconds_of s r) (quota_of s r) in
+    let product : u * seconds ≡ quota_cost quota_prices (seconds_of s r) (quota_of s r) = ap (λ (n : ℕ). n * seconds) price_is
+    ∙ ap (λ (n : ℕ). price_of quota_prices (quota_of s r) * n) (sym is_seconds) ∙ cost_read quota_prices (seconds_of s r) (quota_of s r) in
     ap (λ (z : ℤ). z -ℤ cost) is_p ∙ ap (λ (z : ℤ). price s prices r -ℤ z) (is_cost ∙ ap (λ (n : ℕ). pos n) product)

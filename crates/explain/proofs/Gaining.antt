@@ -21,7 +21,8 @@ use Rattle.explain.proofs.Fits.{fits_64}
 use Rattle.explain.proofs.Gathering.{until_between}
 use mir.Val.{SFits}
 
-module _ (s : Parts) (prices : List ℤ) (t r index : ℕ) (o : Offer) (orderly : IsOrderly s) (offer : IsOfferOf s prices r o) (can : CanStartAt s t r (s.first.0 + index)) where
+module _ (s : Parts) (prices : List ℤ) (t r index : ℕ) (o : Offer) (orderly : IsOrderly s) (offer : IsOfferOf s prices r o)
+    (can : CanStartAt s t r (s.first.0 + index)) where
   abbrev start : Placement
   start = can.0
 
@@ -37,13 +38,15 @@ module _ (s : Parts) (prices : List ℤ) (t r index : ℕ) (o : Offer) (orderly 
       omega arith
 
   module _ (chart : Chart) (range : All IsPriceInRange prices) (is_chart : IsChart s prices t chart) (u w a : ℤ)
-      (is_u : u ≡ slice_index_or chart.until.items index u) (is_w : w ≡ offer_weight o (s.first.0 + index)) (is_a : a ≡ slice_index_or chart.after.items (index + o.size) a) where
+      (is_u : u ≡ slice_index_or chart.until.items index u) (is_w : w ≡ offer_weight o (s.first.0 + index))
+      (is_a : a ≡ slice_index_or chart.after.items (index + o.size) a) where
     until_here : IsBestUntil s prices t start.slice.0 u
     until_here =
         let at : start.slice.0 ≡ s.first.0 + index = can.2 in
         let fits : index + o.size ≤ s.slices = fits_here in
         let count : length chart.until.items ≡ s.slices + 1 = is_chart.until_count in
-        let same : entry chart.until.items (start.slice.0 - s.first.0) ≡ u = ap (entry chart.until.items) (omega arith) ∙ get_or_default chart.until.items index (pos 0) u (omega arith) ∙ sym is_u in
+        let same : entry chart.until.items (start.slice.0 - s.first.0) ≡ u = ap (entry chart.until.items) (omega arith)
+        ∙ get_or_default chart.until.items index (pos 0) u (omega arith) ∙ sym is_u in
         subst (IsBestUntil s prices t start.slice.0) same (is_chart.until start.slice.0 (omega arith) (omega arith))
 
     after_here : IsBest s prices t (slice_after s start) a
@@ -52,7 +55,8 @@ module _ (s : Parts) (prices : List ℤ) (t r index : ℕ) (o : Offer) (orderly 
         let size : o.size ≡ size_of s start.request.0 = size_is in
         let fits : index + o.size ≤ s.slices = fits_here in
         let count : length chart.after.items ≡ s.slices + 1 = is_chart.after_count in
-        let same : entry chart.after.items (slice_after s start - s.first.0) ≡ a = ap (entry chart.after.items) (omega arith) ∙ get_or_default chart.after.items (index + o.size) (pos 0) a (omega arith) ∙ sym is_a in
+        let same : entry chart.after.items (slice_after s start - s.first.0) ≡ a = ap (entry chart.after.items) (omega arith)
+        ∙ get_or_default chart.after.items (index + o.size) (pos 0) a (omega arith) ∙ sym is_a in
         subst (IsBest s prices t (slice_after s start)) same (is_chart.after (slice_after s start) (omega arith) (omega arith))
 
     weighs : w ≡ weight s prices start
@@ -65,7 +69,14 @@ module _ (s : Parts) (prices : List ℤ) (t r index : ℕ) (o : Offer) (orderly 
       start = start;
       is_start = can.1;
       at = can.2;
-      gain = record { until = u; after = a; is_until = until_here; is_after = after_here; sum = let same : w ≡ weight s prices start = weighs in omega (arith, ints) };
+      gain = record {
+        until = u;
+        after = a;
+        is_until = until_here;
+        is_after = after_here;
+        sum = let same : w ≡ weight s prices start = weighs in
+            omega (arith, ints);
+      };
     }
 
     best_first : IsBest s prices t s.first.0 (entry chart.after.items (s.first.0 - s.first.0))
@@ -78,7 +89,8 @@ module _ (s : Parts) (prices : List ℤ) (t r index : ℕ) (o : Offer) (orderly 
     a_between = best_between s prices t (slice_after s start) a orderly range after_here
 
     w_between : (neg_ℤ (pos (10 ^ 12)) ≤ℤ w) × (w ≤ℤ pos 1000288000000)
-    w_between = subst (λ (z : ℤ). (neg_ℤ (pos (10 ^ 12)) ≤ℤ z) × (z ≤ℤ pos 1000288000000)) (sym weighs) (weight_between s prices start orderly range can.1.start.possible)
+    w_between = subst (λ (z : ℤ). (neg_ℤ (pos (10 ^ 12)) ≤ℤ z) × (z ≤ℤ pos 1000288000000)) (sym weighs)
+        (weight_between s prices start orderly range can.1.start.possible)
 
     -- the numbers and their sums fit 64 bits
     pub u_fits : SFits w64 u
@@ -97,8 +109,10 @@ module _ (s : Parts) (prices : List ℤ) (t r index : ℕ) (o : Offer) (orderly 
     all_fit = fits_64 (u +ℤ w +ℤ a) (omega (arith, ints, u_between.0, w_between.0, a_between.0)) (omega (arith, ints, u_between.1, w_between.1, a_between.1))
 
 -- the best of the whole horizon, by a chart
-pub best_read : (s : Parts) (prices : List ℤ) (t : ℕ) (chart : Chart) (b : ℤ) → IsChart s prices t chart → b ≡ slice_index_or chart.after.items 0 b → IsBest s prices t s.first.0 b
+pub best_read : (s : Parts) (prices : List ℤ) (t : ℕ) (chart : Chart) (b : ℤ) → IsChart s prices t chart → b ≡ slice_index_or chart.after.items 0 b
+    → IsBest s prices t s.first.0 b
 best_read s prices t chart b is_chart is =
     let count : length chart.after.items ≡ s.slices + 1 = is_chart.after_count in
-    let same : entry chart.after.items (s.first.0 - s.first.0) ≡ b = ap (entry chart.after.items) (omega arith) ∙ get_or_default chart.after.items 0 (pos 0) b (omega arith) ∙ sym is in
+    let same : entry chart.after.items (s.first.0 - s.first.0) ≡ b = ap (entry chart.after.items) (omega arith)
+    ∙ get_or_default chart.after.items 0 (pos 0) b (omega arith) ∙ sym is in
     subst (IsBest s prices t s.first.0) same (is_chart.after s.first.0 (omega arith) (omega arith))

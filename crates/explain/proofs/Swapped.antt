@@ -1,5 +1,6 @@
 -- A sum of parts of which one is put in the place of another.
-use Rattle.std.proofs.Common.{◌≡◌, ◌≢◌, ℕ, zero, suc, ◌<◌, ◌⊎◌, inl, inr, ℤ, pos, ◌+ℤ◌, ◌-ℤ◌, List, [], ◌∷◌, length, slice_index_or, slice_set, sym, ◌∙◌, ap, subst, arith, get_or-set_other, get_or-set_same, length-set}
+use Rattle.std.proofs.Common.{◌≡◌, ◌≢◌, ℕ, zero, suc, ◌<◌, ◌⊎◌, inl, inr, ℤ, pos, ◌+ℤ◌, ◌-ℤ◌, List, [], ◌∷◌, length, slice_index_or, slice_set, sym}
+use Rattle.std.proofs.Common.{◌∙◌, ap, subst, arith, get_or-set_other, get_or-set_same, length-set}
 use Rattle.std.proofs.lemmas.Int.{ints}
 use Rattle.plan_base.specs.Sums.{total, IsSumOf}
 
@@ -20,7 +21,8 @@ swapped n P b k x y sum l one =
     let count : length sum.parts ≡ n = sum.count in
     let within : k < length sum.parts = omega arith in
     let old : slice_index_or sum.parts k (pos 0) ≡ x = one _ (sum.each k l) in
-    let whole : total (λ z. z) (slice_set sum.parts k y) ≡ total (λ z. z) sum.parts -ℤ slice_index_or sum.parts k (pos 0) +ℤ y = sum_with sum.parts k y within in
+    let whole : total (λ z. z) (slice_set sum.parts k y) ≡ total (λ z. z) sum.parts -ℤ slice_index_or sum.parts k (pos 0) +ℤ y =
+    sum_with sum.parts k y within in
     let before : total (λ z. z) sum.parts ≡ b = sum.sum in
     record {
       parts = slice_set sum.parts k y;

@@ -40,13 +40,15 @@ unfolding tail_of
 same_tails x y xs ys e = ap tail_of e
 
 -- two ways to cut a list are the same where no number crosses from one to the other
-pub parts_same : (xs ys us vs : List ℕ) → xs ++ ys ≡ us ++ vs → ((r : ℕ) → Contains xs r → Contains vs r → ⊥) → ((r : ℕ) → Contains us r → Contains ys r → ⊥) → (xs ≡ us) × (ys ≡ vs)
+pub parts_same : (xs ys us vs : List ℕ) → xs ++ ys ≡ us ++ vs → ((r : ℕ) → Contains xs r → Contains vs r → ⊥)
+    → ((r : ℕ) → Contains us r → Contains ys r → ⊥) → (xs ≡ us) × (ys ≡ vs)
 parts_same [] ys [] vs e f g = (refl, e)
 parts_same [] ys (u ∷ us) vs e f g = absurd (g u (contains_first u us) (subst (λ (zs : List ℕ). Contains zs u) (sym e) (contains_first u (us ++ vs))))
 parts_same (x ∷ xs) ys [] vs e f g = absurd (f x (contains_first x xs) (subst (λ (zs : List ℕ). Contains zs x) e (contains_first x (xs ++ ys))))
 parts_same (x ∷ xs) ys (u ∷ us) vs e f g =
     let heads : x ≡ u = same_heads x u (xs ++ ys) (us ++ vs) e in
-    let rest = parts_same xs ys us vs (same_tails x u (xs ++ ys) (us ++ vs) e) (λ r b c. f r (contains_rest x r xs b) c) (λ r b c. g r (contains_rest u r us b) c) in
+    let rest = parts_same xs ys us vs (same_tails x u (xs ++ ys) (us ++ vs) e) (λ r b c. f r (contains_rest x r xs b) c)
+    (λ r b c. g r (contains_rest u r us b) c) in
     (ap (λ (z : ℕ). z ∷ xs) heads ∙ ap (λ (zs : List ℕ). u ∷ zs) rest.0, rest.1)
 
 -- a list of which no element can be is empty

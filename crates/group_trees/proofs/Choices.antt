@@ -31,7 +31,8 @@ right_among : (xs ys choice : List ℕ) → Among ys choice → Among (xs ++ ys)
 right_among xs ys choice a = All-weaker (Contains ys) (Contains (xs ++ ys)) (λ r c. Contains-append_right xs ys r c) choice a
 
 both_among : (xs ys choice first rest : List ℕ) → choice ≡ first ++ rest → Among xs first → Among ys rest → Among (xs ++ ys) choice
-both_among xs ys choice first rest e a b = subst (Among (xs ++ ys)) (sym e) (All-append (Contains (xs ++ ys)) first rest (left_among xs ys first a) (right_among xs ys rest b))
+both_among xs ys choice first rest e a b =
+    subst (Among (xs ++ ys)) (sym e) (All-append (Contains (xs ++ ys)) first rest (left_among xs ys first a) (right_among xs ys rest b))
 
 -- a choice has leaves of the tree alone
 mutual
@@ -46,7 +47,8 @@ mutual
 
   pub union_among : (ts : Nodes) (choice : List ℕ) → IsUnion ts choice → All (Contains (all_leaves ts)) choice
   union_among none choice e = none_among [] choice e
-  union_among (and_then t ts) choice (first, rest, e, a, b) = both_among (leaves t) (all_leaves ts) choice first rest e (choice_among t first a) (union_among ts rest b)
+  union_among (and_then t ts) choice (first, rest, e, a, b) =
+      both_among (leaves t) (all_leaves ts) choice first rest e (choice_among t first a) (union_among ts rest b)
 
   pub one_among : (ts : Nodes) (choice : List ℕ) → IsOfOne ts choice → All (Contains (all_leaves ts)) choice
   one_among none choice h = absurd h
@@ -55,12 +57,14 @@ mutual
 
   pub whole_among : (ts : Nodes) (choice : List ℕ) → IsWhole ts choice → All (Contains (all_leaves ts)) choice
   whole_among none choice e = none_among [] choice e
-  whole_among (and_then t ts) choice (first, rest, e, some, a, b) = both_among (leaves t) (all_leaves ts) choice first rest e (choice_among t first a) (whole_among ts rest b)
+  whole_among (and_then t ts) choice (first, rest, e, some, a, b) =
+      both_among (leaves t) (all_leaves ts) choice first rest e (choice_among t first a) (whole_among ts rest b)
 
 none_short : (n : ℕ) (choice : List ℕ) → choice ≡ [] → length choice ≤ n
 none_short n choice e = subst (λ (xs : List ℕ). length xs ≤ n) (sym e) (omega arith)
 
-both_short : (xs ys choice first rest : List ℕ) → choice ≡ first ++ rest → length first ≤ length xs → length rest ≤ length ys → length choice ≤ length (xs ++ ys)
+both_short : (xs ys choice first rest : List ℕ) → choice ≡ first ++ rest → length first ≤ length xs → length rest ≤ length ys
+    → length choice ≤ length (xs ++ ys)
 both_short xs ys choice first rest e a b =
     let all : length (xs ++ ys) ≡ length xs + length ys = length-append xs ys in
     let parts : length (first ++ rest) ≡ length first + length rest = length-append first rest in
@@ -85,7 +89,8 @@ mutual
 
   pub union_short : (ts : Nodes) (choice : List ℕ) → IsUnion ts choice → length choice ≤ length (all_leaves ts)
   union_short none choice e = none_short 0 choice e
-  union_short (and_then t ts) choice (first, rest, e, a, b) = both_short (leaves t) (all_leaves ts) choice first rest e (choice_short t first a) (union_short ts rest b)
+  union_short (and_then t ts) choice (first, rest, e, a, b) =
+      both_short (leaves t) (all_leaves ts) choice first rest e (choice_short t first a) (union_short ts rest b)
 
   pub one_short : (ts : Nodes) (choice : List ℕ) → IsOfOne ts choice → length choice ≤ length (all_leaves ts)
   one_short none choice h = absurd h
@@ -94,4 +99,5 @@ mutual
 
   pub whole_short : (ts : Nodes) (choice : List ℕ) → IsWhole ts choice → length choice ≤ length (all_leaves ts)
   whole_short none choice e = none_short 0 choice e
-  whole_short (and_then t ts) choice (first, rest, e, some, a, b) = both_short (leaves t) (all_leaves ts) choice first rest e (choice_short t first a) (whole_short ts rest b)
+  whole_short (and_then t ts) choice (first, rest, e, some, a, b) =
+      both_short (leaves t) (all_leaves ts) choice first rest e (choice_short t first a) (whole_short ts rest b)

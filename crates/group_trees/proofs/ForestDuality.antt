@@ -1,5 +1,6 @@
 -- Weak duality with trees: what a plan is worth by telescope and by tree.
-use Rattle.std.proofs.Common.{◌≡◌, ◌≢◌, ℕ, suc, ◌≤◌, ◌<◌, ◌⊎◌, inl, inr, Bool, ℤ, pos, ◌+ℤ◌, ◌≤ℤ◌, List, [], ◌∷◌, ◌++◌, length, slice_index_or, filter, All, AllPairs, Contains, ◌∙◌, ap, arith}
+use Rattle.std.proofs.Common.{◌≡◌, ◌≢◌, ℕ, suc, ◌≤◌, ◌<◌, ◌⊎◌, inl, inr, Bool, ℤ, pos, ◌+ℤ◌, ◌≤ℤ◌, List, [], ◌∷◌, ◌++◌, length, slice_index_or, filter}
+use Rattle.std.proofs.Common.{All, AllPairs, Contains, ◌∙◌, ap, arith}
 use Rattle.std.proofs.lemmas.Int.{ints}
 use Rattle.std.proofs.lemmas.List.Elements.{All-map, filter-append}
 use Rattle.plan_base.specs.declared.parts.Parts.{Parts}
@@ -41,10 +42,12 @@ pub leaf_once : (s : Parts) (trees : List Node) (r : ℕ) → IsForest s trees �
 leaf_once s trees r forest known = same_number _ 1 (λ other. forest.leaves r (inr (known, other)))
 
 pub known_leaf : (s : Parts) (trees : List Node) (r : ℕ) → IsForest s trees → IsKnown s r → Contains (forest_leaves trees) r
-known_leaf s trees r forest known = contained_times r (forest_leaves trees) (let one : times r (forest_leaves trees) ≡ 1 = leaf_once s trees r forest known in omega arith)
+known_leaf s trees r forest known =
+    contained_times r (forest_leaves trees) (let one : times r (forest_leaves trees) ≡ 1 = leaf_once s trees r forest known in omega arith)
 
 pub leaves_once : (s : Parts) (trees : List Node) → IsForest s trees → AllPairs (λ a b. a ≢ b) (forest_leaves trees)
-leaves_once s trees forest = once_from_times (forest_leaves trees) (λ r has. let one : times r (forest_leaves trees) ≡ 1 = leaf_once s trees r forest (leaf_known s trees r forest has) in omega arith)
+leaves_once s trees forest = once_from_times (forest_leaves trees)
+    (λ r has. let one : times r (forest_leaves trees) ≡ 1 = leaf_once s trees r forest (leaf_known s trees r forest has) in omega arith)
 
 -- ---- by tree
 
@@ -58,7 +61,8 @@ shares c p (t ∷ ts) [] e h = absurd (omega arith)
 shares c p (t ∷ ts) (b ∷ bs) e h =
     let here : total c (filter p (leaves t)) ≤ℤ b = h 0 t (omega arith) in
     let rest : total c (filter p (forest_leaves ts)) ≤ℤ total (λ x. x) bs = shares c p ts bs (omega arith) (λ i d l. h (suc i) d (omega arith)) in
-    let both : total c (filter p (leaves t ++ forest_leaves ts)) ≡ total c (filter p (leaves t)) +ℤ total c (filter p (forest_leaves ts)) = ap (total c) (filter-append p (leaves t) (forest_leaves ts)) ∙ total_append c (filter p (leaves t)) (filter p (forest_leaves ts)) in
+    let both : total c (filter p (leaves t ++ forest_leaves ts)) ≡ total c (filter p (leaves t)) +ℤ total c (filter p (forest_leaves ts)) =
+    ap (total c) (filter-append p (leaves t) (forest_leaves ts)) ∙ total_append c (filter p (leaves t)) (filter p (forest_leaves ts)) in
     omega (arith, ints)
 
 tree_part : (s : Parts) (trees : List Node) (prices : List ℤ) (plan : List Placement) (b : ℤ) → IsForest s trees → IsForestFeasible s trees plan
@@ -66,8 +70,11 @@ tree_part : (s : Parts) (trees : List Node) (prices : List ℤ) (plan : List Pla
 tree_part s trees prices plan b forest f sum =
     let rs : List ℕ = requests_of plan in
     let known : All (λ r. IsKnown s r) rs = All-map (λ r. IsKnown s r) (λ p. p.request.0) plan (λ i d l. (f.possible i d l).known) in
-    let placed : total (price s prices) rs ≡ total (price s prices) (filter (is_placed rs) (forest_leaves trees)) = placed_total (price s prices) rs (forest_leaves trees) f.once (leaves_once s trees forest) (λ i d l. known_leaf s trees _ forest (known i d l)) in
-    let most : total (price s prices) (filter (is_placed rs) (forest_leaves trees)) ≤ℤ total (λ x. x) sum.parts = shares (price s prices) (is_placed rs) trees sum.parts sum.count
+    let placed : total (price s prices) rs ≡ total (price s prices) (filter (is_placed rs) (forest_leaves trees)) =
+    placed_total (price s prices) rs (forest_leaves trees) f.once (leaves_once s trees forest)
+    (λ i d l. known_leaf s trees _ forest (known i d l)) in
+    let most : total (price s prices) (filter (is_placed rs) (forest_leaves trees)) ≤ℤ total (λ x. x) sum.parts =
+    shares (price s prices) (is_placed rs) trees sum.parts sum.count
     (λ i d l. (sum.each i l d).bound (filter (is_placed rs) (leaves (slice_index_or trees i d))) (f.allowed i d l)) in
     let whole : total (λ x. x) sum.parts ≡ b = sum.sum in
     omega (arith, ints)
@@ -77,8 +84,10 @@ pub duality : (s : Parts) (trees : List Node) (prices : List ℤ) (plan : List P
     → IsForestFeasible s trees plan → IsForestBound s trees prices b → pos (value_of_plan s plan) ≤ℤ b
 duality s trees prices plan b o forest f bound =
     let value : total (λ p. pos (worth_at s p)) plan ≡ pos (value_of_plan s plan) = total_of_naturals (worth_at s) plan in
-    let both : total (λ p. pos (worth_at s p)) plan ≡ surplus s prices plan +ℤ total (λ p. price s prices p.request.0) plan = total_add (λ p. pos (worth_at s p)) (weight s prices) (λ p. price s prices p.request.0) (λ p. omega (arith, ints)) plan in
-    let placed : total (λ p. price s prices p.request.0) plan ≡ total (price s prices) (requests_of plan) = total_map (price s prices) (λ p. p.request.0) plan in
+    let both : total (λ p. pos (worth_at s p)) plan ≡ surplus s prices plan +ℤ total (λ p. price s prices p.request.0) plan =
+    total_add (λ p. pos (worth_at s p)) (weight s prices) (λ p. price s prices p.request.0) (λ p. omega (arith, ints)) plan in
+    let placed : total (λ p. price s prices p.request.0) plan ≡ total (price s prices) (requests_of plan) =
+    total_map (price s prices) (λ p. p.request.0) plan in
     let one : surplus s prices plan ≤ℤ bound.bests = telescope_part s prices plan bound.bests o f.possible f.disjoint bound.best in
     let two : total (price s prices) (requests_of plan) ≤ℤ bound.rebates = tree_part s trees prices plan bound.rebates forest f bound.rebate in
     let whole : b ≡ bound.bests +ℤ bound.rebates = bound.whole in

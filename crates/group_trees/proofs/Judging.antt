@@ -16,7 +16,8 @@ use Rattle.bound_checker.specs.Reasons.{ArePlaced}
 use Rattle.bound_checker.specs.Summed.{IsSummed}
 use Rattle.bound_checker.proofs.Stages.{clear_of_overlap}
 use Rattle.group_trees.specs.declared.verdict.ForestReason.{ForestReason}
-use Rattle.group_trees.specs.declared.verdict.ForestReason.TheVariants.{UnknownRequest, PlacedTwice, NotPossible, Overlap, NotAllowed, PriceCount, PriceRange, QuotaPriceCount, ValueDiffers, BoundDiffers}
+use Rattle.group_trees.specs.declared.verdict.ForestReason.TheVariants.{UnknownRequest, PlacedTwice, NotPossible, Overlap, NotAllowed, PriceCount}
+use Rattle.group_trees.specs.declared.verdict.ForestReason.TheVariants.{PriceRange, QuotaPriceCount, ValueDiffers, BoundDiffers}
 use Rattle.group_trees.specs.Trees.{Node}
 use Rattle.group_trees.specs.Forests.{IsAt}
 use Rattle.group_trees.specs.Plans.{IsAllowed}
@@ -42,7 +43,8 @@ module _ (s : Parts) (trees : List Node) (claim : Claim) where
   no_tree other allowed e h = omega (arith, e)
 
   -- a tree that doesn't allow what is placed of it
-  pub tree_first : (tree : ℕ) → ArePlaced s claim.placements → IsFirst (IsAt (λ t. ¬ (IsAllowed claim.placements t)) trees) tree → IsFirstForestReason s trees claim (NotAllowed tree)
+  pub tree_first : (tree : ℕ) → ArePlaced s claim.placements → IsFirst (IsAt (λ t. ¬ (IsAllowed claim.placements t)) trees) tree
+      → IsFirstForestReason s trees claim (NotAllowed tree)
   tree_first tree placed h = (h, λ other l. before_trees other placed l)
 
   -- a reason that comes after the trees
@@ -55,7 +57,8 @@ module _ (s : Parts) (trees : List Node) (claim : Claim) where
     ],
   )
 
-  before_bound : (other : ForestReason) → AreSumsFit s claim → All (IsAllowed claim.placements) trees → rank_of_reason other < 10 → ¬ (IsForestReason s trees claim other)
+  before_bound : (other : ForestReason) → AreSumsFit s claim → All (IsAllowed claim.placements) trees → rank_of_reason other < 10
+      → ¬ (IsForestReason s trees claim other)
   before_bound (PriceCount given wanted) fit allowed l (e, f, n) = n (e ∙ fit.price_count ∙ sym f)
   before_bound (PriceRange i) fit allowed l ((m, not), first) = not (fit.price_range i (pos 0) m)
   before_bound (QuotaPriceCount given wanted) fit allowed l (e, f, n) = n (inl fit.no_quota_price)
@@ -67,11 +70,13 @@ module _ (s : Parts) (trees : List Node) (claim : Claim) where
   before_bound (NotPossible i) fit allowed l h = before_trees (NotPossible i) fit.placed (omega arith) h
   before_bound (Overlap i) fit allowed l h = before_trees (Overlap i) fit.placed (omega arith) h
 
-  pub bound_first : (claimed found : ℕ) → AreSumsFit s claim → All (IsAllowed claim.placements) trees → claimed ≡ claim.bound → IsForestBound s trees claim.prices.0 (pos found) → claimed ≢ found
+  pub bound_first : (claimed found : ℕ) → AreSumsFit s claim → All (IsAllowed claim.placements) trees → claimed ≡ claim.bound
+      → IsForestBound s trees claim.prices.0 (pos found) → claimed ≢ found
       → IsFirstForestReason s trees claim (BoundDiffers claimed found)
   bound_first claimed found fit allowed e bound differ = ((e, bound, differ), λ other l. before_bound other fit allowed l)
 
-  pub certified_when : AreSumsFit s claim → All (IsAllowed claim.placements) trees → IsForestBound s trees claim.prices.0 (pos claim.bound) → IsForestCertified s trees claim
+  pub certified_when : AreSumsFit s claim → All (IsAllowed claim.placements) trees → IsForestBound s trees claim.prices.0 (pos claim.bound)
+      → IsForestCertified s trees claim
   certified_when fit allowed bound = record {
     feasible = record { possible = fit.placed.possible; once = fit.placed.once; disjoint = fit.placed.disjoint; allowed = allowed };
     price_count = fit.price_count;
@@ -99,9 +104,12 @@ empty_sum n P b e sum = sym sum.sum ∙ nothing sum.parts (sum.count ∙ e)
     nothing [] l = refl
     nothing (x ∷ xs) l = absurd (omega arith)
 
-module _ (s : Parts) (prices : List ℤ) (quota_prices : List ℕ) (found groups : ℤ) (no_quota : length s.quotas ≡ 0) (bound : IsBound s prices quota_prices found) (summed : IsSummed (length s.groups) (IsRebate s (net_price s prices quota_prices)) 1024000000000000 groups) where
+module _ (s : Parts) (prices : List ℤ) (quota_prices : List ℕ) (found groups : ℤ) (no_quota : length s.quotas ≡ 0)
+    (bound : IsBound s prices quota_prices found)
+    (summed : IsSummed (length s.groups) (IsRebate s (net_price s prices quota_prices)) 1024000000000000 groups) where
   same_rebates : bound.rebates ≡ groups
-  same_rebates = one_sum (length s.groups) (IsRebate s (net_price s prices quota_prices)) bound.rebates groups (λ g x y. one_rebate s (net_price s prices quota_prices) g x y) bound.rebate summed.sum
+  same_rebates = one_sum (length s.groups) (IsRebate s (net_price s prices quota_prices)) bound.rebates groups
+      (λ g x y. one_rebate s (net_price s prices quota_prices) g x y) bound.rebate summed.sum
 
   no_quotas : bound.quotas ≡ pos 0
   no_quotas = empty_sum (length s.quotas) (IsQuotaPart s quota_prices) bound.quotas no_quota bound.quota
@@ -109,14 +117,16 @@ module _ (s : Parts) (prices : List ℤ) (quota_prices : List ℕ) (found groups
   -- the rebates of the groups are a part of the bound
   pub groups_within : groups ≤ℤ found
   groups_within =
-      let least : pos 0 ≤ℤ bound.bests = sum_not_negative (length s.telescopes) (λ t. IsBest s prices t s.first.0) bound.bests bound.best (λ t y l best. best_not_negative s prices t s.first.0 y best) in
+      let least : pos 0 ≤ℤ bound.bests = sum_not_negative (length s.telescopes) (λ t. IsBest s prices t s.first.0) bound.bests bound.best
+      (λ t y l best. best_not_negative s prices t s.first.0 y best) in
       let whole : found ≡ bound.bests +ℤ bound.rebates +ℤ bound.quotas = bound.whole in
       let same : bound.rebates ≡ groups = same_rebates in
       let quotas : bound.quotas ≡ pos 0 = no_quotas in
       omega (arith, ints)
 
   -- with the rebates of the trees in their place it is the bound of the forest
-  pub replaced_bound : (trees : List Node) (rebates b : ℤ) → IsSumOf (length trees) (IsRebateAt s prices trees) rebates → b +ℤ groups ≡ found +ℤ rebates → IsForestBound s trees prices b
+  pub replaced_bound : (trees : List Node) (rebates b : ℤ) → IsSumOf (length trees) (IsRebateAt s prices trees) rebates
+      → b +ℤ groups ≡ found +ℤ rebates → IsForestBound s trees prices b
   replaced_bound trees rebates b sum e =
       let whole : found ≡ bound.bests +ℤ bound.rebates +ℤ bound.quotas = bound.whole in
       let same : bound.rebates ≡ groups = same_rebates in

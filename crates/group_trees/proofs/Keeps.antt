@@ -1,5 +1,6 @@
 -- What is told of a tree node by node is what its choices are.
-use Rattle.std.proofs.Common.{◌≡◌, ◌≢◌, ℕ, suc, ◌+◌, ◌≤◌, ◌⊎◌, inl, inr, Bool, true, false, cond, ◌&&◌, ◌||◌, ◌==◌, nat_le, nat_lt, List, [], ◌∷◌, ◌++◌, filter, All, AllPairs, Contains, refl, sym, ap, ◌∙◌, subst, arith}
+use Rattle.std.proofs.Common.{◌≡◌, ◌≢◌, ℕ, suc, ◌+◌, ◌≤◌, ◌⊎◌, inl, inr, Bool, true, false, cond, ◌&&◌, ◌||◌, ◌==◌, nat_le, nat_lt, List, [], ◌∷◌}
+use Rattle.std.proofs.Common.{◌++◌, filter, All, AllPairs, Contains, refl, sym, ap, ◌∙◌, subst, arith}
 use Rattle.std.proofs.lemmas.Bool.Decides.{nat_tests}
 use Rattle.std.proofs.lemmas.List.{append-nil}
 use Rattle.std.proofs.lemmas.List.Elements.{All-head, All-tail, All-contains, Contains-append_left, Contains-append_right, filter-append}
@@ -134,7 +135,8 @@ mutual
   pub some_touched : (p : ℕ → Bool) (ts : Nodes) → 1 ≤ touched_count p ts → filter p (all_leaves ts) ≢ []
   some_touched p none l = absurd (omega arith)
   some_touched p (and_then t ts) l =
-      some_of_two (is_touched p t) (touched_count p ts) (filter p (leaves t ++ all_leaves ts)) (filter p (leaves t)) (filter p (all_leaves ts)) (filter-append p (leaves t) (all_leaves ts)) l
+      some_of_two (is_touched p t) (touched_count p ts) (filter p (leaves t ++ all_leaves ts)) (filter p (leaves t)) (filter p (all_leaves ts))
+      (filter-append p (leaves t) (all_leaves ts)) l
       (touched p t) (some_touched p ts)
 
 not_touched : (p : ℕ → Bool) (t : Node) → filter p (leaves t) ≡ [] → is_touched p t ≡ false
@@ -161,7 +163,8 @@ left_alone P zs xs ys e f h = subst P (sym (e ∙ ap (λ (us : List ℕ). xs ++ 
 right_alone : (P : List ℕ → Type 0) (zs xs ys : List ℕ) → zs ≡ xs ++ ys → xs ≡ [] → P ys → P zs
 right_alone P zs xs ys e f h = subst P (sym (e ∙ ap (λ (us : List ℕ). us ++ ys) f)) h
 
-one_choice : (t : Node) (ts : Nodes) (b : Bool) (n : ℕ) (zs xs ys : List ℕ) → zs ≡ xs ++ ys → cond b 1 0 + n ≡ 1 → (b ≡ false → xs ≡ []) → (n ≡ 0 → ys ≡ []) → IsTreeChoice t xs → (n ≡ 1 → IsOfOne ts ys) → IsOfOne (and_then t ts) zs
+one_choice : (t : Node) (ts : Nodes) (b : Bool) (n : ℕ) (zs xs ys : List ℕ) → zs ≡ xs ++ ys → cond b 1 0 + n ≡ 1 → (b ≡ false → xs ≡ [])
+    → (n ≡ 0 → ys ≡ []) → IsTreeChoice t xs → (n ≡ 1 → IsOfOne ts ys) → IsOfOne (and_then t ts) zs
 one_choice t ts b n zs xs ys e count out rest_out here there = elim (one_of_two b n count) [
   | inl first ↦ inl (left_alone (IsTreeChoice t) zs xs ys e (rest_out first.1) here)
   | inr rest ↦ inr (right_alone (IsOfOne ts) zs xs ys e (out rest.0) (there rest.1))
@@ -171,14 +174,16 @@ some_or_none : (ts : Nodes) (n : ℕ) (zs : List ℕ) (Q : Type 0) → nat_le n 
 some_or_none ts n zs Q test empty one = elim (few_from_test n test) [ inl e ↦ inl (empty e) | inr e ↦ inr (one e) ]
 
 all_or_none : (n m : ℕ) (zs : List ℕ) (Q : Type 0) → ((n == 0) || (n == m)) ≡ true → (n ≡ 0 → zs ≡ []) → (n ≡ m → Q) → (zs ≡ []) ⊎ Q
-all_or_none n m zs Q test empty all = elim (or_cases (n == 0) (n == m) test) [ inl e ↦ inl (empty (same_from_test n 0 e)) | inr e ↦ inr (all (same_from_test n m e)) ]
+all_or_none n m zs Q test empty all =
+    elim (or_cases (n == 0) (n == m) test) [ inl e ↦ inl (empty (same_from_test n 0 e)) | inr e ↦ inr (all (same_from_test n m e)) ]
 
 mutual
   pub kept_choice : (p : ℕ → Bool) (t : Node) → keeps p t ≡ true → IsTreeChoice t (filter p (leaves t))
   kept_choice p (leaf r) e = leaf_choice (p r) r
   kept_choice p (many ts) e = kept_union p ts e
   kept_choice p (one_of ts) e =
-      some_or_none ts (touched_count p ts) (filter p (all_leaves ts)) (IsOfOne ts (filter p (all_leaves ts))) (and_right (all_keep p ts) (nat_le (touched_count p ts) 1) e)
+      some_or_none ts (touched_count p ts) (filter p (all_leaves ts)) (IsOfOne ts (filter p (all_leaves ts)))
+      (and_right (all_keep p ts) (nat_le (touched_count p ts) 1) e)
       (none_touched p ts) (kept_one p ts (and_left (all_keep p ts) (nat_le (touched_count p ts) 1) e))
   kept_choice p (all_of ts) e =
       all_or_none (touched_count p ts) (node_count ts) (filter p (all_leaves ts)) (IsWhole ts (filter p (all_leaves ts)))
@@ -198,7 +203,8 @@ mutual
   kept_one : (p : ℕ → Bool) (ts : Nodes) → all_keep p ts ≡ true → touched_count p ts ≡ 1 → IsOfOne ts (filter p (all_leaves ts))
   kept_one p none e count = omega arith
   kept_one p (and_then t ts) e count =
-      one_choice t ts (is_touched p t) (touched_count p ts) (filter p (leaves t ++ all_leaves ts)) (filter p (leaves t)) (filter p (all_leaves ts)) (filter-append p (leaves t) (all_leaves ts)) count
+      one_choice t ts (is_touched p t) (touched_count p ts) (filter p (leaves t ++ all_leaves ts)) (filter p (leaves t)) (filter p (all_leaves ts))
+      (filter-append p (leaves t) (all_leaves ts)) count
       (untouched p t) (none_touched p ts) (kept_choice p t (and_left (keeps p t) (all_keep p ts) e)) (kept_one p ts (and_right (keeps p t) (all_keep p ts) e))
 
   kept_whole : (p : ℕ → Bool) (ts : Nodes) → all_keep p ts ≡ true → touched_count p ts ≡ node_count ts → IsWhole ts (filter p (all_leaves ts))
@@ -220,7 +226,8 @@ Apart xs = AllPairs (λ a b. a ≢ b) xs
 kept_within : (p : ℕ → Bool) (xs : List ℕ) (r : ℕ) → Contains (filter p xs) r → Contains xs r
 kept_within p xs r c = (filter_contained p xs r c).1
 
-same_parts : (p : ℕ → Bool) (xs ys first rest : List ℕ) → Apart (xs ++ ys) → filter p (xs ++ ys) ≡ first ++ rest → All (Contains xs) first → All (Contains ys) rest → (filter p xs ≡ first) × (filter p ys ≡ rest)
+same_parts : (p : ℕ → Bool) (xs ys first rest : List ℕ) → Apart (xs ++ ys) → filter p (xs ++ ys) ≡ first ++ rest → All (Contains xs) first
+    → All (Contains ys) rest → (filter p xs ≡ first) × (filter p ys ≡ rest)
 same_parts p xs ys first rest d e a b =
     parts_same (filter p xs) (filter p ys) first rest (sym (filter-append p xs ys) ∙ e)
     (λ r here there. apart xs ys r d (kept_within p xs r here) (All-contains (Contains ys) rest r b there))
@@ -230,12 +237,16 @@ same_parts p xs ys first rest d e a b =
 only_left : (p : ℕ → Bool) (xs ys : List ℕ) → Apart (xs ++ ys) → All (Contains xs) (filter p (xs ++ ys)) → filter p ys ≡ []
 only_left p xs ys d a =
     no_elements (filter p ys)
-    (λ r c. apart xs ys r d (All-contains (Contains xs) (filter p (xs ++ ys)) r a (subst (λ (zs : List ℕ). Contains zs r) (sym (filter-append p xs ys)) (Contains-append_right (filter p xs) (filter p ys) r c))) (kept_within p ys r c))
+    (λ r c. apart xs ys r d (All-contains (Contains xs) (filter p (xs ++ ys)) r a
+    (subst (λ (zs : List ℕ). Contains zs r) (sym (filter-append p xs ys)) (Contains-append_right (filter p xs) (filter p ys) r c)))
+    (kept_within p ys r c))
 
 only_right : (p : ℕ → Bool) (xs ys : List ℕ) → Apart (xs ++ ys) → All (Contains ys) (filter p (xs ++ ys)) → filter p xs ≡ []
 only_right p xs ys d a =
     no_elements (filter p xs)
-    (λ r c. apart xs ys r d (kept_within p xs r c) (All-contains (Contains ys) (filter p (xs ++ ys)) r a (subst (λ (zs : List ℕ). Contains zs r) (sym (filter-append p xs ys)) (Contains-append_left (filter p xs) (filter p ys) r c))))
+    (λ r c. apart xs ys r d (kept_within p xs r c)
+    (All-contains (Contains ys) (filter p (xs ++ ys)) r a
+    (subst (λ (zs : List ℕ). Contains zs r) (sym (filter-append p xs ys)) (Contains-append_left (filter p xs) (filter p ys) r c))))
 
 empty_left : (p : ℕ → Bool) (xs ys : List ℕ) → filter p (xs ++ ys) ≡ [] → filter p xs ≡ []
 empty_left p xs ys e = append_empty_left (filter p xs) (filter p ys) (sym (filter-append p xs ys) ∙ e)
@@ -266,8 +277,10 @@ mutual
   pub choice_kept : (p : ℕ → Bool) (t : Node) → Apart (leaves t) → IsTreeChoice t (filter p (leaves t)) → keeps p t ≡ true
   choice_kept p (leaf r) d h = refl
   choice_kept p (many ts) d h = union_kept p ts d h
-  choice_kept p (one_of ts) d (inl e) = and_both (all_keep p ts) (nat_le (touched_count p ts) 1) (empty_kept p ts d e) (test_from_few (touched_count p ts) (let untouched_all : touched_count p ts ≡ 0 = count_none p ts e in omega arith))
-  choice_kept p (one_of ts) d (inr h) = let one = one_kept p ts d h in and_both (all_keep p ts) (nat_le (touched_count p ts) 1) one.0 (test_from_few (touched_count p ts) one.1)
+  choice_kept p (one_of ts) d (inl e) = and_both (all_keep p ts) (nat_le (touched_count p ts) 1) (empty_kept p ts d e)
+      (test_from_few (touched_count p ts) (let untouched_all : touched_count p ts ≡ 0 = count_none p ts e in omega arith))
+  choice_kept p (one_of ts) d (inr h) = let one = one_kept p ts d h in
+      and_both (all_keep p ts) (nat_le (touched_count p ts) 1) one.0 (test_from_few (touched_count p ts) one.1)
   choice_kept p (all_of ts) d (inl e) =
       and_both (all_keep p ts) ((touched_count p ts == 0) || (touched_count p ts == node_count ts)) (empty_kept p ts d e)
       (or_left (touched_count p ts == 0) (touched_count p ts == node_count ts) (test_from_same (touched_count p ts) 0 (count_none p ts e)))
@@ -303,11 +316,13 @@ mutual
   one_kept p (and_then t ts) d (inr b) =
       let out : filter p (leaves t) ≡ [] = only_right p (leaves t) (all_leaves ts) d (one_among ts (filter p (leaves t ++ all_leaves ts)) b) in
       let rest = one_kept p ts (pairs_right (leaves t) (all_leaves ts) d) (subst (IsOfOne ts) (without_left p (leaves t) (all_leaves ts) out) b) in (
-        and_both (keeps p t) (all_keep p ts) (choice_kept p t (pairs_left (leaves t) (all_leaves ts) d) (subst (IsTreeChoice t) (sym out) (no_choice t))) rest.0,
+        and_both (keeps p t) (all_keep p ts)
+            (choice_kept p t (pairs_left (leaves t) (all_leaves ts) d) (subst (IsTreeChoice t) (sym out) (no_choice t))) rest.0,
         few_rest (is_touched p t) (touched_count p ts) (not_touched p t out) rest.1,
       )
 
-  whole_kept : (p : ℕ → Bool) (ts : Nodes) → Apart (all_leaves ts) → IsWhole ts (filter p (all_leaves ts)) → (all_keep p ts ≡ true) × (touched_count p ts ≡ node_count ts)
+  whole_kept : (p : ℕ → Bool) (ts : Nodes) → Apart (all_leaves ts) → IsWhole ts (filter p (all_leaves ts)) → (all_keep p ts ≡ true)
+      × (touched_count p ts ≡ node_count ts)
   whole_kept p none d h = (refl, refl)
   whole_kept p (and_then t ts) d (first, rest, e, some, a, b) =
       let same = same_parts p (leaves t) (all_leaves ts) first rest d e (choice_among t first a) (whole_among ts rest b) in
@@ -323,16 +338,21 @@ cond_same a b x xs ys e f = ap (λ (t : Bool). cond t (x ∷ xs) xs) e ∙ ap (�
 
 filter_same : (p q : ℕ → Bool) (xs : List ℕ) → All (λ r. p r ≡ q r) xs → filter p xs ≡ filter q xs
 filter_same p q [] h = refl
-filter_same p q (x ∷ xs) h = cond_same (p x) (q x) x (filter p xs) (filter q xs) (All-head (λ r. p r ≡ q r) x xs h) (filter_same p q xs (All-tail (λ r. p r ≡ q r) x xs h))
+filter_same p q (x ∷ xs) h = cond_same (p x) (q x) x (filter p xs) (filter q xs) (All-head (λ r. p r ≡ q r) x xs h)
+    (filter_same p q xs (All-tail (λ r. p r ≡ q r) x xs h))
 
-flags_agree : (s : Parts) (rs : List ℕ) (flags : List Bool) (t : Node) → AreFlags s rs flags → All (IsKnown s) (leaves t) → filter (is_flagged s flags) (leaves t) ≡ filter (is_placed rs) (leaves t)
+flags_agree : (s : Parts) (rs : List ℕ) (flags : List Bool) (t : Node) → AreFlags s rs flags → All (IsKnown s) (leaves t)
+    → filter (is_flagged s flags) (leaves t) ≡ filter (is_placed rs) (leaves t)
 flags_agree s rs flags t are known = filter_same (is_flagged s flags) (is_placed rs) (leaves t) (λ i d l. are.each _ (known i d l))
 
-pub allowed_when : (s : Parts) (plan : List Placement) (flags : List Bool) (t : Node) → AreFlags s (requests_of plan) flags → All (IsKnown s) (leaves t) → keeps (is_flagged s flags) t ≡ true → IsAllowed plan t
+pub allowed_when : (s : Parts) (plan : List Placement) (flags : List Bool) (t : Node) → AreFlags s (requests_of plan) flags
+    → All (IsKnown s) (leaves t) → keeps (is_flagged s flags) t ≡ true → IsAllowed plan t
 allowed_when s plan flags t are known e = subst (IsTreeChoice t) (flags_agree s (requests_of plan) flags t are known) (kept_choice (is_flagged s flags) t e)
 
-pub refused_when : (s : Parts) (plan : List Placement) (flags : List Bool) (t : Node) → AreFlags s (requests_of plan) flags → All (IsKnown s) (leaves t) → AllPairs (λ a b. a ≢ b) (leaves t) → keeps (is_flagged s flags) t ≡ false → ¬ (IsAllowed plan t)
+pub refused_when : (s : Parts) (plan : List Placement) (flags : List Bool) (t : Node) → AreFlags s (requests_of plan) flags
+    → All (IsKnown s) (leaves t) → AllPairs (λ a b. a ≢ b) (leaves t) → keeps (is_flagged s flags) t ≡ false → ¬ (IsAllowed plan t)
 refused_when s plan flags t are known once e allowed =
-    let kept : keeps (is_flagged s flags) t ≡ true = choice_kept (is_flagged s flags) t once (subst (IsTreeChoice t) (sym (flags_agree s (requests_of plan) flags t are known)) allowed) in
+    let kept : keeps (is_flagged s flags) t ≡ true =
+    choice_kept (is_flagged s flags) t once (subst (IsTreeChoice t) (sym (flags_agree s (requests_of plan) flags t are known)) allowed) in
     let bad : false ≡ true = sym e ∙ kept in
     cc

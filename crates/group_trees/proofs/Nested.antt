@@ -1,9 +1,11 @@
 -- Trees in JSON values, by the elements of lists, and how deep they are.
-use Rattle.std.proofs.Common.{◌≡◌, ℕ, zero, suc, ◌≤◌, ◌<◌, Bool, true, false, cond, ◌&&◌, nat_le, max, List, [], ◌∷◌, length, slice_index_or, Option, Some, None, Result, Ok, Err, Ordering, Less, Equal, Greater, refl, sym, ◌∙◌, ap, subst, arith}
+use Rattle.std.proofs.Common.{◌≡◌, ℕ, zero, suc, ◌≤◌, ◌<◌, Bool, true, false, cond, ◌&&◌, nat_le, max, List, [], ◌∷◌, length, slice_index_or, Option}
+use Rattle.std.proofs.Common.{Some, None, Result, Ok, Err, Ordering, Less, Equal, Greater, refl, sym, ◌∙◌, ap, subst, arith}
 use Rattle.std.specs.Prelude.{is_some, ok_or, option_and_then}
 use Rattle.std.specs.Ordering.{nat_cmp, match_ordering}
 use Rattle.std.specs.Cmp.Lexicographic.{slice_cmp}
-use Rattle.serde_json.specs.Data.{Data, null, boolean, number, string, array, object, Items, no_items, item, Members, no_members, member, depth, items_depth, members_depth}
+use Rattle.serde_json.specs.Data.{Data, null, boolean, number, string, array, object, Items, no_items, item, Members, no_members, member, depth}
+use Rattle.serde_json.specs.Data.{items_depth, members_depth}
 use Rattle.serde_json.specs.Find.{get_member}
 use Rattle.plan_json.specs.declared.member.Member.{Member}
 use Rattle.plan_json.specs.declared.member.Member.TheVariants as key
@@ -26,7 +28,8 @@ map_cons : (t : Node) (r : Result (List Node) JsonFault) → result_map (and_the
 map_cons t (Ok ts) = refl
 map_cons t (Err e) = refl
 
-step : (a : Result Node JsonFault) (r : Result Nodes JsonFault) (q : Result (List Node) JsonFault) → r ≡ result_map nodes_of q → result_and_then (λ t. result_map (and_then t) r) a ≡ result_map nodes_of (result_and_then (λ t. result_map (λ ts. t ∷ ts) q) a)
+step : (a : Result Node JsonFault) (r : Result Nodes JsonFault) (q : Result (List Node) JsonFault) → r ≡ result_map nodes_of q
+    → result_and_then (λ t. result_map (and_then t) r) a ≡ result_map nodes_of (result_and_then (λ t. result_map (λ ts. t ∷ ts) q) a)
 step (Ok t) r q e = ap (result_map (and_then t)) e ∙ map_cons t q
 step (Err x) r q e = refl
 
@@ -38,7 +41,9 @@ nodes_by_elements (item d ds) = step (tree_in key.Children d) (nodes_in ds) (rea
 abbrev children_read : Option Data → Result Nodes JsonFault
 children_read o = result_map nodes_of (result_and_then (λ d. list_in key.Children 0 32 d >>= read_each (tree_in key.Children)) (ok_or o (Missing key.Children)))
 
-in_range : (b : Bool) (ds : Items) → cond b (nodes_in ds) (Err (OutOfRange key.Children)) ≡ result_map nodes_of (result_and_then (read_each (tree_in key.Children)) (cond b (Ok (elements ds)) (Err (OutOfRange key.Children))))
+in_range : (b : Bool) (ds : Items)
+    → cond b (nodes_in ds) (Err (OutOfRange key.Children))
+    ≡ result_map nodes_of (result_and_then (read_each (tree_in key.Children)) (cond b (Ok (elements ds)) (Err (OutOfRange key.Children))))
 in_range true ds = nodes_by_elements ds
 in_range false ds = refl
 
@@ -52,7 +57,9 @@ children_by_list (number n) = refl
 children_by_list (string s) = refl
 children_by_list (array ds) =
     in_range (nat_le (length (elements ds)) 32) ds
-    ∙ ap (λ (b : Bool). result_map nodes_of (result_and_then (read_each (tree_in key.Children)) (cond (b && nat_le (length (elements ds)) 32) (Ok (elements ds)) (Err (OutOfRange key.Children))))) (sym (none_least (length (elements ds))))
+    ∙ ap (λ (b : Bool). result_map nodes_of
+    (result_and_then (read_each (tree_in key.Children))
+    (cond (b && nat_le (length (elements ds)) 32) (Ok (elements ds)) (Err (OutOfRange key.Children))))) (sym (none_least (length (elements ds))))
 children_by_list (object ms) = refl
 
 found : (o : Ordering) (d : Data) (rest : Result Nodes JsonFault) (found_rest : Option Data) → rest ≡ children_read (option_and_then unless_null found_rest)
@@ -66,7 +73,8 @@ children_by_member ms = found_under ms ∙ same (ok_or (value_of ms key.Children
   where
     found_under : (ms : Members) → children_under ms ≡ children_read (option_and_then unless_null (get_member (name_of key.Children) ms))
     found_under no_members = refl
-    found_under (member k d ms) = found (slice_cmp nat_cmp (name_of key.Children) k) d (children_under ms) (get_member (name_of key.Children) ms) (found_under ms)
+    found_under (member k d ms) = found (slice_cmp nat_cmp (name_of key.Children) k) d (children_under ms)
+        (get_member (name_of key.Children) ms) (found_under ms)
 
     same : (r : Result Data JsonFault) → result_map nodes_of (result_and_then (λ d. list_in key.Children 0 32 d >>= read_each (tree_in key.Children)) r)
         ≡ result_map nodes_of (result_and_then (read_each (tree_in key.Children)) (result_and_then (list_in key.Children 0 32) r))
@@ -88,7 +96,8 @@ elements_deep (item d ds) = ap (λ (n : ℕ). max (depth d) n) (elements_deep ds
 some_value : (x y : Data) → Some x ≡ Some y → x ≡ y
 some_value x y e = ap (λ (o : Option Data). elim o [ None ↦ x | Some z ↦ z ]) e
 
-deep_step : (o : Ordering) (x d : Data) (rest : Option Data) (n : ℕ) → (rest ≡ Some d → depth d ≤ n) → match_ordering o rest (Some x) rest ≡ Some d → depth d ≤ max (depth x) n
+deep_step : (o : Ordering) (x d : Data) (rest : Option Data) (n : ℕ) → (rest ≡ Some d → depth d ≤ n) → match_ordering o rest (Some x) rest ≡ Some d
+    → depth d ≤ max (depth x) n
 deep_step Less x d rest n h e = let below : depth d ≤ n = h e in let up : n ≤ max (depth x) n = max_right (depth x) n in omega arith
 deep_step Equal x d rest n h e = subst (λ (y : Data). depth y ≤ max (depth x) n) (some_value x d e) (max_left (depth x) n)
 deep_step Greater x d rest n h e = let below : depth d ≤ n = h e in let up : n ≤ max (depth x) n = max_right (depth x) n in omega arith
@@ -131,7 +140,8 @@ list_deep m least most (array ds) xs e = by (nat_le least (length (elements ds))
 list_deep m least most (object ms) xs e = cc
 
 -- the elements of a member's list are less deep than the object
-pub children_deep : (ms : Members) (m : Member) (least most : ℕ) (xs : List Data) → member_of (λ k. list_in k least most) ms m ≡ Ok xs → deepest xs < members_depth ms
+pub children_deep : (ms : Members) (m : Member) (least most : ℕ) (xs : List Data) → member_of (λ k. list_in k least most) ms m ≡ Ok xs
+    → deepest xs < members_depth ms
 children_deep ms m least most xs e = by (value_of ms m) refl e
   where
     by : (o : Option Data) → value_of ms m ≡ o → result_and_then (list_in m least most) (ok_or o (Missing m)) ≡ Ok xs → deepest xs < members_depth ms
@@ -158,7 +168,8 @@ object_deep m (array ds) ms e = cc
 object_deep m (object ns) ms e = let same : members_depth ns ≡ members_depth ms = ap members_depth (ok_same ns ms e) in omega arith
 
 -- an object in a list is less deep than the list
-pub inner_deep : (m : Member) (ds : List Data) (i : ℕ) (ms : Members) → i < length ds → object_in m (slice_index_or ds i null) ≡ Ok ms → members_depth ms < deepest ds
+pub inner_deep : (m : Member) (ds : List Data) (i : ℕ) (ms : Members) → i < length ds → object_in m (slice_index_or ds i null) ≡ Ok ms
+    → members_depth ms < deepest ds
 inner_deep m ds i ms l e =
     let one : members_depth ms < depth (slice_index_or ds i null) = object_deep m (slice_index_or ds i null) ms e in
     let all : depth (slice_index_or ds i null) ≤ deepest ds = element_deep ds i l in
@@ -166,10 +177,13 @@ inner_deep m ds i ms l e =
 
 -- ---- what is read
 
-over_same : (ms : Members) (r : Result (List Node) JsonFault) → (member_of branch_in ms key.Operator >>= λ kind. result_map (grown kind) (result_map nodes_of r)) ≡ (member_of branch_in ms key.Operator >>= λ kind. r >>= λ ts. Ok (grown kind (nodes_of ts)))
+over_same : (ms : Members) (r : Result (List Node) JsonFault)
+    → (member_of branch_in ms key.Operator >>= λ kind. result_map (grown kind) (result_map nodes_of r))
+    ≡ (member_of branch_in ms key.Operator >>= λ kind. r >>= λ ts. Ok (grown kind (nodes_of ts)))
 over_same ms r = by (member_of branch_in ms key.Operator) r
   where
-    by : (b : Result Branch JsonFault) (r : Result (List Node) JsonFault) → (b >>= λ kind. result_map (grown kind) (result_map nodes_of r)) ≡ (b >>= λ kind. r >>= λ ts. Ok (grown kind (nodes_of ts)))
+    by : (b : Result Branch JsonFault) (r : Result (List Node) JsonFault)
+        → (b >>= λ kind. result_map (grown kind) (result_map nodes_of r)) ≡ (b >>= λ kind. r >>= λ ts. Ok (grown kind (nodes_of ts)))
     by (Ok kind) (Ok ts) = refl
     by (Ok kind) (Err e) = refl
     by (Err e) r = refl
@@ -178,7 +192,8 @@ over_same ms r = by (member_of branch_in ms key.Operator) r
 tree_by_list : (ms : Members) → tree_of ms ≡ tree_listed ms
 tree_by_list ms =
     ap (tree_with ms) (children_by_member ms)
-    ∙ ap (λ (r : Result Node JsonFault). cond (is_some (value_of ms key.Leaf)) (result_map leaf (member_of (number_in 0 4294967295) ms key.Leaf)) r) (over_same ms (each_of tree_in 0 32 ms key.Children))
+    ∙ ap (λ (r : Result Node JsonFault). cond (is_some (value_of ms key.Leaf)) (result_map leaf (member_of (number_in 0 4294967295) ms key.Leaf)) r)
+    (over_same ms (each_of tree_in 0 32 ms key.Children))
 
 -- a value is a tree where it is an object that is one
 pub tree_in_listed : (m : Member) (d : Data) → tree_in m d ≡ result_and_then tree_listed (object_in m d)

@@ -1,5 +1,6 @@
 -- The leaves of all trees, and the requests of a plan among them.
-use Rattle.std.proofs.Common.{◌≡◌, ◌≢◌, ℕ, ◌+◌, ◌≤◌, ◌⊎◌, inl, inr, Bool, true, false, cond, slice_index_or, ◌||◌, not, ◌==◌, ℤ, ◌+ℤ◌, List, [], ◌∷◌, ◌++◌, filter, All, AllPairs, Contains, refl, sym, ap, ◌∙◌, subst, arith}
+use Rattle.std.proofs.Common.{◌≡◌, ◌≢◌, ℕ, ◌+◌, ◌≤◌, ◌⊎◌, inl, inr, Bool, true, false, cond, slice_index_or, ◌||◌, not, ◌==◌, ℤ, ◌+ℤ◌, List, [], ◌∷◌}
+use Rattle.std.proofs.Common.{◌++◌, filter, All, AllPairs, Contains, refl, sym, ap, ◌∙◌, subst, arith}
 use Rattle.std.proofs.lemmas.Int.{ints}
 use Rattle.std.proofs.lemmas.Bool.Decides.{nat_tests}
 use Rattle.std.proofs.lemmas.List.Elements.{All-head, All-tail, All-filter, All-contains, All-contains_itself, Contains-get_or, filter_passes}
@@ -128,7 +129,8 @@ others_within m ms xs a = λ i d l.
     elim (contains_cases m _ ms kept) [ inl e ↦ absurd (differs (sym e)) | inr c ↦ c ]
 
 -- lists of the same numbers, each once, have the same sum
-pub same_total : (c : ℕ → ℤ) (ms xs : List ℕ) → AllPairs (λ a b. a ≢ b) ms → All (Contains ms) xs → AllPairs (λ a b. a ≢ b) xs → ((r : ℕ) → Contains ms r → Contains xs r) → total c xs ≡ total c ms
+pub same_total : (c : ℕ → ℤ) (ms xs : List ℕ) → AllPairs (λ a b. a ≢ b) ms → All (Contains ms) xs → AllPairs (λ a b. a ≢ b) xs
+    → ((r : ℕ) → Contains ms r → Contains xs r) → total c xs ≡ total c ms
 same_total c [] [] distinct a once has = refl
 same_total c [] (x ∷ xs) distinct a once has = absurd (omega (arith, (All-head (Contains []) x xs a).1))
 same_total c (m ∷ ms) xs distinct a once has =
@@ -136,8 +138,10 @@ same_total c (m ∷ ms) xs distinct a once has =
     let others : List ℕ = filter (λ x. not (x == m)) xs in
     let split : total c xs ≡ total c same +ℤ total c others = total_split c (λ x. x == m) xs in
     let all_same : All (λ x. x ≡ m) same = λ i d l. same_from_test _ m (filter_passes (λ x. x == m) xs i d l) in
-    let here : total c same ≡ c m = exactly_once c m same all_same (AllPairs-filter (λ a b. a ≢ b) (λ x. x == m) xs once) (contains_filter (λ x. x == m) xs m (has m (contains_first m ms)) (test_itself m)) in
-    let rest : total c others ≡ total c ms = same_total c ms others (pairs_tail (λ a b. a ≢ b) m ms distinct) (others_within m ms xs a) (AllPairs-filter (λ a b. a ≢ b) (λ x. not (x == m)) xs once)
+    let here : total c same ≡ c m = exactly_once c m same all_same (AllPairs-filter (λ a b. a ≢ b) (λ x. x == m) xs once)
+    (contains_filter (λ x. x == m) xs m (has m (contains_first m ms)) (test_itself m)) in
+    let rest : total c others ≡ total c ms = same_total c ms others (pairs_tail (λ a b. a ≢ b) m ms distinct) (others_within m ms xs a)
+    (AllPairs-filter (λ a b. a ≢ b) (λ x. not (x == m)) xs once)
     (λ r in_rest.
     let differs : r ≢ m = λ e. All-contains (λ y. m ≢ y) ms r (pairs_head (λ a b. a ≢ b) m ms distinct) in_rest (sym e) in
     contains_filter (λ x. not (x == m)) xs r (has r (contains_rest m r ms in_rest)) (test_from_differ r m differs)) in
@@ -145,10 +149,14 @@ same_total c (m ∷ ms) xs distinct a once has =
 
 -- what a filter keeps passes, and was there
 pub filter_contained : (p : ℕ → Bool) (xs : List ℕ) (r : ℕ) → Contains (filter p xs) r → (p r ≡ true) × Contains xs r
-filter_contained p xs r c = (All-contains (λ x. p x ≡ true) (filter p xs) r (filter_passes p xs) c, All-contains (Contains xs) (filter p xs) r (All-filter p (Contains xs) xs (All-contains_itself xs)) c)
+filter_contained p xs r c = (
+  All-contains (λ x. p x ≡ true) (filter p xs) r (filter_passes p xs) c,
+  All-contains (Contains xs) (filter p xs) r (All-filter p (Contains xs) xs (All-contains_itself xs)) c,
+)
 
 -- the requests of a plan are those of its leaves that it places
-pub placed_total : (c : ℕ → ℤ) (rs leaves : List ℕ) → AllPairs (λ a b. a ≢ b) rs → AllPairs (λ a b. a ≢ b) leaves → All (Contains leaves) rs → total c rs ≡ total c (filter (is_placed rs) leaves)
+pub placed_total : (c : ℕ → ℤ) (rs leaves : List ℕ) → AllPairs (λ a b. a ≢ b) rs → AllPairs (λ a b. a ≢ b) leaves → All (Contains leaves) rs
+    → total c rs ≡ total c (filter (is_placed rs) leaves)
 placed_total c rs leaves once distinct among =
     same_total c (filter (is_placed rs) leaves) rs (AllPairs-filter (λ a b. a ≢ b) (is_placed rs) leaves distinct)
     (λ i d l.

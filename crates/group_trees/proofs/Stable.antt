@@ -107,7 +107,8 @@ three P Q R (inr n) c d = inr (λ h. n h.0)
 
 decide_sky : (target site x : ℕ) (y : Sky) → Decided ((y.target.0 ≡ target) × (y.site.0 ≡ site) × Any (λ w. HasSecond w x) y.spans)
 decide_sky target site x y =
-    three (y.target.0 ≡ target) (y.site.0 ≡ site) (Any (λ w. HasSecond w x) y.spans) (decide_same y.target.0 target) (decide_same y.site.0 site) (decide_any (λ w. HasSecond w x) (decide_second x) y.spans)
+    three (y.target.0 ≡ target) (y.site.0 ≡ site) (Any (λ w. HasSecond w x) y.spans) (decide_same y.target.0 target) (decide_same y.site.0 site)
+    (decide_any (λ w. HasSecond w x) (decide_second x) y.spans)
 
 -- a start that isn't impossible is possible
 pub possible_stable : (s : Parts) (p : Placement) → ¬ (¬ (IsPossibleStart s p)) → IsPossibleStart s p

@@ -1,5 +1,6 @@
 -- The greatest sums over choices, built up node by node.
-use Rattle.std.proofs.Common.{◌≡◌, ◌≢◌, ℕ, ◌*◌, ◌≤◌, ◌<◌, ◌⊎◌, inl, inr, ℤ, pos, neg_ℤ, ◌+ℤ◌, ◌≤ℤ◌, List, [], ◌∷◌, ◌++◌, length, All, refl, sym, ◌∙◌, ap, subst, arith}
+use Rattle.std.proofs.Common.{◌≡◌, ◌≢◌, ℕ, ◌*◌, ◌≤◌, ◌<◌, ◌⊎◌, inl, inr, ℤ, pos, neg_ℤ, ◌+ℤ◌, ◌≤ℤ◌, List, [], ◌∷◌, ◌++◌, length, All, refl, sym, ◌∙◌}
+use Rattle.std.proofs.Common.{ap, subst, arith}
 use Rattle.std.proofs.lemmas.Int.{ints}
 use Rattle.std.proofs.lemmas.List.{append-nil, get_or_past}
 use Rattle.std.proofs.Common.{slice_index_or}
@@ -17,7 +18,8 @@ use Rattle.group_trees.specs.Pairs.{IsSome, IsPair, IsSum, AreSums, IsJoined}
 use Rattle.group_trees.proofs.Choices.{no_choice}
 
 -- the same choices have the same greatest sum
-pub greatest_same : (P Q : List ℕ → Type 0) (c : ℕ → ℤ) (b : ℤ) → ((choice : List ℕ) → P choice → Q choice) → ((choice : List ℕ) → Q choice → P choice) → IsGreatest P c b → IsGreatest Q c b
+pub greatest_same : (P Q : List ℕ → Type 0) (c : ℕ → ℤ) (b : ℤ) → ((choice : List ℕ) → P choice → Q choice)
+    → ((choice : List ℕ) → Q choice → P choice) → IsGreatest P c b → IsGreatest Q c b
 greatest_same P Q c b f g h = record { reached = (h.reached.0, f h.reached.0 h.reached.1, h.reached.2); bound = λ choice q. h.bound choice (g choice q) }
 
 -- the larger of two, where each choice is of one kind or the other
@@ -75,7 +77,8 @@ append_some_right [] rest some = some
 append_some_right (x ∷ first) rest some = λ empty. cc
 
 -- a union that isn't empty has one part that isn't
-pub greatest_of_some_joint : (P Q : List ℕ → Type 0) (c : ℕ → ℤ) (x y z : ℤ) → IsGreatest (IsJoint (IsSome P) Q) c x → IsGreatest (IsJoint P (IsSome Q)) c y → x ≤ℤ z → y ≤ℤ z → (z ≡ x) ⊎ (z ≡ y)
+pub greatest_of_some_joint : (P Q : List ℕ → Type 0) (c : ℕ → ℤ) (x y z : ℤ) → IsGreatest (IsJoint (IsSome P) Q) c x
+    → IsGreatest (IsJoint P (IsSome Q)) c y → x ≤ℤ z → y ≤ℤ z → (z ≡ x) ⊎ (z ≡ y)
     → IsGreatest (IsSome (IsJoint P Q)) c z
 greatest_of_some_joint P Q c x y z hx hy lx ly one =
     greatest_of_either (IsJoint (IsSome P) Q) (IsJoint P (IsSome Q)) (IsSome (IsJoint P Q)) c x y z
@@ -89,7 +92,8 @@ greatest_of_some_joint P Q c x y z hx hy lx ly one =
 
 -- ---- a node beside others
 
-pub pair_more : (t : Node) (ts : Nodes) (c : ℕ → ℤ) (first rest x : Greatest) → IsPair (IsTreeChoice t) c first → IsPair (IsUnion ts) c rest → IsJoined first rest x → IsPair (IsUnion (and_then t ts)) c x
+pub pair_more : (t : Node) (ts : Nodes) (c : ℕ → ℤ) (first rest x : Greatest) → IsPair (IsTreeChoice t) c first → IsPair (IsUnion ts) c rest
+    → IsJoined first rest x → IsPair (IsUnion (and_then t ts)) c x
 pair_more t ts c first rest x a b joined = record {
   any = greatest_of_joint (IsTreeChoice t) (IsUnion ts) c first.any rest.any x.any a.any b.any joined.any;
   some = greatest_of_some_joint (IsTreeChoice t) (IsUnion ts) c (first.some +ℤ rest.any) (first.any +ℤ rest.some) x.some
@@ -108,10 +112,12 @@ single_from t choice (first, rest, e, a, b) = subst (IsTreeChoice t) (sym (e ∙
 pub pair_single : (t : Node) (c : ℕ → ℤ) (x : Greatest) → IsPair (IsTreeChoice t) c x → IsPair (IsUnion (and_then t none)) c x
 pair_single t c x h = record {
   any = greatest_same (IsTreeChoice t) (IsUnion (and_then t none)) c x.any (single_to t) (single_from t) h.any;
-  some = greatest_same (IsSome (IsTreeChoice t)) (IsSome (IsUnion (and_then t none))) c x.some (λ choice (s, h). (s, single_to t choice h)) (λ choice (s, h). (s, single_from t choice h)) h.some;
+  some = greatest_same (IsSome (IsTreeChoice t)) (IsSome (IsUnion (and_then t none))) c x.some (λ choice (s, h). (s, single_to t choice h))
+      (λ choice (s, h). (s, single_from t choice h)) h.some;
 }
 
-pub best_more : (t : Node) (ts : Nodes) (c : ℕ → ℤ) (x y z : ℤ) → IsGreatest (IsSome (IsTreeChoice t)) c x → IsGreatest (IsSome (IsOfOne ts)) c y → x ≤ℤ z → y ≤ℤ z → (z ≡ x) ⊎ (z ≡ y)
+pub best_more : (t : Node) (ts : Nodes) (c : ℕ → ℤ) (x y z : ℤ) → IsGreatest (IsSome (IsTreeChoice t)) c x → IsGreatest (IsSome (IsOfOne ts)) c y
+    → x ≤ℤ z → y ≤ℤ z → (z ≡ x) ⊎ (z ≡ y)
     → IsGreatest (IsSome (IsOfOne (and_then t ts))) c z
 best_more t ts c x y z hx hy lx ly one =
     greatest_of_either (IsSome (IsTreeChoice t)) (IsSome (IsOfOne ts)) (IsSome (IsOfOne (and_then t ts))) c x y z
@@ -119,7 +125,8 @@ best_more t ts c x y z hx hy lx ly one =
 
 pub best_single : (t : Node) (c : ℕ → ℤ) (x : ℤ) → IsGreatest (IsSome (IsTreeChoice t)) c x → IsGreatest (IsSome (IsOfOne (and_then t none))) c x
 best_single t c x h =
-    greatest_same (IsSome (IsTreeChoice t)) (IsSome (IsOfOne (and_then t none))) c x (λ choice (s, a). (s, inl a)) (λ choice (s, a). (s, elim a [ inl b ↦ b | inr b ↦ absurd b ])) h
+    greatest_same (IsSome (IsTreeChoice t)) (IsSome (IsOfOne (and_then t none))) c x (λ choice (s, a). (s, inl a))
+    (λ choice (s, a). (s, elim a [ inl b ↦ b | inr b ↦ absurd b ])) h
 
 whole_to : (t : Node) (ts : Nodes) (choice : List ℕ) → IsJoint (IsSome (IsTreeChoice t)) (IsWhole ts) choice → IsWhole (and_then t ts) choice
 whole_to t ts choice (first, rest, e, (some, a), b) = (first, rest, e, some, a, b)
@@ -127,9 +134,11 @@ whole_to t ts choice (first, rest, e, (some, a), b) = (first, rest, e, some, a, 
 whole_from : (t : Node) (ts : Nodes) (choice : List ℕ) → IsWhole (and_then t ts) choice → IsJoint (IsSome (IsTreeChoice t)) (IsWhole ts) choice
 whole_from t ts choice (first, rest, e, some, a, b) = (first, rest, e, (some, a), b)
 
-pub whole_more : (t : Node) (ts : Nodes) (c : ℕ → ℤ) (x y z : ℤ) → IsGreatest (IsSome (IsTreeChoice t)) c x → IsGreatest (IsWhole ts) c y → z ≡ x +ℤ y → IsGreatest (IsWhole (and_then t ts)) c z
+pub whole_more : (t : Node) (ts : Nodes) (c : ℕ → ℤ) (x y z : ℤ) → IsGreatest (IsSome (IsTreeChoice t)) c x → IsGreatest (IsWhole ts) c y → z ≡ x +ℤ y
+    → IsGreatest (IsWhole (and_then t ts)) c z
 whole_more t ts c x y z hx hy e =
-    greatest_same (IsJoint (IsSome (IsTreeChoice t)) (IsWhole ts)) (IsWhole (and_then t ts)) c z (whole_to t ts) (whole_from t ts) (greatest_of_joint (IsSome (IsTreeChoice t)) (IsWhole ts) c x y z hx hy e)
+    greatest_same (IsJoint (IsSome (IsTreeChoice t)) (IsWhole ts)) (IsWhole (and_then t ts)) c z (whole_to t ts) (whole_from t ts)
+    (greatest_of_joint (IsSome (IsTreeChoice t)) (IsWhole ts) c x y z hx hy e)
 
 pub whole_none : (c : ℕ → ℤ) → IsGreatest (IsWhole none) c (pos 0)
 whole_none c = record { reached = ([], refl, refl); bound = λ choice e. subst (λ (xs : List ℕ). total c xs ≤ℤ pos 0) (sym e) (omega (arith, ints)) }
@@ -141,10 +150,12 @@ empty_or_not [] = inl refl
 empty_or_not (x ∷ xs) = inr (λ e. cc)
 
 -- with the empty choice beside those that aren't empty
-pub pair_beside : (t : Node) (c : ℕ → ℤ) (x : Greatest) → IsGreatest (IsSome (IsTreeChoice t)) c x.some → pos 0 ≤ℤ x.any → x.some ≤ℤ x.any → (x.any ≡ pos 0) ⊎ (x.any ≡ x.some) → IsPair (IsTreeChoice t) c x
+pub pair_beside : (t : Node) (c : ℕ → ℤ) (x : Greatest) → IsGreatest (IsSome (IsTreeChoice t)) c x.some → pos 0 ≤ℤ x.any → x.some ≤ℤ x.any
+    → (x.any ≡ pos 0) ⊎ (x.any ≡ x.some) → IsPair (IsTreeChoice t) c x
 pair_beside t c x h least above one = record {
   any = greatest_of_either (λ choice. choice ≡ []) (IsSome (IsTreeChoice t)) (IsTreeChoice t) c (pos 0) x.some x.any
-      (λ choice e. subst (IsTreeChoice t) (sym e) (no_choice t)) (λ choice s. s.1) (λ choice a. elim (empty_or_not choice) [ inl e ↦ inl e | inr s ↦ inr (s, a) ])
+      (λ choice e. subst (IsTreeChoice t) (sym e) (no_choice t)) (λ choice s. s.1)
+      (λ choice a. elim (empty_or_not choice) [ inl e ↦ inl e | inr s ↦ inr (s, a) ])
       (record { reached = ([], refl, refl); bound = λ choice e. subst (λ (xs : List ℕ). total c xs ≤ℤ pos 0) (sym e) (omega (arith, ints)) })
       h least above one;
   some = h;
@@ -164,19 +175,22 @@ some_leaf r c x e = record {
 
 pub some_one_of : (ts : Nodes) (c : ℕ → ℤ) (x : ℤ) → IsGreatest (IsSome (IsOfOne ts)) c x → IsGreatest (IsSome (IsTreeChoice (one_of ts))) c x
 some_one_of ts c x h =
-    greatest_same (IsSome (IsOfOne ts)) (IsSome (IsTreeChoice (one_of ts))) c x (λ choice (s, a). (s, inr a)) (λ choice (s, a). (s, elim a [ inl e ↦ absurd (s e) | inr b ↦ b ])) h
+    greatest_same (IsSome (IsOfOne ts)) (IsSome (IsTreeChoice (one_of ts))) c x (λ choice (s, a). (s, inr a))
+    (λ choice (s, a). (s, elim a [ inl e ↦ absurd (s e) | inr b ↦ b ])) h
 
 whole_some : (t : Node) (ts : Nodes) (choice : List ℕ) → IsWhole (and_then t ts) choice → choice ≢ []
 whole_some t ts choice (first, rest, e, some, a, b) = subst (λ (xs : List ℕ). xs ≢ []) (sym e) (append_some first rest some)
 
-pub some_all_of : (t : Node) (ts : Nodes) (c : ℕ → ℤ) (x : ℤ) → IsGreatest (IsWhole (and_then t ts)) c x → IsGreatest (IsSome (IsTreeChoice (all_of (and_then t ts)))) c x
+pub some_all_of : (t : Node) (ts : Nodes) (c : ℕ → ℤ) (x : ℤ) → IsGreatest (IsWhole (and_then t ts)) c x
+    → IsGreatest (IsSome (IsTreeChoice (all_of (and_then t ts)))) c x
 some_all_of t ts c x h =
     greatest_same (IsWhole (and_then t ts)) (IsSome (IsTreeChoice (all_of (and_then t ts)))) c x
     (λ choice a. (whole_some t ts choice a, inr a)) (λ choice (s, a). elim a [ inl e ↦ absurd (s e) | inr b ↦ b ]) h
 
 -- ---- how great the sums are
 
-total_between : (c : ℕ → ℤ) (xs : List ℕ) → ((r : ℕ) → IsPriceInRange (c r)) → (neg_ℤ (pos (length xs * 1000000000000)) ≤ℤ total c xs) × (total c xs ≤ℤ pos (length xs * 1000000000000))
+total_between : (c : ℕ → ℤ) (xs : List ℕ) → ((r : ℕ) → IsPriceInRange (c r)) → (neg_ℤ (pos (length xs * 1000000000000)) ≤ℤ total c xs)
+    × (total c xs ≤ℤ pos (length xs * 1000000000000))
 total_between c [] range = (omega (arith, ints), omega (arith, ints))
 total_between c (x ∷ xs) range =
     let rest = total_between c xs range in
@@ -190,11 +204,18 @@ sum_within : (n : ℕ) (b : ℤ) → n ≤ 1024 → (neg_ℤ (pos (n * 100000000
 sum_within n b l (low, high) = (omega (arith, ints), omega (arith, ints))
 
 -- the greatest sum over choices of at most 1,024 leaves
-pub greatest_between : (P : List ℕ → Type 0) (c : ℕ → ℤ) (b : ℤ) → ((r : ℕ) → IsPriceInRange (c r)) → ((choice : List ℕ) → P choice → length choice ≤ 1024) → IsGreatest P c b → IsSum b
-greatest_between P c b range short h = subst IsSum h.reached.2 (sum_within (length h.reached.0) _ (short h.reached.0 h.reached.1) (total_between c h.reached.0 range))
+pub greatest_between : (P : List ℕ → Type 0) (c : ℕ → ℤ) (b : ℤ) → ((r : ℕ) → IsPriceInRange (c r))
+    → ((choice : List ℕ) → P choice → length choice ≤ 1024) → IsGreatest P c b → IsSum b
+greatest_between P c b range short h =
+    subst IsSum h.reached.2 (sum_within (length h.reached.0) _ (short h.reached.0 h.reached.1) (total_between c h.reached.0 range))
 
-pub pair_between : (P : List ℕ → Type 0) (c : ℕ → ℤ) (x : Greatest) → ((r : ℕ) → IsPriceInRange (c r)) → ((choice : List ℕ) → P choice → length choice ≤ 1024) → IsPair P c x → AreSums x
-pair_between P c x range short h = record { any = greatest_between P c x.any range short h.any; some = greatest_between (IsSome P) c x.some range (λ choice s. short choice s.1) h.some }
+pub pair_between : (P : List ℕ → Type 0) (c : ℕ → ℤ) (x : Greatest) → ((r : ℕ) → IsPriceInRange (c r))
+    → ((choice : List ℕ) → P choice → length choice ≤ 1024) → IsPair P c x → AreSums x
+pair_between P c x range short h =
+    record {
+      any = greatest_between P c x.any range short h.any;
+      some = greatest_between (IsSome P) c x.some range (λ choice s. short choice s.1) h.some;
+    }
 
 place_cases : (a b : ℕ) → (a < b) ⊎ (b ≤ a)
 place_cases a b = grind arith
@@ -203,5 +224,6 @@ place_cases a b = grind arith
 pub price_in_range : (s : Parts) (prices : List ℤ) → All IsPriceInRange prices → (r : ℕ) → IsPriceInRange (price s prices r)
 price_in_range s prices range r = elim (place_cases (place_of s r) (length prices)) [
   | inl l ↦ range (place_of s r) (pos 0) l
-  | inr l ↦ let past : slice_index_or prices (place_of s r) (pos 0) ≡ pos 0 = get_or_past prices (place_of s r) (pos 0) l in (omega (arith, ints), omega (arith, ints))
+  | inr l ↦ let past : slice_index_or prices (place_of s r) (pos 0) ≡ pos 0 = get_or_past prices (place_of s r) (pos 0) l in
+      (omega (arith, ints), omega (arith, ints))
 ]

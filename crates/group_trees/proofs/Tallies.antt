@@ -1,5 +1,7 @@
 -- What is told of leaves while they are counted, and what it comes to.
-use Rattle.std.proofs.Common.{◌≡◌, ◌≢◌, ℕ, zero, suc, ◌+◌, ◌≤◌, ◌<◌, ◌⊎◌, inl, inr, Bool, true, false, cond, nat_lt, List, [], ◌∷◌, ◌++◌, length, replicate, slice_set, slice_get, slice_index_or, Option, Some, None, MatchOption, All, Contains, refl, sym, ◌∙◌, ap, subst, arith, get_or-set_other, get_or-set_same}
+use Rattle.std.proofs.Common.{◌≡◌, ◌≢◌, ℕ, zero, suc, ◌+◌, ◌≤◌, ◌<◌, ◌⊎◌, inl, inr, Bool, true, false, cond, nat_lt, List, [], ◌∷◌, ◌++◌, length}
+use Rattle.std.proofs.Common.{replicate, slice_set, slice_get, slice_index_or, Option, Some, None, MatchOption, All, Contains, refl, sym, ◌∙◌, ap}
+use Rattle.std.proofs.Common.{subst, arith, get_or-set_other, get_or-set_same}
 use Rattle.std.proofs.lemmas.Bool.Decides.{nat_tests}
 use Rattle.std.proofs.lemmas.List.{length-set, length-replicate, get_or_default}
 use Rattle.std.proofs.lemmas.List.Elements.{Contains-append_left, Contains-push, Contains-push_cases}
@@ -28,7 +30,8 @@ least_same : (P Q : ℕ → Type 0) (o : Option RequestNo) → ((r : ℕ) → P 
 least_same P Q None f g h = λ r q. h r (g r q)
 least_same P Q (Some x) f g (p, h) = (f x.0 p, λ j l q. h j l (g j q))
 
-lesser_case : (P Q R : ℕ → Type 0) (a b : RequestNo) (t : Bool) → nat_lt a.0 b.0 ≡ t → ((r : ℕ) → P r → R r) → ((r : ℕ) → Q r → R r) → ((r : ℕ) → R r → P r ⊎ Q r) → IsFirst P a.0 → IsFirst Q b.0 → IsFirst R (cond t a b).0
+lesser_case : (P Q R : ℕ → Type 0) (a b : RequestNo) (t : Bool) → nat_lt a.0 b.0 ≡ t → ((r : ℕ) → P r → R r) → ((r : ℕ) → Q r → R r)
+    → ((r : ℕ) → R r → P r ⊎ Q r) → IsFirst P a.0 → IsFirst Q b.0 → IsFirst R (cond t a b).0
 lesser_case P Q R a b true e f g split (p, h) (q, k) = (
   f a.0 p,
   λ j l r. elim (split j r) [
@@ -51,7 +54,8 @@ lesser_case P Q R a b false e f g split (p, h) (q, k) = (
     not_less a b e = grind (arith, nat_tests)
 
 -- the lesser of two least numbers
-least_lesser : (P Q R : ℕ → Type 0) (o : Option RequestNo) (b : RequestNo) → ((r : ℕ) → P r → R r) → ((r : ℕ) → Q r → R r) → ((r : ℕ) → R r → P r ⊎ Q r) → IsLeastOf P o → IsFirst Q b.0 → IsFirst R (lesser o b).0
+least_lesser : (P Q R : ℕ → Type 0) (o : Option RequestNo) (b : RequestNo) → ((r : ℕ) → P r → R r) → ((r : ℕ) → Q r → R r)
+    → ((r : ℕ) → R r → P r ⊎ Q r) → IsLeastOf P o → IsFirst Q b.0 → IsFirst R (lesser o b).0
 least_lesser P Q R None b f g split h (q, k) = (g b.0 q, λ j l r. elim (split j r) [ inl hp ↦ h j hp | inr hq ↦ k j l hq ])
 least_lesser P Q R (Some a) b f g split h k = lesser_case P Q R a b (nat_lt a.0 b.0) refl f g split h k
 
@@ -68,10 +72,12 @@ times_alone q r other = elim (decide_same (times q (r ∷ [])) 0) [
     only (suc k, l, e) = absurd (omega arith)
 
 times_more : (q r : ℕ) (rs : List ℕ) → q ≢ r → times q (rs ++ r ∷ []) ≡ times q rs
-times_more q r rs other = let both : times q (rs ++ r ∷ []) ≡ times q rs + times q (r ∷ []) = times_append q rs (r ∷ []) in let alone : times q (r ∷ []) ≡ 0 = times_alone q r other in omega arith
+times_more q r rs other = let both : times q (rs ++ r ∷ []) ≡ times q rs + times q (r ∷ []) = times_append q rs (r ∷ []) in
+    let alone : times q (r ∷ []) ≡ 0 = times_alone q r other in omega arith
 
 times_again : (r : ℕ) (rs : List ℕ) → times r (rs ++ r ∷ []) ≡ times r rs + 1
-times_again r rs = let both : times r (rs ++ r ∷ []) ≡ times r rs + times r (r ∷ []) = times_append r rs (r ∷ []) in let one : times r (r ∷ []) ≡ 1 + times r [] = times_first r [] in omega arith
+times_again r rs = let both : times r (rs ++ r ∷ []) ≡ times r rs + times r (r ∷ []) = times_append r rs (r ∷ []) in
+    let one : times r (r ∷ []) ≡ 1 + times r [] = times_first r [] in omega arith
 
 not_placed : (rs : List ℕ) (r : ℕ) → is_placed rs r ≡ false → ¬ (Contains rs r)
 not_placed rs r e c = let bad : false ≡ true = sym e ∙ placed_contained rs r c in cc
@@ -85,7 +91,8 @@ same_tests false false f g = refl
 placed_other : (rs : List ℕ) (r q : ℕ) → q ≢ r → is_placed (rs ++ r ∷ []) q ≡ is_placed rs q
 placed_other rs r q other =
     same_tests (is_placed (rs ++ r ∷ []) q) (is_placed rs q)
-    (λ e. elim (Contains-push_cases rs r q (contains_placed (rs ++ r ∷ []) q e)) [ inl here ↦ placed_contained rs q here | inr same ↦ absurd (other (sym same)) ])
+    (λ e. elim (Contains-push_cases rs r q (contains_placed (rs ++ r ∷ []) q e))
+    [ inl here ↦ placed_contained rs q here | inr same ↦ absurd (other (sym same)) ])
     (λ e. placed_contained (rs ++ r ∷ []) q (Contains-append_left rs (r ∷ []) q (contains_placed rs q e)))
 
 placed_last : (rs : List ℕ) (r : ℕ) → is_placed (rs ++ r ∷ []) r ≡ true
@@ -115,7 +122,8 @@ module _ (s : Parts) (rs : List ℕ) (r : ℕ) where
   wrong_from known new q (has, why) = by (decide_same q r)
     where
       once : q ≡ r → ¬ (2 ≤ times q (rs ++ r ∷ []))
-      once e twice = new (contained_times r rs (let again : times r (rs ++ r ∷ []) ≡ times r rs + 1 = times_again r rs in let here : 2 ≤ times r (rs ++ r ∷ []) = subst (λ (n : ℕ). 2 ≤ times n (rs ++ r ∷ [])) e twice in omega arith))
+      once e twice = new (contained_times r rs (let again : times r (rs ++ r ∷ []) ≡ times r rs + 1 = times_again r rs in
+          let here : 2 ≤ times r (rs ++ r ∷ []) = subst (λ (n : ℕ). 2 ≤ times n (rs ++ r ∷ [])) e twice in omega arith))
 
       by : Decided (q ≡ r) → IsWrongSoFar s rs q
       by (inl e) = elim why [ inl unknown ↦ absurd (unknown (subst (IsKnown s) (sym e) known)) | inr twice ↦ absurd (once e twice) ]
@@ -124,7 +132,8 @@ module _ (s : Parts) (rs : List ℕ) (r : ℕ) where
         elim why [ inl unknown ↦ inl unknown | inr twice ↦ inr (subst (λ (n : ℕ). 2 ≤ n) (times_more q r rs other) twice) ],
       )
 
-  pub tally_set : (place : ℕ) (old new : Tally) → IsKnown s r → place ≡ place_of s r → slice_index_or old.flags.items place false ≡ false → new.flags.items ≡ slice_set old.flags.items place true → new.wrong ≡ old.wrong
+  pub tally_set : (place : ℕ) (old new : Tally) → IsKnown s r → place ≡ place_of s r → slice_index_or old.flags.items place false ≡ false
+      → new.flags.items ≡ slice_set old.flags.items place true → new.wrong ≡ old.wrong
       → IsTally s rs old → IsTally s (rs ++ r ∷ []) new
   tally_set place old new known at clear flags wrong h =
       let here : slice_index_or old.flags.items (place_of s r) false ≡ false = subst (λ (k : ℕ). slice_index_or old.flags.items k false ≡ false) at clear in
@@ -136,14 +145,17 @@ module _ (s : Parts) (rs : List ℕ) (r : ℕ) where
           count = ap (λ (xs : List Bool). length xs) set ∙ length-set old.flags.items (place_of s r) true ∙ count;
           each = λ q k. elim (decide_same q r) [
             | inl e ↦
-                ap (λ (xs : List Bool). slice_index_or xs (place_of s q) false) set ∙ ap (λ (n : ℕ). slice_index_or (slice_set old.flags.items (place_of s r) true) (place_of s n) false) e
+                ap (λ (xs : List Bool). slice_index_or xs (place_of s q) false) set
+                ∙ ap (λ (n : ℕ). slice_index_or (slice_set old.flags.items (place_of s r) true) (place_of s n) false) e
                 ∙ get_or-set_same old.flags.items (place_of s r) true false (omega arith) ∙ sym (placed_last rs r) ∙ ap (is_placed (rs ++ r ∷ [])) (sym e)
             | inr other ↦
                 ap (λ (xs : List Bool). slice_index_or xs (place_of s q) false) set
-                ∙ get_or-set_other old.flags.items (place_of s r) (place_of s q) true false (λ e. other (one_at_place s q r k known e)) ∙ h.flags.each q k ∙ sym (placed_other rs r q other)
+                ∙ get_or-set_other old.flags.items (place_of s r) (place_of s q) true false (λ e. other (one_at_place s q r k known e))
+                ∙ h.flags.each q k ∙ sym (placed_other rs r q other)
           ];
         };
-        wrong = subst (IsLeastOf (IsWrongSoFar s (rs ++ r ∷ []))) (sym wrong) (least_same (IsWrongSoFar s rs) (IsWrongSoFar s (rs ++ r ∷ [])) old.wrong (wrong_to known is_new) (wrong_from known is_new) h.wrong);
+        wrong = subst (IsLeastOf (IsWrongSoFar s (rs ++ r ∷ []))) (sym wrong)
+            (least_same (IsWrongSoFar s rs) (IsWrongSoFar s (rs ++ r ∷ [])) old.wrong (wrong_to known is_new) (wrong_from known is_new) h.wrong);
       }
 
   -- a leaf that is no request, or was one before
@@ -184,12 +196,14 @@ module _ (s : Parts) (rs : List ℕ) (r : ℕ) where
   bad_flag flags are (inl unknown) known = absurd (unknown known)
   bad_flag flags are (inr set) known = set
 
-  pub tally_wrong : (old new : Tally) (number : RequestNo) → number.0 ≡ r → IsBad old.flags.items → new.flags.items ≡ old.flags.items → new.wrong ≡ Some (lesser old.wrong number) → IsTally s rs old → IsTally s (rs ++ r ∷ []) new
+  pub tally_wrong : (old new : Tally) (number : RequestNo) → number.0 ≡ r → IsBad old.flags.items → new.flags.items ≡ old.flags.items
+      → new.wrong ≡ Some (lesser old.wrong number) → IsTally s rs old → IsTally s (rs ++ r ∷ []) new
   tally_wrong old new number is bad flags wrong h = record {
     flags = record {
       count = ap (λ (xs : List Bool). length xs) flags ∙ h.flags.count;
       each = λ q k. ap (λ (xs : List Bool). slice_index_or xs (place_of s q) false) flags ∙ elim (decide_same q r) [
-        | inl e ↦ ap (is_flagged s old.flags.items) e ∙ bad_flag old.flags.items h.flags bad (subst (IsKnown s) e k) ∙ sym (placed_last rs r) ∙ ap (is_placed (rs ++ r ∷ [])) (sym e)
+        | inl e ↦ ap (is_flagged s old.flags.items) e ∙ bad_flag old.flags.items h.flags bad (subst (IsKnown s) e k) ∙ sym (placed_last rs r)
+            ∙ ap (is_placed (rs ++ r ∷ [])) (sym e)
         | inr other ↦ h.flags.each q k ∙ sym (placed_other rs r q other)
       ];
     };
@@ -212,10 +226,13 @@ place_below s q r o kq kr l =
     let qx : x.0.request.request.0 ≡ q = x.1.number in
     let ry : y.0.request.request.0 ≡ r = y.1.number in
     let at_q : (slice_index_or (listed s) (place_of s q) x.0).request.request.0 ≡ q = ap (λ (z : Listed). z.request.request.0) x.1.at_place ∙ qx in
-    let at_r : (slice_index_or (listed s) (place_of s r) x.0).request.request.0 ≡ r = ap (λ (z : Listed). z.request.request.0) (get_or_default (listed s) (place_of s r) x.0 y.0 kr ∙ y.1.at_place) ∙ ry in
+    let at_r : (slice_index_or (listed s) (place_of s r) x.0).request.request.0 ≡ r =
+    ap (λ (z : Listed). z.request.request.0) (get_or_default (listed s) (place_of s r) x.0 y.0 kr ∙ y.1.at_place) ∙ ry in
     elim (three (place_of s q) (place_of s r)) [
       | inl (inl below) ↦ below
-      | inl (inr above) ↦ let rise : (slice_index_or (listed s) (place_of s r) x.0).request.request.0 < (slice_index_or (listed s) (place_of s q) x.0).request.request.0 = o.requests_rise (place_of s r) (place_of s q) x.0 above kq in absurd (omega arith)
+      | inl (inr above) ↦ let rise : (slice_index_or (listed s) (place_of s r) x.0).request.request.0
+          < (slice_index_or (listed s) (place_of s q) x.0).request.request.0 = o.requests_rise (place_of s r) (place_of s q) x.0 above kq in
+          absurd (omega arith)
       | inr same ↦ let one : q ≡ r = one_at_place s q r kq kr same in absurd (omega arith)
     ]
   where
@@ -263,13 +280,23 @@ module _ (s : Parts) (rs : List ℕ) (tally : Tally) (h : IsTally s rs tally) wh
       h.wrong
 
   -- the request at a place is no leaf, and each before it is
-  pub least_clear : (place : ℕ) (number : RequestNo) → IsOrderly s → IsKnown s number.0 → place_of s number.0 ≡ place → IsFirst (IsAt (λ flag. flag ≡ false) tally.flags.items) place → IsFirst (IsWrongLeaf s rs) (lesser tally.wrong number).0
+  pub least_clear : (place : ℕ) (number : RequestNo) → IsOrderly s → IsKnown s number.0 → place_of s number.0 ≡ place
+      → IsFirst (IsAt (λ flag. flag ≡ false) tally.flags.items) place → IsFirst (IsWrongLeaf s rs) (lesser tally.wrong number).0
   least_clear place number o known at ((flag, read, clear), first) =
       least_lesser (IsWrongSoFar s rs) IsMissing (IsWrongLeaf s rs) tally.wrong number wrong_leaf_from missing_wrong wrong_leaf_split h.wrong (
-        (known, not_placed rs number.0 (sym (h.flags.each number.0 known) ∙ ap (λ (k : ℕ). slice_index_or tally.flags.items k false) at ∙ get_or_default tally.flags.items place false flag (slice_get_within tally.flags.items place flag read) ∙ get_or_from_slice_get tally.flags.items place flag flag read ∙ clear)),
+        (
+          known,
+          not_placed rs number.0 (sym (h.flags.each number.0 known) ∙ ap (λ (k : ℕ). slice_index_or tally.flags.items k false) at
+              ∙ get_or_default tally.flags.items place false flag (slice_get_within tally.flags.items place flag read)
+              ∙ get_or_from_slice_get tally.flags.items place flag flag read ∙ clear),
+        ),
         λ j l missing.
             let below : place_of s j < place_of s number.0 = place_below s j number.0 o missing.0 known l in
             let count : length tally.flags.items ≡ length (listed s) = h.flags.count in
             let there : place_of s j < length (listed s) = missing.0 in
-            first (place_of s j) (omega arith) (slice_index_or tally.flags.items (place_of s j) false, slice_get-get_or tally.flags.items (place_of s j) false (omega arith), missing_flag j missing),
+            first (place_of s j) (omega arith) (
+              slice_index_or tally.flags.items (place_of s j) false,
+              slice_get-get_or tally.flags.items (place_of s j) false (omega arith),
+              missing_flag j missing,
+            ),
       )

@@ -1,5 +1,6 @@
 -- What a check without trees tells of a claim on a snapshot of SINGLEs without quotas.
-use Rattle.std.proofs.Common.{◌≡◌, ◌≢◌, ℕ, zero, suc, ◌+◌, ◌≤◌, ◌<◌, ◌⊎◌, inl, inr, ℤ, pos, negsuc, neg_ℤ, ◌≤ℤ◌, List, [], ◌∷◌, length, slice_index_or, Option, Some, None, All, refl, sym, ◌∙◌, ap, subst, arith}
+use Rattle.std.proofs.Common.{◌≡◌, ◌≢◌, ℕ, zero, suc, ◌+◌, ◌≤◌, ◌<◌, ◌⊎◌, inl, inr, ℤ, pos, negsuc, neg_ℤ, ◌≤ℤ◌, List, [], ◌∷◌, length, slice_index_or}
+use Rattle.std.proofs.Common.{Option, Some, None, All, refl, sym, ◌∙◌, ap, subst, arith}
 use Rattle.std.proofs.lemmas.Int.{ints}
 use Rattle.std.proofs.lemmas.List.{get_or_past, get_or_default}
 use Rattle.std.proofs.lemmas.Option.{slice_get-get_or}
@@ -15,12 +16,14 @@ use Rattle.plan_base.specs.declared.verdict.Verdict.{Verdict}
 use Rattle.plan_base.specs.Requests.{listed, IsKind}
 use Rattle.plan_base.specs.Starts.{ShareSlice, value_of_plan}
 use Rattle.plan_base.specs.Feasible.{IsEachPossible, IsEachOnce, IsDisjoint}
-use Rattle.plan_base.specs.Verdict.{IsPriceInRange, IsQuotaPriceCount, IsFirst, IsUnknownAt, IsNotPossibleAt, HasEarlier, IsReason, rank_of, IsFirstReason, verdict_of, IsVerdict}
+use Rattle.plan_base.specs.Verdict.{IsPriceInRange, IsQuotaPriceCount, IsFirst, IsUnknownAt, IsNotPossibleAt, HasEarlier, IsReason, rank_of}
+use Rattle.plan_base.specs.Verdict.{IsFirstReason, verdict_of, IsVerdict}
 use Rattle.plan_base.proofs.Lists.{AllPairs-map}
 use Rattle.bound_checker.specs.Claims.{IsEachKnown}
 use Rattle.bound_checker.specs.Reasons.{ArePlaced}
 use Rattle.group_trees.specs.declared.verdict.ForestReason.{ForestReason}
-use Rattle.group_trees.specs.declared.verdict.ForestReason.TheVariants.{UnknownRequest, PlacedTwice, NotPossible, Overlap, NotAllowed, PriceCount, PriceRange, QuotaPriceCount, ValueDiffers, BoundDiffers}
+use Rattle.group_trees.specs.declared.verdict.ForestReason.TheVariants.{UnknownRequest, PlacedTwice, NotPossible, Overlap, NotAllowed, PriceCount}
+use Rattle.group_trees.specs.declared.verdict.ForestReason.TheVariants.{PriceRange, QuotaPriceCount, ValueDiffers, BoundDiffers}
 use Rattle.group_trees.specs.Trees.{Node}
 use Rattle.group_trees.specs.Forests.{AreSingles}
 use Rattle.group_trees.specs.Verdicts.{IsForestReason, rank_of_reason}
@@ -57,7 +60,8 @@ decide_price (negsuc n) = elim (cases_le (suc n) 1000000000000) [
 
 module _ (s : Parts) (claim : Claim) where
   known_from : ((i : ℕ) → ¬ (IsReason s claim (checked.UnknownRequest i))) → IsEachKnown s claim.placements
-  known_from never = λ k d l. stable _ (decide_lt _ _) (λ not. none_at (IsUnknownAt s claim.placements) never k (slice_index_or claim.placements k d, slice_get-get_or claim.placements k d l, not))
+  known_from never = λ k d l. stable _ (decide_lt _ _)
+      (λ not. none_at (IsUnknownAt s claim.placements) never k (slice_index_or claim.placements k d, slice_get-get_or claim.placements k d l, not))
 
   once_from : ((i : ℕ) → ¬ (IsReason s claim (checked.PlacedTwice i))) → IsEachOnce claim.placements
   once_from never =
@@ -73,7 +77,9 @@ module _ (s : Parts) (claim : Claim) where
       ))
 
   possible_from : ((i : ℕ) → ¬ (IsReason s claim (checked.NotPossible i))) → IsEachPossible s claim.placements
-  possible_from never = λ k d l. possible_stable s _ (λ not. none_at (IsNotPossibleAt s claim.placements) never k (slice_index_or claim.placements k d, slice_get-get_or claim.placements k d l, not))
+  possible_from never = λ k d l. possible_stable s _
+      (λ not. none_at (IsNotPossibleAt s claim.placements) never k
+      (slice_index_or claim.placements k d, slice_get-get_or claim.placements k d l, not))
 
   disjoint_from : ((i : ℕ) → ¬ (IsReason s claim (checked.Overlap i))) → IsDisjoint s claim.placements
   disjoint_from never = λ i j d l m share. none_at (HasEarlier (ShareSlice s) claim.placements) never j (
@@ -99,20 +105,24 @@ module _ (s : Parts) (claim : Claim) where
   }
 
   count_from : (n : ℕ) → 9 ≤ n → ClearTo n → length claim.prices.0 ≡ length (listed s)
-  count_from n l clear = stable _ (decide_same _ _) (λ other. clear (checked.PriceCount (length claim.prices.0) (length (listed s))) (omega arith) (refl, refl, other))
+  count_from n l clear = stable _ (decide_same _ _)
+      (λ other. clear (checked.PriceCount (length claim.prices.0) (length (listed s))) (omega arith) (refl, refl, other))
 
   range_from : (n : ℕ) → 10 ≤ n → ClearTo n → All IsPriceInRange claim.prices.0
   range_from n l clear = λ k d m. stable _ (decide_price _)
-      (λ not. none_at (λ j. (j < length claim.prices.0) × ¬ (IsPriceInRange (slice_index_or claim.prices.0 j (pos 0)))) (λ i. clear (checked.PriceRange i) (omega arith)) k
+      (λ not. none_at (λ j. (j < length claim.prices.0) × ¬ (IsPriceInRange (slice_index_or claim.prices.0 j (pos 0))))
+      (λ i. clear (checked.PriceRange i) (omega arith)) k
       (m, subst (λ (z : ℤ). ¬ (IsPriceInRange z)) (get_or_default claim.prices.0 k d (pos 0) m) not))
 
   no_quota_price_from : (n : ℕ) → 11 ≤ n → length s.quotas ≡ 0 → ClearTo n → length claim.quota_prices.0 ≡ 0
   no_quota_price_from n l none clear =
       stable _ (decide_same _ _)
-      (λ other. clear (checked.QuotaPriceCount (length claim.quota_prices.0) (length s.quotas)) (omega arith) (refl, refl, λ count. elim count [ inl e ↦ other e | inr e ↦ other (e ∙ none) ]))
+      (λ other. clear (checked.QuotaPriceCount (length claim.quota_prices.0) (length s.quotas)) (omega arith)
+      (refl, refl, λ count. elim count [ inl e ↦ other e | inr e ↦ other (e ∙ none) ]))
 
   value_from : (n : ℕ) → 13 ≤ n → ClearTo n → claim.value ≡ value_of_plan s claim.placements
-  value_from n l clear = stable _ (decide_same _ _) (λ other. clear (checked.ValueDiffers claim.value (value_of_plan s claim.placements)) (omega arith) (refl, refl, other))
+  value_from n l clear = stable _ (decide_same _ _)
+      (λ other. clear (checked.ValueDiffers claim.value (value_of_plan s claim.placements)) (omega arith) (refl, refl, other))
 
   -- ---- reasons of both checks
 
@@ -149,7 +159,8 @@ module _ (s : Parts) (claim : Claim) where
   late_rank (BoundDiffers claimed found) n l m other = omega (arith, m)
 
   -- no reason holds that a check without trees excludes
-  clear_before : (trees : List Node) (n : ℕ) (other : ForestReason) → ClearTo n → check_rank other < n → rank_of_reason other ≢ 5 → rank_of_reason other < 10 → ¬ (IsForestReason s trees claim other)
+  clear_before : (trees : List Node) (n : ℕ) (other : ForestReason) → ClearTo n → check_rank other < n → rank_of_reason other ≢ 5
+      → rank_of_reason other < 10 → ¬ (IsForestReason s trees claim other)
   clear_before trees n (UnknownRequest i) clear l other m h = clear (checked.UnknownRequest i) l h
   clear_before trees n (PlacedTwice i) clear l other m h = clear (checked.PlacedTwice i) l h
   clear_before trees n (NotPossible i) clear l other m h = clear (checked.NotPossible i) l h
@@ -164,7 +175,8 @@ module _ (s : Parts) (claim : Claim) where
   early : (trees : List Node) (n : ℕ) (other : ForestReason) → n ≤ 4 → ClearTo n → rank_of_reason other < n → ¬ (IsForestReason s trees claim other)
   early trees n other l clear m = clear_before trees n other clear (early_rank other n l m) (λ e. omega arith) (omega arith)
 
-  late : (trees : List Node) (n k : ℕ) (other : ForestReason) → n ≤ 9 → n + 2 ≤ k → ClearTo k → rank_of_reason other < n → rank_of_reason other ≢ 5 → ¬ (IsForestReason s trees claim other)
+  late : (trees : List Node) (n k : ℕ) (other : ForestReason) → n ≤ 9 → n + 2 ≤ k → ClearTo k → rank_of_reason other < n → rank_of_reason other ≢ 5
+      → ¬ (IsForestReason s trees claim other)
   late trees n k other l m clear before not_tree =
       let rank : check_rank other < n + 2 = late_rank other n l before not_tree in
       clear_before trees k other clear (omega arith) not_tree (omega arith)
@@ -190,7 +202,8 @@ module _ (s : Parts) (claim : Claim) where
   turned_some (checked.Overlap i) singles (h, clear) = λ trees. (h, λ other l. early trees 4 other (omega arith) clear l)
   turned_some (checked.OneofTwice group) singles ((g, first, named), clear) = group_single singles g OneOf (λ e. cc) first.0.0
   turned_some (checked.AndPartial group) singles ((g, first, named), clear) = group_single singles g And (λ e. cc) first.0.0
-  turned_some (checked.QuotaOver quota seconds most) singles ((((l, over), first), e, f), clear) = let none : length s.quotas ≡ 0 = singles.no_quota in omega arith
+  turned_some (checked.QuotaOver quota seconds most) singles ((((l, over), first), e, f), clear) = let none : length s.quotas ≡ 0 =
+      singles.no_quota in omega arith
   turned_some (checked.PriceCount given wanted) singles (h, clear) = record {
     placed = placed_from 8 (omega arith) clear;
     holds = λ trees. h;
@@ -206,7 +219,8 @@ module _ (s : Parts) (claim : Claim) where
     holds = λ trees. h;
     first = λ trees other l not_tree. late trees 8 10 other (omega arith) (omega arith) clear l not_tree;
   }
-  turned_some (checked.QuotaPriceRange i) singles ((over, first), clear) = none_above claim.quota_prices.0 i (no_quota_price_from 11 (omega arith) singles.no_quota clear) over
+  turned_some (checked.QuotaPriceRange i) singles ((over, first), clear) =
+      none_above claim.quota_prices.0 i (no_quota_price_from 11 (omega arith) singles.no_quota clear) over
   turned_some (checked.ValueDiffers claimed found) singles (h, clear) = record {
     placed = placed_from 12 (omega arith) clear;
     holds = λ trees. h;
@@ -230,7 +244,12 @@ module _ (s : Parts) (claim : Claim) where
   turned_found : (found : Option Reason) → AreSingles s → IsFirstReason s claim found → IsTurned s claim (turned (verdict_of claim found))
   turned_found None singles h = record {
     fit = record {
-      placed = record { known = λ i d l. (h.feasible.possible i d l).known; once = h.feasible.once; possible = h.feasible.possible; disjoint = h.feasible.disjoint };
+      placed = record {
+        known = λ i d l. (h.feasible.possible i d l).known;
+        once = h.feasible.once;
+        possible = h.feasible.possible;
+        disjoint = h.feasible.disjoint;
+      };
       price_count = h.price_count;
       price_range = h.price_range;
       no_quota_price = no_price_of h.quota_price_count singles.no_quota;

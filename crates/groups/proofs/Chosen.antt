@@ -1,5 +1,6 @@
 -- From the prices of a group's requests to what it takes.
-use Rattle.std.proofs.Common.{◌≡◌, ℕ, zero, suc, ◌<◌, ◌≤◌, Bool, true, false, ◌&&◌, nat_lt, int_lt, int_le, ℤ, pos, List, [], ◌∷◌, length, map, take, drop, slice_index_or, None, All, AllPairs, refl, sym, ◌∙◌, ap, subst, arith}
+use Rattle.std.proofs.Common.{◌≡◌, ℕ, zero, suc, ◌<◌, ◌≤◌, Bool, true, false, ◌&&◌, nat_lt, int_lt, int_le, ℤ, pos, List, [], ◌∷◌, length, map, take}
+use Rattle.std.proofs.Common.{drop, slice_index_or, None, All, AllPairs, refl, sym, ◌∙◌, ap, subst, arith}
 use Rattle.std.specs.List.{list_all}
 use Rattle.std.specs.Prelude.{if◌then◌else◌}
 use Rattle.std.proofs.lemmas.Bool.Decides.{nat_tests}
@@ -30,7 +31,8 @@ taken_at s c g i op o l k kind =
     ap (λ (h : ℕ). takes (op_at s h) c (members s h) r) of.1 ∙ ap (λ (k : Op). takes k c (members s g) r) op_is
 
 -- the price of the request at a place of the group
-pub price_at : (s : Parts) (prices : List ℤ) (g i : ℕ) → i < length (members s g) → slice_index_or (group_prices s prices g) i (pos 0) ≡ price s prices (slice_index_or (members s g) i 0)
+pub price_at : (s : Parts) (prices : List ℤ) (g i : ℕ) → i < length (members s g)
+    → slice_index_or (group_prices s prices g) i (pos 0) ≡ price s prices (slice_index_or (members s g) i 0)
 price_at s prices g i l = get_or-map (price s prices) (members s g) i 0 (pos 0) l
 
 above_test : (m r : ℕ) → r ≤ m → nat_lt m r ≡ false
@@ -60,7 +62,8 @@ above_each m ms a = All-cons (λ n. m ≤ n) m ms (omega arith) (λ i d l. let l
 pub beats_all : (c : ℕ → ℤ) (p : ℤ) (r : ℕ) (ms : List ℕ) (i : ℕ) → AllPairs (λ a b. a < b) ms → i < length ms → slice_index_or ms i 0 ≡ r
     → list_all (beats c p r) ms ≡ (list_all (λ x. int_lt x p) (take i (map c ms)) && list_all (λ x. int_le x p) (drop i (map c ms)))
 beats_all c p r [] i rise l e = absurd (omega arith)
-beats_all c p r (m ∷ ms) zero rise l e = from_here c p r (m ∷ ms) (subst (λ (n : ℕ). All (λ k. n ≤ k) (m ∷ ms)) e (above_each m ms (pairs_head (λ a b. a < b) m ms rise)))
+beats_all c p r (m ∷ ms) zero rise l e =
+    from_here c p r (m ∷ ms) (subst (λ (n : ℕ). All (λ k. n ≤ k) (m ∷ ms)) e (above_each m ms (pairs_head (λ a b. a < b) m ms rise)))
 beats_all c p r (m ∷ ms) (suc i) rise l e =
     let less : m < slice_index_or ms i 0 = pairs_head (λ a b. a < b) m ms rise i 0 (omega arith) in
     let before : nat_lt m r ≡ true = below_test m r (omega arith) in
@@ -77,15 +80,18 @@ taken_many s prices g i o l k kind = ap (int_lt (pos 0)) (price_at s prices g i 
 
 pub taken_and : (s : Parts) (prices : List ℤ) (g i : ℕ) → IsOrderly s → g < length s.groups → i < length (members s g) → IsKind s And g
     → int_lt (pos 0) (price_sum (group_prices s prices g)) ≡ is_taken s (price s prices) (slice_index_or (members s g) i 0)
-taken_and s prices g i o l k kind = ap (int_lt (pos 0)) (sym (total_map (λ c. c) (price s prices) (members s g))) ∙ sym (taken_at s (price s prices) g i And o l k kind)
+taken_and s prices g i o l k kind = ap (int_lt (pos 0)) (sym (total_map (λ c. c) (price s prices) (members s g)))
+    ∙ sym (taken_at s (price s prices) g i And o l k kind)
 
 pub taken_one : (s : Parts) (prices : List ℤ) (g i : ℕ) → IsOrderly s → g < length s.groups → i < length (members s g) → IsKind s OneOf g
-    → (int_lt (pos 0) (slice_index_or (group_prices s prices g) i (pos 0)) && is_first_greatest (group_prices s prices g) i) ≡ is_taken s (price s prices) (slice_index_or (members s g) i 0)
+    → (int_lt (pos 0) (slice_index_or (group_prices s prices g) i (pos 0)) && is_first_greatest (group_prices s prices g) i)
+    ≡ is_taken s (price s prices) (slice_index_or (members s g) i 0)
 taken_one s prices g i o l k kind =
     let r : ℕ = slice_index_or (members s g) i 0 in
     let c : ℕ → ℤ = price s prices in
     let is : slice_index_or (group_prices s prices g) i (pos 0) ≡ c r = price_at s prices g i k in
-    ap (λ (p : ℤ). int_lt (pos 0) p && (list_all (λ x. int_lt x p) (take i (group_prices s prices g)) && list_all (λ x. int_le x p) (drop i (group_prices s prices g)))) is
+    ap (λ (p : ℤ). int_lt (pos 0) p
+    && (list_all (λ x. int_lt x p) (take i (group_prices s prices g)) && list_all (λ x. int_le x p) (drop i (group_prices s prices g)))) is
     ∙ ap (λ (b : Bool). int_lt (pos 0) (c r) && b) (sym (beats_all c (c r) r (members s g) i (members_rise s g o) k refl))
     ∙ sym (taken_at s c g i OneOf o l k kind)
 

@@ -1,5 +1,6 @@
 -- The first of the greatest prices is told from the others.
-use Rattle.std.proofs.Common.{◌≡◌, ◌≢◌, ℕ, ◌+◌, ◌-◌, ◌<◌, ◌⊎◌, inl, inr, Bool, true, false, ◌&&◌, ◌==◌, nat_lt, nat_le, int_lt, int_le, ℤ, pos, negsuc, List, length, take, drop, slice_index_or, refl, sym, ◌∙◌, ap, arith}
+use Rattle.std.proofs.Common.{◌≡◌, ◌≢◌, ℕ, ◌+◌, ◌-◌, ◌<◌, ◌⊎◌, inl, inr, Bool, true, false, ◌&&◌, ◌==◌, nat_lt, nat_le, int_lt, int_le, ℤ, pos, negsuc}
+use Rattle.std.proofs.Common.{List, length, take, drop, slice_index_or, refl, sym, ◌∙◌, ap, arith}
 use Rattle.std.specs.List.{IsFirstBest, AllPass}
 use Rattle.std.proofs.lemmas.Bool.Decides.{nat_tests}
 use Rattle.std.proofs.lemmas.List.{get_or-take, get_or-drop, get_or_default, length-take, length-drop}
@@ -50,12 +51,15 @@ not_second : (a b : Bool) → b ≡ false → (a && b) ≡ false
 not_second true b h = h
 not_second false b h = refl
 
-pub first_is : (prices : List ℤ) (r i : ℕ) → IsFirstBest (λ a b. int_lt b a) prices (length prices) r → i < length prices → is_first_greatest prices i ≡ (i == r)
+pub first_is : (prices : List ℤ) (r i : ℕ) → IsFirstBest (λ a b. int_lt b a) prices (length prices) r → i < length prices
+    → is_first_greatest prices i ≡ (i == r)
 first_is prices r i (within, none, before) l = elim (below_same_above i r) [
   | inl (inl low) ↦
       let p : ℤ = slice_index_or prices i (pos 0) in
-      let place : slice_index_or (drop i prices) (r - i) (pos 0) ≡ slice_index_or prices r (pos 0) = get_or-drop i prices (r - i) (pos 0) ∙ ap (λ (k : ℕ). slice_index_or prices k (pos 0)) (omega arith) in
-      let beaten : int_le (slice_index_or (drop i prices) (r - i) (pos 0)) p ≡ false = ap (λ (c : ℤ). int_le c p) place ∙ above p (slice_index_or prices r (pos 0)) (before i (pos 0) low) in
+      let place : slice_index_or (drop i prices) (r - i) (pos 0) ≡ slice_index_or prices r (pos 0) = get_or-drop i prices (r - i) (pos 0)
+      ∙ ap (λ (k : ℕ). slice_index_or prices k (pos 0)) (omega arith) in
+      let beaten : int_le (slice_index_or (drop i prices) (r - i) (pos 0)) p ≡ false = ap (λ (c : ℤ). int_le c p) place
+      ∙ above p (slice_index_or prices r (pos 0)) (before i (pos 0) low) in
       let size : length (drop i prices) ≡ length prices - i = length-drop i prices in
       not_second _ _ (list_all_at (λ c. int_le c p) (drop i prices) (r - i) (pos 0) (omega arith) beaten) ∙ sym (other_place i r (λ same. omega (arith, same)))
   | inl (inr high) ↦
@@ -73,12 +77,14 @@ first_is prices r i (within, none, before) l = elim (below_same_above i r) [
     early : AllPass (λ c. int_lt c p) (take r prices)
     early k d m =
         let size : length (take r prices) ≡ r = length-take r prices ∙ omega (arith, within) in
-        ap (λ (c : ℤ). int_lt c p) (get_or-take r prices k d (omega arith) ∙ get_or_default prices k d (pos 0) (omega (arith, within))) ∙ before k (pos 0) (omega arith)
+        ap (λ (c : ℤ). int_lt c p) (get_or-take r prices k d (omega arith) ∙ get_or_default prices k d (pos 0) (omega (arith, within)))
+        ∙ before k (pos 0) (omega arith)
 
     late : AllPass (λ c. int_le c p) (drop r prices)
     late k d m =
         let size : length (drop r prices) ≡ length prices - r = length-drop r prices in
-        ap (λ (c : ℤ). int_le c p) (get_or-drop r prices k d ∙ get_or_default prices (r + k) d (pos 0) (omega arith)) ∙ at_most p (slice_index_or prices (r + k) (pos 0)) (none (r + k) (pos 0) (omega arith))
+        ap (λ (c : ℤ). int_le c p) (get_or-drop r prices k d ∙ get_or_default prices (r + k) d (pos 0) (omega arith))
+        ∙ at_most p (slice_index_or prices (r + k) (pos 0)) (none (r + k) (pos 0) (omega arith))
 
     here : is_first_greatest prices r ≡ true
     here = both _ _ (list_all-from_AllPass (λ c. int_lt c p) (take r prices) early) (list_all-from_AllPass (λ c. int_le c p) (drop r prices) late)

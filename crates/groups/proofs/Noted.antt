@@ -17,7 +17,8 @@ IsRight s entry = (note : Note) → entry ≡ Some note → IsNote s note
 same_Some : (a b : Note) → Some a ≡ Some b → a ≡ b
 same_Some a b e = cc
 
-pub notes_more : (s : Parts) (noted : List (Option Note)) (i place : ℕ) (q : RequestPart) → IsOrderly s → place < length (listed s) → HoldsAt (λ x. x.request ≡ q) (listed s) place → AreNotes s noted
+pub notes_more : (s : Parts) (noted : List (Option Note)) (i place : ℕ) (q : RequestPart) → IsOrderly s → place < length (listed s)
+    → HoldsAt (λ x. x.request ≡ q) (listed s) place → AreNotes s noted
     → AreNotes s (slice_set noted i (Some (record { request = q.request; place = place })))
 notes_more s noted i place q orderly within at notes =
     let here : IsHere s place q = request_here s place q orderly within at in

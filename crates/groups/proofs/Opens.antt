@@ -1,5 +1,6 @@
 -- When an AND is placed in part, by how many of its requests are placed.
-use Rattle.std.proofs.Common.{◌≡◌, ◌≢◌, ℕ, ◌+◌, ◌<◌, ◌≤◌, ◌⊎◌, inl, inr, Bool, true, false, cond, ◌==◌, List, [], ◌∷◌, length, map, slice_index_or, filter, sum_by, Some, None, All, AllPairs, Contains, refl, sym, ◌∙◌, ap, subst, arith}
+use Rattle.std.proofs.Common.{◌≡◌, ◌≢◌, ℕ, ◌+◌, ◌<◌, ◌≤◌, ◌⊎◌, inl, inr, Bool, true, false, cond, ◌==◌, List, [], ◌∷◌, length, map, slice_index_or}
+use Rattle.std.proofs.Common.{filter, sum_by, Some, None, All, AllPairs, Contains, refl, sym, ◌∙◌, ap, subst, arith}
 use Rattle.std.proofs.lemmas.Bool.{eqb-true, eq-eqb}
 use Rattle.std.proofs.lemmas.Bool.Decides.{eqb_tells}
 use Rattle.std.proofs.lemmas.List.{length-map, get_or-map, get_or_past}
@@ -32,7 +33,8 @@ of_group s g plan = filter (λ r. group_of s r == g) (requests_of plan)
 count_map : {X Y : Type 0} (p : Y → Bool) (f : X → Y) (xs : List X) → length (filter p (map f xs)) ≡ sum_by (λ x. cond (p (f x)) 1 0) xs
 count_map p f [] = refl
 count_map p f (x ∷ xs) =
-    let more : sum_by (λ y. cond (p (f y)) 1 0) (x ∷ xs) ≡ cond (p (f x)) 1 0 + sum_by (λ y. cond (p (f y)) 1 0) xs = sum_by-cons (λ y. cond (p (f y)) 1 0) x xs in
+    let more : sum_by (λ y. cond (p (f y)) 1 0) (x ∷ xs) ≡ cond (p (f x)) 1 0 + sum_by (λ y. cond (p (f y)) 1 0) xs =
+    sum_by-cons (λ y. cond (p (f y)) 1 0) x xs in
     by_test (p (f x)) (filter p (map f xs)) ∙ ap (λ (n : ℕ). cond (p (f x)) 1 0 + n) (count_map p f xs) ∙ sym more
   where
     by_test : (b : Bool) (ys : List _) → length (cond b (f x ∷ ys) ys) ≡ cond b 1 0 + length ys
@@ -84,8 +86,12 @@ module _ (s : Parts) (g : ℕ) (plan : List Placement) (o : IsOrderly s) (so_far
   whole_when_all all r of = elim (is_in_or_not r (requests_of plan)) [
     | inl has ↦ has
     | inr absent ↦
-        let fresh : All (λ x. r ≢ x) (of_group s g plan) = λ i d l e. absent (subst (λ (n : ℕ). Contains (requests_of plan) n) (sym e) (All-filter (λ x. group_of s x == g) (Contains (requests_of plan)) (requests_of plan) (λ j f k. Contains-get_or (requests_of plan) j f k) i d l)) in
-        let among : length (r ∷ of_group s g plan) ≤ length (members s g) = length_among (r ∷ of_group s g plan) (members s g) (AllPairs-cons (λ a b. a ≢ b) r (of_group s g plan) fresh distinct)
+        let fresh : All (λ x. r ≢ x) (of_group s g plan) =
+        λ i d l e. absent (subst (λ (n : ℕ). Contains (requests_of plan) n) (sym e)
+        (All-filter (λ x. group_of s x == g) (Contains (requests_of plan)) (requests_of plan)
+        (λ j f k. Contains-get_or (requests_of plan) j f k) i d l)) in
+        let among : length (r ∷ of_group s g plan) ≤ length (members s g) =
+        length_among (r ∷ of_group s g plan) (members s g) (AllPairs-cons (λ a b. a ≢ b) r (of_group s g plan) fresh distinct)
         (All-cons (Contains (members s g)) r (of_group s g plan) ((are_members s g o).complete r of) is_member) in
         let count = counted in
         absurd (omega arith)
@@ -99,7 +105,8 @@ module _ (s : Parts) (g : ℕ) (plan : List Placement) (o : IsOrderly s) (so_far
       omega (arith, there.1)
 
   -- where some are placed and not all, one is and another isn't
-  pub partly_when_between : IsKind s And g → 0 < sum_by (λ p. same (group_of s p.request.0) g) plan → sum_by (λ p. same (group_of s p.request.0) g) plan < length (members s g) → IsPartlyPlaced s plan g
+  pub partly_when_between : IsKind s And g → 0 < sum_by (λ p. same (group_of s p.request.0) g) plan
+      → sum_by (λ p. same (group_of s p.request.0) g) plan < length (members s g) → IsPartlyPlaced s plan g
   partly_when_between kind some less = record {
     kind = kind;
     placed =
@@ -119,7 +126,8 @@ module _ (s : Parts) (g : ℕ) (plan : List Placement) (o : IsOrderly s) (so_far
 
 -- how many requests the group at place g has
 count_members : (s : Parts) (g : ℕ) (d : GroupPart) → g < length s.groups → length (members s g) ≡ length (slice_index_or s.groups g d).requests
-count_members s g d l = ap (λ (rs : List ℕ). length rs) (get_or-map members_of s.groups g d [] l) ∙ length-map (slice_index_or s.groups g d).requests (λ q. q.request.0)
+count_members s g d l = ap (λ (rs : List ℕ). length rs) (get_or-map members_of s.groups g d [] l)
+    ∙ length-map (slice_index_or s.groups g d).requests (λ q. q.request.0)
 
 abbrev some_group : GroupPart
 some_group = record { group = record { 0 = 0 }; op = Single; requests = []; quota = None }
@@ -132,7 +140,13 @@ whole_by_count s g plan t o so_far are l kind not_partly =
     elim (three (slice_index_or t.members.items g 0) (length (members s g))) [
       | inl (inl nothing) ↦ inr (none_when_none s g plan o so_far (sym told ∙ nothing))
       | inl (inr all) ↦ inl (whole_when_all s g plan o so_far (omega arith))
-      | inr between ↦ absurd (not_partly (λ d. record { kind = kind d; some = between.0; missing = let count : length (members s g) ≡ length (slice_index_or s.groups g d).requests = count_members s g d l in let less : slice_index_or t.members.items g 0 < length (members s g) = between.1 in omega arith }))
+      | inr between ↦ absurd (not_partly
+          (λ d. record {
+            kind = kind d;
+            some = between.0;
+            missing = let count : length (members s g) ≡ length (slice_index_or s.groups g d).requests = count_members s g d l in
+                let less : slice_index_or t.members.items g 0 < length (members s g) = between.1 in omega arith;
+          }))
     ]
   where
     three : (n m : ℕ) → ((n ≡ 0) ⊎ (m ≤ n)) ⊎ ((0 < n) × (n < m))
@@ -154,12 +168,15 @@ kind_of_past s g kind = elim (below_or_from g (length s.groups)) [
     below_or_from j k = grind arith
 
 -- where no group is placed in part, the plan is feasible
-pub feasible_when_none : (s : Parts) (plan : List Placement) (t : Tables) → IsOrderly s → IsFeasibleSoFar s plan → AreTables s plan t → IsFirstPartly s.groups t.members.items None → IsFeasible s plan
+pub feasible_when_none : (s : Parts) (plan : List Placement) (t : Tables) → IsOrderly s → IsFeasibleSoFar s plan → AreTables s plan t
+    → IsFirstPartly s.groups t.members.items None → IsFeasible s plan
 feasible_when_none s plan t o so_far are none =
-    feasible_from_whole s plan so_far (λ g kind. let l : g < length s.groups = kind_of_past s g kind in whole_by_count s g plan t o so_far are l kind (none g l))
+    feasible_from_whole s plan so_far (λ g kind. let l : g < length s.groups = kind_of_past s g kind in
+    whole_by_count s g plan t o so_far are l kind (none g l))
 
 -- and else the first of them is the lowest AND that is placed in part
-pub open_when_some : (s : Parts) (plan : List Placement) (t : Tables) (place number : ℕ) → IsOrderly s → IsFeasibleSoFar s plan → AreTables s plan t → IsFirstPartly s.groups t.members.items (Some place)
+pub open_when_some : (s : Parts) (plan : List Placement) (t : Tables) (place number : ℕ) → IsOrderly s → IsFeasibleSoFar s plan → AreTables s plan t
+    → IsFirstPartly s.groups t.members.items (Some place)
     → HoldsAt (λ x. x.group.0 ≡ number) s.groups place → IsOpenAnd s plan number
 open_when_some s plan t place number o so_far are (within, partly, lowest) has_number =
     let told : slice_index_or t.members.items place 0 ≡ sum_by (λ p. same (group_of s p.request.0) place) plan = are.members place in

@@ -1,5 +1,6 @@
 -- The tables tell which requests are placed, and of which groups none is.
-use Rattle.std.proofs.Common.{◌≡◌, ℕ, ◌<◌, ◌⊎◌, inl, inr, Bool, true, false, cond, nat_eq, List, slice_index_or, sum_by, Contains, refl, sym, ◌∙◌, ap, subst, arith}
+use Rattle.std.proofs.Common.{◌≡◌, ℕ, ◌<◌, ◌⊎◌, inl, inr, Bool, true, false, cond, nat_eq, List, slice_index_or, sum_by, Contains, refl, sym, ◌∙◌, ap}
+use Rattle.std.proofs.Common.{subst, arith}
 use Rattle.std.proofs.lemmas.Bool.{eq-eqb, eqb-true}
 use Rattle.std.proofs.lemmas.List.{get_or_default}
 use Rattle.std.proofs.lemmas.List.Elements.{All-contains}
@@ -46,7 +47,8 @@ flag_tells s plan placed r b so_far known told is = (
       let sum = told (place_of s r) in
       let found = sum_above (λ p. same (place_of s p.request.0) (place_of s r)) plan (omega arith) in
       let possible : IsKnown s found.0.request.0 = All-contains (λ p. IsKnown s p.request.0) plan found.0 (λ i d l. (so_far.possible i d l).known) found.1 in
-      subst (Contains (requests_of plan)) (one_at_place s found.0.request.0 r possible known (same_above _ _ found.2)) (contains_map (λ p. p.request.0) plan found.0 found.1),
+      subst (Contains (requests_of plan)) (one_at_place s found.0.request.0 r possible known (same_above _ _ found.2))
+      (contains_map (λ p. p.request.0) plan found.0 found.1),
   λ has. elim (true_or_false b) [
     | inl on ↦ on
     | inr off ↦
@@ -54,7 +56,8 @@ flag_tells s plan placed r b so_far known told is = (
         let sum = told (place_of s r) in
         let all = sum_zero (λ p. same (place_of s p.request.0) (place_of s r)) plan (omega arith) in
         let found = contains_from_map (λ p. p.request.0) plan r has in
-        let zero : same (place_of s found.0.request.0) (place_of s r) ≡ 0 = All-contains (λ p. same (place_of s p.request.0) (place_of s r) ≡ 0) plan found.0 all found.1 in
+        let zero : same (place_of s found.0.request.0) (place_of s r) ≡ 0 =
+        All-contains (λ p. same (place_of s p.request.0) (place_of s r) ≡ 0) plan found.0 all found.1 in
         let own : same (place_of s found.0.request.0) (place_of s r) ≡ 1 = same_self _ _ (ap (place_of s) found.2) in
         absurd (omega arith)
   ],
@@ -70,12 +73,14 @@ unknown_not_placed s plan r so_far unknown has =
 pub count_tells : (s : Parts) (g n : ℕ) (plan : List Placement) → IsOrderly s → IsFeasibleSoFar s plan → n ≡ sum_by (λ p. same (group_of s p.request.0) g) plan
     → (nat_eq n 0 ≡ true → HasNonePlaced s plan g) × (HasNonePlaced s plan g → nat_eq n 0 ≡ true)
 count_tells s g n plan o so_far told = (
-  λ zero. let count : n ≡ 0 = eqb-true n 0 zero in λ i d l. none_when_none s g plan o so_far (sym told ∙ count) _ (is_of_member s g _ o (Contains-get_or (members s g) i d l)),
+  λ zero. let count : n ≡ 0 = eqb-true n 0 zero in
+      λ i d l. none_when_none s g plan o so_far (sym told ∙ count) _ (is_of_member s g _ o (Contains-get_or (members s g) i d l)),
   λ none. elim (none_or_above n) [
     | inl zero ↦ eq-eqb n 0 zero
     | inr some ↦
         let found = sum_above (λ p. same (group_of s p.request.0) g) plan (omega arith) in
         let known : IsKnown s found.0.request.0 = All-contains (λ p. IsKnown s p.request.0) plan found.0 (λ i d l. (so_far.possible i d l).known) found.1 in
-        absurd (All-contains (λ r. ¬ (Contains (requests_of plan) r)) (members s g) found.0.request.0 none (member_is_of s g found.0.request.0 (known, same_above _ g found.2)) (contains_map (λ p. p.request.0) plan found.0 found.1))
+        absurd (All-contains (λ r. ¬ (Contains (requests_of plan) r)) (members s g) found.0.request.0 none
+        (member_is_of s g found.0.request.0 (known, same_above _ g found.2)) (contains_map (λ p. p.request.0) plan found.0 found.1))
   ],
 )

@@ -8,7 +8,8 @@ use Rattle.plan_base.specs.NetPrices.{net_prices}
 use Rattle.plan_base.proofs.NetLists.{nets_are}
 
 -- a rebate at the list of net prices is one at the net prices
-pub rebate_at_net : (s : Parts) (net : List ℤ) (g : ℕ) (b : ℤ) → IsRebate s (price s net) g b → (given : List ℤ) (quota_prices : List ℕ) → length given ≡ length (listed s)
+pub rebate_at_net : (s : Parts) (net : List ℤ) (g : ℕ) (b : ℤ) → IsRebate s (price s net) g b → (given : List ℤ) (quota_prices : List ℕ)
+    → length given ≡ length (listed s)
     → net ≡ net_prices s given quota_prices → IsRebate s (net_price s given quota_prices) g b
 rebate_at_net s net g b h given quota_prices count is = subst (λ (c : ℕ → ℤ). IsRebate s c g b) (nets_are s given quota_prices net count is) h
 

@@ -1,6 +1,8 @@
 -- The prices of a group's requests stand side by side among all.
-use Rattle.std.proofs.Common.{◌≡◌, ℕ, zero, suc, ◌+◌, ◌-◌, ◌<◌, ◌≤◌, ◌⊎◌, inl, inr, ℤ, pos, List, [], ◌∷◌, ◌++◌, None, length, map, take, drop, slice_index_or, sym, ◌∙◌, ap, subst, arith, length-append}
-use Rattle.std.proofs.lemmas.List.{length-map, length-take, length-drop, get_or-map, get_or-take, get_or-drop, get_or_append_left, get_or-append-add, get_or_default, same_lists}
+use Rattle.std.proofs.Common.{◌≡◌, ℕ, zero, suc, ◌+◌, ◌-◌, ◌<◌, ◌≤◌, ◌⊎◌, inl, inr, ℤ, pos, List, [], ◌∷◌, ◌++◌, None, length, map, take, drop}
+use Rattle.std.proofs.Common.{slice_index_or, sym, ◌∙◌, ap, subst, arith, length-append}
+use Rattle.std.proofs.lemmas.List.{length-map, length-take, length-drop, get_or-map, get_or-take, get_or-drop, get_or_append_left, get_or-append-add}
+use Rattle.std.proofs.lemmas.List.{get_or_default, same_lists}
 use Rattle.std.specs.Prelude.{HoldsAt}
 use Rattle.std.proofs.lemmas.List.Elements.{Contains-get_or}
 use Rattle.plan_base.specs.declared.parts.Parts.{Parts}
@@ -30,15 +32,18 @@ place_at s i d o l =
     let there : number_of (slice_index_or (listed s) (place_of s (number_of x)) x) ≡ number_of x = ap number_of at.at_place in
     let here : number_of (slice_index_or (listed s) i x) ≡ number_of x = ap number_of (get_or_default (listed s) i x d l) in
     elim (below_same_above (place_of s (number_of x)) i) [
-      | inl (inl below) ↦ let less : number_of (slice_index_or (listed s) (place_of s (number_of x)) x) < number_of (slice_index_or (listed s) i x) = o.requests_rise _ i x below l in absurd (omega arith)
-      | inl (inr above) ↦ let less : number_of (slice_index_or (listed s) i x) < number_of (slice_index_or (listed s) (place_of s (number_of x)) x) = o.requests_rise i _ x above known in absurd (omega arith)
+      | inl (inl below) ↦ let less : number_of (slice_index_or (listed s) (place_of s (number_of x)) x) < number_of (slice_index_or (listed s) i x) =
+          o.requests_rise _ i x below l in absurd (omega arith)
+      | inl (inr above) ↦ let less : number_of (slice_index_or (listed s) i x) < number_of (slice_index_or (listed s) (place_of s (number_of x)) x) =
+          o.requests_rise i _ x above known in absurd (omega arith)
       | inr same ↦ same
     ]
 
 -- the requests of the group at place g begin at a among those that are listed, and follow each other
 pub record IsRun (n : ℕ) (xs : List GroupPart) (g a : ℕ) : Type 0 where
   pub within : a + length (slice_index_or (map members_of xs) g []) ≤ length (listed_from n xs)
-  pub each : (i : ℕ) (d : Listed) → i < length (slice_index_or (map members_of xs) g []) → number_of (slice_index_or (listed_from n xs) (a + i) d) ≡ slice_index_or (slice_index_or (map members_of xs) g []) i 0
+  pub each : (i : ℕ) (d : Listed) → i < length (slice_index_or (map members_of xs) g [])
+      → number_of (slice_index_or (listed_from n xs) (a + i) d) ≡ slice_index_or (slice_index_or (map members_of xs) g []) i 0
 
 pub run_of : (n : ℕ) (xs : List GroupPart) (g : ℕ) → g < length xs → (a : ℕ) × IsRun n xs g a
 run_of n [] g l = absurd (omega arith)
@@ -52,9 +57,12 @@ run_of n (x ∷ xs) zero l =
         within = omega arith;
         each = λ i d k.
             let at : 0 + i ≡ i = omega arith in
-            let left : slice_index_or (here ++ listed_from (suc n) xs) i d ≡ slice_index_or here i d = get_or_append_left here (listed_from (suc n) xs) d i (omega arith) in
-            let first : slice_index_or here i d ≡ _ = get_or-map (λ q. record { group = n; quota = x.quota; request = q }) x.requests i d.request d (omega arith) in
-            let second : slice_index_or (members_of x) i 0 ≡ (slice_index_or x.requests i d.request).request.0 = get_or-map (λ q. q.request.0) x.requests i d.request 0 (omega arith) in
+            let left : slice_index_or (here ++ listed_from (suc n) xs) i d ≡ slice_index_or here i d =
+            get_or_append_left here (listed_from (suc n) xs) d i (omega arith) in
+            let first : slice_index_or here i d ≡ _ =
+            get_or-map (λ q. record { group = n; quota = x.quota; request = q }) x.requests i d.request d (omega arith) in
+            let second : slice_index_or (members_of x) i 0 ≡ (slice_index_or x.requests i d.request).request.0 =
+            get_or-map (λ q. q.request.0) x.requests i d.request 0 (omega arith) in
             ap (λ (j : ℕ). number_of (slice_index_or (here ++ listed_from (suc n) xs) j d)) at ∙ ap number_of left ∙ ap number_of first ∙ sym second;
       },
     )
@@ -67,7 +75,8 @@ run_of n (x ∷ xs) (suc g) l =
         within = let less = rest.1.within in omega arith;
         each = λ i d k.
             let at : length here + rest.0 + i ≡ length here + (rest.0 + i) = omega arith in
-            ap (λ (j : ℕ). number_of (slice_index_or (here ++ listed_from (suc n) xs) j d)) at ∙ ap number_of (get_or-append-add here (listed_from (suc n) xs) (rest.0 + i) d) ∙ rest.1.each i d k;
+            ap (λ (j : ℕ). number_of (slice_index_or (here ++ listed_from (suc n) xs) j d)) at
+            ∙ ap number_of (get_or-append-add here (listed_from (suc n) xs) (rest.0 + i) d) ∙ rest.1.each i d k;
       },
     )
 
@@ -76,7 +85,8 @@ first_of : (xs : List Listed) → 0 < length xs → Listed
 first_of [] l = absurd (omega arith)
 first_of (x ∷ xs) l = x
 
-pub group_run : (s : Parts) (g : ℕ) → IsOrderly s → g < length s.groups → 0 < length (members s g) → IsGroupRun s g (place_of s (slice_index_or (members s g) 0 0))
+pub group_run : (s : Parts) (g : ℕ) → IsOrderly s → g < length s.groups → 0 < length (members s g)
+    → IsGroupRun s g (place_of s (slice_index_or (members s g) 0 0))
 group_run s g o l some =
     let run : (a : ℕ) × IsRun 0 s.groups g a = run_of 0 s.groups g l in
     let within : run.0 + length (members s g) ≤ length (listed s) = run.1.within in
@@ -88,7 +98,8 @@ group_run s g o l some =
     record { within = omega arith; each = λ i k. let here : place_of s (slice_index_or (members s g) i 0) ≡ run.0 + i = each i k in omega arith }
 
 -- the prices of a group's requests are a part of all prices
-pub run_prices : (s : Parts) (prices : List ℤ) (g a n : ℕ) → IsGroupRun s g a → length prices ≡ length (listed s) → length (members s g) ≡ n → take n (drop a prices) ≡ group_prices s prices g
+pub run_prices : (s : Parts) (prices : List ℤ) (g a n : ℕ) → IsGroupRun s g a → length prices ≡ length (listed s) → length (members s g) ≡ n
+    → take n (drop a prices) ≡ group_prices s prices g
 run_prices s prices g a n run count size =
     let dropped : length (drop a prices) ≡ length prices - a = length-drop a prices in
     let taken : length (take n (drop a prices)) ≡ n = length-take n (drop a prices) ∙ omega arith in
@@ -96,18 +107,22 @@ run_prices s prices g a n run count size =
     same_lists (take n (drop a prices)) (group_prices s prices g) (omega arith)
     (λ i d k.
     let here : place_of s (slice_index_or (members s g) i 0) ≡ a + i = run.each i (omega arith) in
-    get_or-take n (drop a prices) i d (omega arith) ∙ get_or-drop a prices i d ∙ get_or_default prices (a + i) d (pos 0) (omega arith) ∙ ap (λ (j : ℕ). slice_index_or prices j (pos 0)) (sym here)
+    get_or-take n (drop a prices) i d (omega arith) ∙ get_or-drop a prices i d ∙ get_or_default prices (a + i) d (pos 0) (omega arith)
+    ∙ ap (λ (j : ℕ). slice_index_or prices j (pos 0)) (sym here)
     ∙ sym (get_or-map (price s prices) (members s g) i 0 d (omega arith)))
 
 -- the first request of a group is known, and the run begins at its place
-pub first_request : (s : Parts) (gs : List GroupPart) (g : ℕ) (x : GroupPart) (qs : List RequestPart) (q : RequestPart) → IsOrderly s → gs ≡ s.groups → g < length s.groups → qs ≡ (slice_index_or gs g x).requests
+pub first_request : (s : Parts) (gs : List GroupPart) (g : ℕ) (x : GroupPart) (qs : List RequestPart) (q : RequestPart) → IsOrderly s → gs ≡ s.groups
+    → g < length s.groups → qs ≡ (slice_index_or gs g x).requests
     → IsKnown s (slice_index_or qs 0 q).request.0 × IsGroupRun s g (place_of s (slice_index_or qs 0 q).request.0) × (length (members s g) ≡ length qs)
 first_request s gs g x qs q o e l f =
     let own : qs ≡ (slice_index_or s.groups g x).requests = f ∙ ap (λ (ys : List GroupPart). (slice_index_or ys g x).requests) e in
     let some : 1 ≤ length qs = subst (λ (ys : List RequestPart). 1 ≤ length ys) (sym own) (o.shapes g x l).0 in
-    let ms : members s g ≡ map (λ y. y.request.0) qs = get_or-map members_of s.groups g x [] l ∙ ap (λ (ys : List RequestPart). map (λ y. y.request.0) ys) (sym own) in
+    let ms : members s g ≡ map (λ y. y.request.0) qs = get_or-map members_of s.groups g x [] l
+    ∙ ap (λ (ys : List RequestPart). map (λ y. y.request.0) ys) (sym own) in
     let count : length (members s g) ≡ length qs = ap (λ (ns : List ℕ). length ns) ms ∙ length-map qs (λ y. y.request.0) in
-    let first : slice_index_or (members s g) 0 0 ≡ (slice_index_or qs 0 q).request.0 = ap (λ (ns : List ℕ). slice_index_or ns 0 0) ms ∙ get_or-map (λ y. y.request.0) qs 0 q 0 (omega arith) in
+    let first : slice_index_or (members s g) 0 0 ≡ (slice_index_or qs 0 q).request.0 = ap (λ (ns : List ℕ). slice_index_or ns 0 0) ms
+    ∙ get_or-map (λ y. y.request.0) qs 0 q 0 (omega arith) in
     let of : IsOf s g (slice_index_or (members s g) 0 0) = is_of_member s g _ o (Contains-get_or (members s g) 0 0 (omega arith)) in (
       subst (λ (r : ℕ). IsKnown s r) first of.0,
       subst (λ (r : ℕ). IsGroupRun s g (place_of s r)) first (group_run s g o l (omega arith)),
@@ -115,8 +130,10 @@ first_request s gs g x qs q o e l f =
     )
 
 -- the kind of a group that was read
-pub kind_here : (s : Parts) (gs : List GroupPart) (g : ℕ) (x : GroupPart) (k : Op) → gs ≡ s.groups → g < length s.groups → x ≡ slice_index_or gs g x → x.op ≡ k → IsKind s k g
-kind_here s gs g x k e l is op d = ap (λ (y : GroupPart). y.op) (get_or_default s.groups g d x l) ∙ ap (λ (ys : List GroupPart). (slice_index_or ys g x).op) (sym e) ∙ ap (λ (y : GroupPart). y.op) (sym is) ∙ op
+pub kind_here : (s : Parts) (gs : List GroupPart) (g : ℕ) (x : GroupPart) (k : Op) → gs ≡ s.groups → g < length s.groups → x ≡ slice_index_or gs g x
+    → x.op ≡ k → IsKind s k g
+kind_here s gs g x k e l is op d = ap (λ (y : GroupPart). y.op) (get_or_default s.groups g d x l)
+    ∙ ap (λ (ys : List GroupPart). (slice_index_or ys g x).op) (sym e) ∙ ap (λ (y : GroupPart). y.op) (sym is) ∙ op
 
 most_of_shape : (op : Op) → most_requests op ≤ 256
 most_of_shape Single = omega arith
@@ -128,7 +145,9 @@ most_of_shape And = omega arith
 pub some_members : (s : Parts) (g : ℕ) → IsOrderly s → g < length s.groups → 0 < length (members s g)
 some_members s g o l =
     let x : GroupPart = record { group = record { 0 = 0 }; op = Single; requests = []; quota = None } in
-    let count : length (members s g) ≡ length (slice_index_or s.groups g x).requests = ap (λ (rs : List ℕ). length rs) (get_or-map members_of s.groups g x [] l) ∙ length-map (slice_index_or s.groups g x).requests (λ q. q.request.0) in
+    let count : length (members s g) ≡ length (slice_index_or s.groups g x).requests =
+    ap (λ (rs : List ℕ). length rs) (get_or-map members_of s.groups g x [] l)
+    ∙ length-map (slice_index_or s.groups g x).requests (λ q. q.request.0) in
     let some : 1 ≤ length (slice_index_or s.groups g x).requests = (o.shapes g x l).0 in
     omega arith
 
@@ -136,19 +155,28 @@ some_members s g o l =
 pub few_members : (s : Parts) (g : ℕ) → IsOrderly s → g < length s.groups → length (members s g) ≤ 256
 few_members s g o l =
     let x : GroupPart = record { group = record { 0 = 0 }; op = Single; requests = []; quota = None } in
-    let count : length (members s g) ≡ length (slice_index_or s.groups g x).requests = ap (λ (rs : List ℕ). length rs) (get_or-map members_of s.groups g x [] l) ∙ length-map (slice_index_or s.groups g x).requests (λ q. q.request.0) in
+    let count : length (members s g) ≡ length (slice_index_or s.groups g x).requests =
+    ap (λ (rs : List ℕ). length rs) (get_or-map members_of s.groups g x [] l)
+    ∙ length-map (slice_index_or s.groups g x).requests (λ q. q.request.0) in
     let shape = (o.shapes g x l).1 in
     let most = most_of_shape (slice_index_or s.groups g x).op in
     omega arith
 
-pub kind_read : (s : Parts) (gs : List GroupPart) (g : ℕ) (x : GroupPart) (k : Op) → gs ≡ s.groups → g < length s.groups → (slice_index_or gs g x).op ≡ k → IsKind s k g
-kind_read s gs g x k e l op d = ap (λ (y : GroupPart). y.op) (get_or_default s.groups g d x l) ∙ ap (λ (ys : List GroupPart). (slice_index_or ys g x).op) (sym e) ∙ op
+pub kind_read : (s : Parts) (gs : List GroupPart) (g : ℕ) (x : GroupPart) (k : Op) → gs ≡ s.groups → g < length s.groups
+    → (slice_index_or gs g x).op ≡ k → IsKind s k g
+kind_read s gs g x k e l op d = ap (λ (y : GroupPart). y.op) (get_or_default s.groups g d x l)
+    ∙ ap (λ (ys : List GroupPart). (slice_index_or ys g x).op) (sym e) ∙ op
 
 -- how many requests a group has that was read
-pub count_read : (s : Parts) (gs : List GroupPart) (g : ℕ) (x : GroupPart) → gs ≡ s.groups → g < length s.groups → length (slice_index_or gs g x).requests ≡ length (members s g)
+pub count_read : (s : Parts) (gs : List GroupPart) (g : ℕ) (x : GroupPart) → gs ≡ s.groups → g < length s.groups
+    → length (slice_index_or gs g x).requests ≡ length (members s g)
 count_read s gs g x e l =
-    ap (λ (ys : List GroupPart). length (slice_index_or ys g x).requests) e ∙ sym (length-map (slice_index_or s.groups g x).requests (λ q. q.request.0)) ∙ ap (λ (rs : List ℕ). length rs) (sym (get_or-map members_of s.groups g x [] l))
+    ap (λ (ys : List GroupPart). length (slice_index_or ys g x).requests) e
+    ∙ sym (length-map (slice_index_or s.groups g x).requests (λ q. q.request.0))
+    ∙ ap (λ (rs : List ℕ). length rs) (sym (get_or-map members_of s.groups g x [] l))
 
 -- the number of a group that was read
-pub number_read : (s : Parts) (gs : List GroupPart) (g : ℕ) (x : GroupPart) → gs ≡ s.groups → g < length s.groups → HoldsAt (λ y. y.group.0 ≡ (slice_index_or gs g x).group.0) s.groups g
-number_read s gs g x e l d = ap (λ (y : GroupPart). y.group.0) (get_or_default s.groups g d x l) ∙ ap (λ (ys : List GroupPart). (slice_index_or ys g x).group.0) (sym e)
+pub number_read : (s : Parts) (gs : List GroupPart) (g : ℕ) (x : GroupPart) → gs ≡ s.groups → g < length s.groups
+    → HoldsAt (λ y. y.group.0 ≡ (slice_index_or gs g x).group.0) s.groups g
+number_read s gs g x e l d = ap (λ (y : GroupPart). y.group.0) (get_or_default s.groups g d x l)
+    ∙ ap (λ (ys : List GroupPart). (slice_index_or ys g x).group.0) (sym e)

@@ -1,5 +1,6 @@
 -- Sums over the placements of a plan, with one more or one less.
-use Rattle.std.proofs.Common.{◌≡◌, ◌≢◌, ℕ, ◌+◌, ◌<◌, ◌⊎◌, inl, inr, Bool, cond, not, List, [], ◌∷◌, ◌++◌, length, drop, slice_index_or, sum_by, All, Contains, refl, sym, ◌∙◌, ap, subst, arith}
+use Rattle.std.proofs.Common.{◌≡◌, ◌≢◌, ℕ, ◌+◌, ◌<◌, ◌⊎◌, inl, inr, Bool, cond, not, List, [], ◌∷◌, ◌++◌, length, drop, slice_index_or, sum_by, All}
+use Rattle.std.proofs.Common.{Contains, refl, sym, ◌∙◌, ap, subst, arith}
 use Rattle.std.proofs.lemmas.Bool.Decides.{eqb_tells}
 use Rattle.std.proofs.lemmas.List.Elements.{All-nil, All-cons, All-head, All-tail, All-contains}
 use Rattle.std.proofs.lemmas.List.Sums.{sum_by-cons, sum_by_push, sum_by-drop_more}
@@ -45,7 +46,8 @@ pub adds_up_push : (plan : List Placement) (p : Placement) → AddsUp plan p (pl
 adds_up_push plan p f = sum_by_push f plan p
 
 pub adds_up_rest : (plan : List Placement) (i : ℕ) (d : Placement) → i < length plan → AddsUp (drop (i + 1) plan) (slice_index_or plan i d) (drop i plan)
-adds_up_rest plan i d l f = let more : sum_by f (drop i plan) ≡ f (slice_index_or plan i d) + sum_by f (drop (i + 1) plan) = sum_by-drop_more f plan i d l in omega arith
+adds_up_rest plan i d l f = let more : sum_by f (drop i plan) ≡ f (slice_index_or plan i d) + sum_by f (drop (i + 1) plan) =
+    sum_by-drop_more f plan i d l in omega arith
 
 -- a plan without a request that it doesn't place
 kept_whole : (r : ℕ) (plan : List Placement) → All (λ x. r ≢ x) (requests_of plan) → without r plan ≡ plan
@@ -59,9 +61,11 @@ kept_whole r (p ∷ plan) a =
     ]
 
 pub not_placed : (r : ℕ) (plan : List Placement) → ¬ (Contains (requests_of plan) r) → without r plan ≡ plan
-not_placed r plan absent = kept_whole r plan (λ i d l e. absent (i, l, subst (λ (n : ℕ). slice_index_or (requests_of plan) i n ≡ n) (sym e) (default_self i d l)))
+not_placed r plan absent = kept_whole r plan
+    (λ i d l e. absent (i, l, subst (λ (n : ℕ). slice_index_or (requests_of plan) i n ≡ n) (sym e) (default_self i d l)))
   where
-    default_self : (i d : ℕ) → i < length (requests_of plan) → slice_index_or (requests_of plan) i (slice_index_or (requests_of plan) i d) ≡ slice_index_or (requests_of plan) i d
+    default_self : (i d : ℕ) → i < length (requests_of plan) → slice_index_or (requests_of plan) i (slice_index_or (requests_of plan) i d)
+        ≡ slice_index_or (requests_of plan) i d
     default_self i d l = get_or_default (requests_of plan) i (slice_index_or (requests_of plan) i d) d l
 
 -- without one of its placements a plan has all others
@@ -73,7 +77,8 @@ adds_up_without (q ∷ plan) p once has f =
     elim (eqb_tells q.request.0 p.request.0) [
       | inl same ↦
           let kept : without p.request.0 plan ≡ plan = kept_whole p.request.0 plan (subst (λ (r : ℕ). All (λ x. r ≢ x) (requests_of plan)) same.1 head) in
-          let gone : sum_by f (without p.request.0 (q ∷ plan)) ≡ sum_by f plan = ap (λ (b : Bool). sum_by f (cond (not b) (q ∷ without p.request.0 plan) (without p.request.0 plan))) same.0 ∙ ap (sum_by f) kept in
+          let gone : sum_by f (without p.request.0 (q ∷ plan)) ≡ sum_by f plan =
+          ap (λ (b : Bool). sum_by f (cond (not b) (q ∷ without p.request.0 plan) (without p.request.0 plan))) same.0 ∙ ap (sum_by f) kept in
           let it : q ≡ p = elim (contains_cases q p plan has) [
             | inl e ↦ e
             | inr later ↦ absurd (All-contains (λ x. q.request.0 ≢ x) (requests_of plan) p.request.0 head (contains_map (λ x. x.request.0) plan p later) same.1)
@@ -87,8 +92,10 @@ adds_up_without (q ∷ plan) p once has f =
             | inr later ↦ later
           ]
           in
-          let rest : sum_by f plan ≡ sum_by f (without p.request.0 plan) + f p = adds_up_without plan p (pairs_tail (λ a b. a ≢ b) q.request.0 (requests_of plan) once) there f in
-          let stays : sum_by f (without p.request.0 (q ∷ plan)) ≡ sum_by f (q ∷ without p.request.0 plan) = ap (λ (b : Bool). sum_by f (cond (not b) (q ∷ without p.request.0 plan) (without p.request.0 plan))) other.0 in
+          let rest : sum_by f plan ≡ sum_by f (without p.request.0 plan) + f p =
+          adds_up_without plan p (pairs_tail (λ a b. a ≢ b) q.request.0 (requests_of plan) once) there f in
+          let stays : sum_by f (without p.request.0 (q ∷ plan)) ≡ sum_by f (q ∷ without p.request.0 plan) =
+          ap (λ (b : Bool). sum_by f (cond (not b) (q ∷ without p.request.0 plan) (without p.request.0 plan))) other.0 in
           let first : sum_by f (q ∷ without p.request.0 plan) ≡ f q + sum_by f (without p.request.0 plan) = sum_by-cons f q (without p.request.0 plan) in
           omega arith
     ]

@@ -11,10 +11,12 @@ pub record IsWide (numbers : List ℤ) (i : ℕ) (sum : ℤ) : Type 0 where
   pub least : neg_ℤ (pos (i * 2 ^ 63)) ≤ℤ sum
   pub most : sum ≤ℤ pos (i * 2 ^ 63)
 
-pub wide_more : (numbers : List ℤ) (i : ℕ) (sum : ℤ) → i < length numbers → neg_ℤ (pos (2 ^ 63)) ≤ℤ slice_index_or numbers i (pos 0) → slice_index_or numbers i (pos 0) ≤ℤ pos (2 ^ 63) → IsWide numbers i sum
+pub wide_more : (numbers : List ℤ) (i : ℕ) (sum : ℤ) → i < length numbers → neg_ℤ (pos (2 ^ 63)) ≤ℤ slice_index_or numbers i (pos 0)
+    → slice_index_or numbers i (pos 0) ≤ℤ pos (2 ^ 63) → IsWide numbers i sum
     → IsWide numbers (i + 1) (sum +ℤ slice_index_or numbers i (pos 0))
 wide_more numbers i sum l low high h =
-    let step : total (λ c. c) (drop i numbers) ≡ slice_index_or numbers i (pos 0) +ℤ total (λ c. c) (drop (i + 1) numbers) = at_drop_more (total (λ c. c)) numbers i (pos 0) l in
+    let step : total (λ c. c) (drop i numbers) ≡ slice_index_or numbers i (pos 0) +ℤ total (λ c. c) (drop (i + 1) numbers) =
+    at_drop_more (total (λ c. c)) numbers i (pos 0) l in
     let whole : sum +ℤ total (λ c. c) (drop i numbers) ≡ total (λ c. c) numbers = h.rest in
     let least : neg_ℤ (pos (i * 2 ^ 63)) ≤ℤ sum = h.least in
     let most : sum ≤ℤ pos (i * 2 ^ 63) = h.most in

@@ -18,7 +18,8 @@ pub adds_nothing : (spans : List Span) (span : Span) → IsSortedApart spans →
 adds_nothing spans span sorted begin empty = record { seconds = λ x. grind (arith, nat_tests); sorted = sorted; begin = begin }
 
 -- where a set's last span has ended, each has
-pub all_ended : (spans : List Span) (i x : ℕ) (last : Span) → IsSortedApart spans → IsAt spans i last → i + 1 ≡ length spans → last.to.0 < x → All (λ s. s.to.0 < x) spans
+pub all_ended : (spans : List Span) (i x : ℕ) (last : Span) → IsSortedApart spans → IsAt spans i last → i + 1 ≡ length spans → last.to.0 < x
+    → All (λ s. s.to.0 < x) spans
 all_ended spans i x last sorted at end ended k d lt =
     let is : last.to.0 ≡ (get_or spans i d).to.0 = ap (λ (s : Span). s.to.0) (at_is spans i last at d) in
     elim (cases_lt k i) [
@@ -27,7 +28,8 @@ all_ended spans i x last sorted at end ended k d lt =
     ]
 
 -- a span goes at the end where all others have ended before
-pub adds_pushed : (spans : List Span) (span : Span) → IsSortedApart spans → All (λ s. s.to.0 < span.from.0) spans → BeginBy spans span.from.0 → span.from.0 < span.to.0
+pub adds_pushed : (spans : List Span) (span : Span) → IsSortedApart spans → All (λ s. s.to.0 < span.from.0) spans → BeginBy spans span.from.0
+    → span.from.0 < span.to.0
     → Adds spans span (spans ++ span ∷ [])
 adds_pushed spans span sorted ended begin nonempty = record {
   seconds = λ x. list_any-append (λ s. span_has s x) spans (span ∷ []) ∙ grind arith;
@@ -39,7 +41,8 @@ adds_pushed spans span sorted ended begin nonempty = record {
 }
 
 -- a span that touches the last is joined to it
-pub adds_joined : (spans : List Span) (i : ℕ) (span last joined : Span) → IsSortedApart spans → IsAt spans i last → i + 1 ≡ length spans → BeginBy spans span.from.0
+pub adds_joined : (spans : List Span) (i : ℕ) (span last joined : Span) → IsSortedApart spans → IsAt spans i last → i + 1 ≡ length spans
+    → BeginBy spans span.from.0
     → span.from.0 ≤ last.to.0 → joined.from.0 ≡ last.from.0 → joined.to.0 ≡ max last.to.0 span.to.0 → Adds spans span (set spans i joined)
 adds_joined spans i span last joined sorted at end begin touch from to =
     let begun : last.from.0 ≤ span.from.0 = omega (arith, begin i last at.in_range, ap (λ (s : Span). s.from.0) at.is) in

@@ -144,8 +144,10 @@ gap_can_add mine theirs done i j a gap both at common so_far =
     rw common.from (next_is (λ s. BeginBy done (max s.from.0 gap.from.0)) mine i a at so_far.begin)
 
 -- a span that ends within the gap is done with
-pub gap_mine : (mine theirs done new : List Span) (i j : ℕ) (a gap both : Span) → IsSortedApart mine → IsAt mine i a → All (λ b. gap.to.0 ≤ b.from.0) (drop j theirs)
-    → a.to.0 ≤ gap.to.0 → IsCommon a gap both → IsDifferenceSoFar mine theirs i j gap.from.0 done → Adds done both new → IsDifferenceSoFar mine theirs (i + 1) j gap.from.0 new
+pub gap_mine : (mine theirs done new : List Span) (i j : ℕ) (a gap both : Span) → IsSortedApart mine → IsAt mine i a
+    → All (λ b. gap.to.0 ≤ b.from.0) (drop j theirs)
+    → a.to.0 ≤ gap.to.0 → IsCommon a gap both → IsDifferenceSoFar mine theirs i j gap.from.0 done → Adds done both new
+    → IsDifferenceSoFar mine theirs (i + 1) j gap.from.0 new
 gap_mine mine theirs done new i j a gap both sorted at holes le common so_far adds = record {
   seconds = λ x. so_far.seconds x ∙ rw (drop_at mine i a at, adds.seconds x, common.seconds x) (elim (cases_lt x gap.to.0) [
     | inl within ↦ rw (has_before (drop j theirs) x (λ k d lt. omega (arith, holes k d lt))) (grind (arith, nat_tests))
@@ -184,8 +186,10 @@ past_gap a b gap x later_a later_b to lt le nonempty none_a none_b = elim (cases
 ]
 
 -- past a gap that ends within a span the next one begins where their span ends
-pub gap_theirs : (mine theirs done new : List Span) (i j : ℕ) (a b gap both : Span) → IsSortedApart mine → IsSortedApart theirs → IsAt mine i a → IsAt theirs j b
-    → gap.to.0 ≡ b.from.0 → b.from.0 < a.to.0 → IsCommon a gap both → IsDifferenceSoFar mine theirs i j gap.from.0 done → Adds done both new → IsDifferenceSoFar mine theirs i (j + 1) b.to.0 new
+pub gap_theirs : (mine theirs done new : List Span) (i j : ℕ) (a b gap both : Span) → IsSortedApart mine → IsSortedApart theirs
+    → IsAt mine i a → IsAt theirs j b
+    → gap.to.0 ≡ b.from.0 → b.from.0 < a.to.0 → IsCommon a gap both → IsDifferenceSoFar mine theirs i j gap.from.0 done → Adds done both new
+    → IsDifferenceSoFar mine theirs i (j + 1) b.to.0 new
 gap_theirs mine theirs done new i j a b gap both sorted_mine sorted_theirs at_mine at_theirs to lt common so_far adds = record {
   seconds = λ x.
       let le : gap.from.0 ≤ b.from.0 = next_is (λ t. gap.from.0 ≤ t.from.0) theirs j b at_theirs so_far.gap in

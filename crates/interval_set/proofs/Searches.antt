@@ -11,14 +11,16 @@ use Rattle.interval_set.specs.Steps.{IsBegunBy, IsEndedBy}
 use Rattle.interval_set.proofs.Seconds.{IsAt, at_is, none_between, has_at, nonempty_at}
 
 -- what a binary search answers, by what has begun or by what has ended
-pub begun_by : (spans : List Span) (x i : ℕ) → i ≤ length spans → IsPartitionPoint (λ s. nat_le s.from.0 x ≡ true) (λ s. nat_le s.from.0 x ≡ false) spans i → IsBegunBy spans x i
+pub begun_by : (spans : List Span) (x i : ℕ) → i ≤ length spans
+    → IsPartitionPoint (λ s. nat_le s.from.0 x ≡ true) (λ s. nat_le s.from.0 x ≡ false) spans i → IsBegunBy spans x i
 begun_by spans x i within point = record {
   within = within;
   begun = λ k d lt. grind (arith, nat_tests, point.0 k d (omega arith) lt);
   later = λ k d le lt. grind (arith, nat_tests, point.1 k d le lt);
 }
 
-pub ended_by : (spans : List Span) (x i : ℕ) → i ≤ length spans → IsPartitionPoint (λ s. nat_le s.to.0 x ≡ true) (λ s. nat_le s.to.0 x ≡ false) spans i → IsEndedBy spans x i
+pub ended_by : (spans : List Span) (x i : ℕ) → i ≤ length spans
+    → IsPartitionPoint (λ s. nat_le s.to.0 x ≡ true) (λ s. nat_le s.to.0 x ≡ false) spans i → IsEndedBy spans x i
 ended_by spans x i within point = record {
   within = within;
   ended = λ k d lt. grind (arith, nat_tests, point.0 k d (omega arith) lt);
@@ -45,10 +47,20 @@ covers_exactly spans span last i r sorted begun nonempty some at answer = elim (
       let inside : span_has span x ≡ true = grind (arith, nat_tests) in
       let outside : has spans x ≡ false = none_between spans i x
       (λ k d below. elim (cases_lt k (i - 1)) [
-        | inl before ↦ omega (arith, sorted.apart k (i - 1) d before at.in_range, sorted.nonempty (i - 1) d at.in_range, ap (λ (s : Span). s.to.0) (at_is spans (i - 1) last at d))
+        | inl before ↦ omega (
+          arith,
+          sorted.apart k (i - 1) d before at.in_range,
+          sorted.nonempty (i - 1) d at.in_range,
+          ap (λ (s : Span). s.to.0) (at_is spans (i - 1) last at d),
+        )
         | inr from ↦ let same : k ≡ i - 1 = omega arith in rw same (omega (arith, ap (λ (s : Span). s.to.0) (at_is spans (i - 1) last at d)))
       ])
-      (λ k d from lt. omega (arith, begun.later k d from lt, sorted.apart (i - 1) k d (omega arith) lt, ap (λ (s : Span). s.to.0) (at_is spans (i - 1) last at d))) in
+      (λ k d from lt. omega (
+        arith,
+        begun.later k d from lt,
+        sorted.apart (i - 1) k d (omega arith) lt,
+        ap (λ (s : Span). s.to.0) (at_is spans (i - 1) last at d),
+      )) in
       (λ yes. absurd (grind (arith, nat_tests)), λ all. absurd (grind (arith, all x inside)))
   | inr long ↦
       let first : last.from.0 ≤ span.from.0 = omega (arith, begun.begun (i - 1) last (omega arith), ap (λ (s : Span). s.from.0) at.is) in
@@ -77,11 +89,13 @@ pub first_exactly : (spans : List Span) (span next : Span) (i first : ℕ) → I
     → first ≡ max next.from.0 span.from.0 → first < span.to.0 → IsFirstIn spans span first
 first_exactly spans span next i first sorted ended at is lt = record {
   inside = grind (arith, nat_tests);
-  member = has_at spans i next first at (grind (arith, nat_tests, nonempty_at spans i next sorted at, ended.later i next (omega arith) at.in_range, ap (λ (s : Span). s.to.0) at.is));
+  member = has_at spans i next first at
+      (grind (arith, nat_tests, nonempty_at spans i next sorted at, ended.later i next (omega arith) at.in_range, ap (λ (s : Span). s.to.0) at.is));
   least = λ y inside member. elim (cases_lt y first) [
     | inl before ↦
         let from : span.from.0 ≤ y = grind (arith, nat_tests) in
-        let none : has spans y ≡ false = none_before spans span i y sorted ended inside (λ d _. omega (arith, ap (λ (s : Span). s.from.0) (at_is spans i next at d))) in
+        let none : has spans y ≡ false =
+        none_before spans span i y sorted ended inside (λ d _. omega (arith, ap (λ (s : Span). s.from.0) (at_is spans i next at d))) in
         absurd (grind (arith, none, member))
     | inr le ↦ le
   ];

@@ -1,5 +1,6 @@
 -- What lists of spans have, by their first spans and their last.
-use Rattle.std.proofs.Common.{◌≡◌, ℕ, zero, suc, ◌+◌, ◌<◌, ◌≤◌, Bool, true, false, List, [], ◌∷◌, length, get_or, set, drop, refl, sym, ap, ◌∙◌, subst, inl, inr, length-drop, arith}
+use Rattle.std.proofs.Common.{◌≡◌, ℕ, zero, suc, ◌+◌, ◌<◌, ◌≤◌, Bool, true, false, List, [], ◌∷◌, length, get_or, set, drop, refl, sym, ap, ◌∙◌, subst}
+use Rattle.std.proofs.Common.{inl, inr, length-drop, arith}
 use Rattle.std.specs.Prelude.{◌||◌, All}
 use Rattle.std.specs.Ordering.{is_le, is_lt, is_ge, nat_cmp}
 use Rattle.std.proofs.lemmas.Bool.{cases_lt}

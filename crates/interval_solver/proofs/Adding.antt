@@ -1,5 +1,6 @@
 -- Rows to whose ends starts of an offer are added.
-use Rattle.std.proofs.Common.{◌≡◌, ◌≢◌, ℕ, ◌+◌, ◌<◌, ◌≤◌, ◌⊎◌, inl, inr, List, [], ◌∷◌, ◌++◌, length, slice_set, refl, sym, ◌∙◌, ap, get_or-set_other, get_or-set_same, length-set, arith}
+use Rattle.std.proofs.Common.{◌≡◌, ◌≢◌, ℕ, ◌+◌, ◌<◌, ◌≤◌, ◌⊎◌, inl, inr, List, [], ◌∷◌, ◌++◌, length, slice_set, refl, sym, ◌∙◌, ap, get_or-set_other}
+use Rattle.std.proofs.Common.{get_or-set_same, length-set, arith}
 use Rattle.interval_solver.specs.declared.start.Start.{Start}
 use Rattle.interval_solver.specs.declared.offer.Offer.{Offer}
 use Rattle.plan_base.specs.Tables.{row}
@@ -11,7 +12,8 @@ same_or_not a b = grind arith
 pub none_added : (o : Offer) (first from to : ℕ) (rows : List (List Start)) → to ≤ from → AreAdded o first from to rows rows
 none_added o first from to rows none = record { count = refl; added = λ i l a b. absurd (omega arith); kept = λ i e. refl }
 
-pub one_added : (o : Offer) (first from k i : ℕ) (old rows : List (List Start)) (x : Start) (xs : List Start) → first + i ≡ k → from ≤ k → i < length rows → x ≡ start_in o first i → xs ≡ row rows i ++ x ∷ []
+pub one_added : (o : Offer) (first from k i : ℕ) (old rows : List (List Start)) (x : Start) (xs : List Start) → first + i ≡ k → from ≤ k
+    → i < length rows → x ≡ start_in o first i → xs ≡ row rows i ++ x ∷ []
     → AreAdded o first from k old rows → AreAdded o first from (k + 1) old (slice_set rows i xs)
 one_added o first from k i old rows x xs at least within is pushed h = record {
   count = length-set rows i xs ∙ h.count;

@@ -1,5 +1,6 @@
 -- Rows that are covered by whole and single starts.
-use Rattle.std.proofs.Common.{◌≡◌, ℕ, ◌+◌, ◌*◌, ◌/◌, ◌%◌, ◌<◌, ◌≤◌, inl, inr, ℤ, pos, ◌≤ℤ◌, List, [], length, replicate, slice_index_or, Contains, refl, sym, ◌∙◌, ap, subst, arith}
+use Rattle.std.proofs.Common.{◌≡◌, ℕ, ◌+◌, ◌*◌, ◌/◌, ◌%◌, ◌<◌, ◌≤◌, inl, inr, ℤ, pos, ◌≤ℤ◌, List, [], length, replicate, slice_index_or, Contains}
+use Rattle.std.proofs.Common.{refl, sym, ◌∙◌, ap, subst, arith}
 use Rattle.std.proofs.lemmas.Int.{ints}
 use Rattle.std.proofs.lemmas.List.{get_or-map, get_or-replicate, get_or_past}
 use Rattle.interval_solver.specs.declared.start.Start.{Start}
@@ -22,25 +23,30 @@ module _ (rows wholes singles : List (List Start)) (cover : IsCover rows wholes 
       let none : row wholes (k / 4) ≡ [] = get_or_past wholes (k / 4) [] (omega arith) in
       elim (cover.complete (k / 4) (k % 4) x (omega arith) (subst (λ (i : ℕ). Contains (row rows i) x) at c)) [
         | inl single ↦ subst (λ (i : ℕ). Contains (row singles i) x) (sym at) single
-        | inr whole ↦ let less : whole.1.0 < length (row wholes (k / 4)) = whole.1.1 in let empty : length (row wholes (k / 4)) ≡ 0 = ap length none in absurd (omega arith)
+        | inr whole ↦ let less : whole.1.0 < length (row wholes (k / 4)) = whole.1.1 in
+            let empty : length (row wholes (k / 4)) ≡ 0 = ap length none in absurd (omega arith)
       ]
 
-  pub past_rest_best : (n : ℕ) (prices table : List (List ℤ)) (k : ℕ) (single : List Start) → 4 * length wholes ≤ k → single ≡ row singles k → AreRestBest n rows single prices table k (replicate n (pos 0))
+  pub past_rest_best : (n : ℕ) (prices table : List (List ℤ)) (k : ℕ) (single : List Start) → 4 * length wholes ≤ k → single ≡ row singles k
+      → AreRestBest n rows single prices table k (replicate n (pos 0))
   past_rest_best n prices table k single past is = λ l h. record {
     reached = inl (get_or-replicate n l (pos 0) (pos 0) h);
     above = λ x c. inl (subst (λ (xs : List Start). Contains xs x) (sym is) (single_past k x past c));
   }
 
   -- whole starts fit at the last slice of their block too
-  pub whole_fits : (m b : ℕ) (whole : List Start) (w : Start) → DoRowsFit m rows → whole ≡ row wholes b → Contains whole w → (w.worth ≤ 288000000) × (w.place < m) × (w.after + 3 ≤ length rows)
+  pub whole_fits : (m b : ℕ) (whole : List Start) (w : Start) → DoRowsFit m rows → whole ≡ row wholes b → Contains whole w
+      → (w.worth ≤ 288000000) × (w.place < m) × (w.after + 3 ≤ length rows)
   whole_fits m b whole w fit is c =
       let here : Contains (row wholes b) w = subst (λ (ws : List Start). Contains ws w) is c in
       let fits = fit (4 * b + 3) (later 3 w) (cover.whole b 3 (later 3 w) (omega arith) (w, here, refl)) in
       (fits.worth, fits.place, fits.within)
 
-  module _ (m : ℕ) (fit : DoRowsFit m rows) (prices old new : List (List ℤ)) (b : ℕ) (count : length old ≡ length rows + 1) (kept : length new ≡ length rows + 1) (same : (k : ℕ) → 4 * b + 4 ≤ k → slice_index_or new k [] ≡ slice_index_or old k []) where
+  module _ (m : ℕ) (fit : DoRowsFit m rows) (prices old new : List (List ℤ)) (b : ℕ) (count : length old ≡ length rows + 1)
+      (kept : length new ≡ length rows + 1) (same : (k : ℕ) → 4 * b + 4 ≤ k → slice_index_or new k [] ≡ slice_index_or old k []) where
     entry_same : (l k : ℕ) → 4 * b + 4 ≤ k → k ≤ length rows → entry (lane l new) k ≡ entry (lane l old) k
-    entry_same l k from within = get_or-map (number_in l) new k [] (pos 0) (omega arith) ∙ ap (number_in l) (same k from) ∙ sym (get_or-map (number_in l) old k [] (pos 0) (omega arith))
+    entry_same l k from within = get_or-map (number_in l) new k [] (pos 0) (omega arith) ∙ ap (number_in l) (same k from)
+        ∙ sym (get_or-map (number_in l) old k [] (pos 0) (omega arith))
 
     whole_same : (l j : ℕ) (x : Start) → j < 4 → IsWholeAt (row wholes b) j x → gain (lane l prices) (lane l new) x ≡ gain (lane l prices) (lane l old) x
     whole_same l j x below whole =
@@ -62,7 +68,8 @@ module _ (rows wholes singles : List (List Start)) (cover : IsCover rows wholes 
       above = λ x c. elim (cover.complete b j x below (subst (λ (i : ℕ). Contains (row rows i) x) at c)) [
         | inl one ↦ inl (subst (λ (xs : List Start). Contains xs x) (ap (row singles) (sym at) ∙ sym alone) one)
         | inr of ↦
-            let most_here : gain (lane l prices) (lane l old) x ≤ℤ number_in l best = (most l h).each x (subst (λ (ws : List Start). IsWholeAt ws j x) (sym is) of) in
+            let most_here : gain (lane l prices) (lane l old) x ≤ℤ number_in l best =
+            (most l h).each x (subst (λ (ws : List Start). IsWholeAt ws j x) (sym is) of) in
             let e : gain (lane l prices) (lane l new) x ≡ gain (lane l prices) (lane l old) x = whole_same l j x below of in
             inr (omega (arith, ints))
       ];

@@ -1,5 +1,6 @@
 -- Lists of whole and of single starts, as they grow.
-use Rattle.std.proofs.Common.{◌≡◌, ℕ, ◌+◌, ◌*◌, ◌/◌, ◌%◌, ◌<◌, ◌≤◌, ◌⊎◌, inl, inr, List, [], ◌∷◌, ◌++◌, length, slice_index_or, take, All, Contains, refl, sym, ◌∙◌, ap, subst, arith}
+use Rattle.std.proofs.Common.{◌≡◌, ℕ, ◌+◌, ◌*◌, ◌/◌, ◌%◌, ◌<◌, ◌≤◌, ◌⊎◌, inl, inr, List, [], ◌∷◌, ◌++◌, length, slice_index_or, take, All, Contains}
+use Rattle.std.proofs.Common.{refl, sym, ◌∙◌, ap, subst, arith}
 use Rattle.std.proofs.lemmas.List.{get_or_default, get_or_past, get_or_append_left, get_or_push, length_push}
 use Rattle.std.proofs.lemmas.List.Elements.{All-contains, Contains-append_left, Contains-push, Contains-push_cases}
 use Rattle.interval_solver.specs.declared.start.Start.{Start}
@@ -29,12 +30,14 @@ before_at_past k n = grind arith
 pub wholes_none : (rows : List (List Start)) → AreWholes rows [] 0
 wholes_none rows = record { count = refl; each = λ b w c. absurd (none_in w (row [] b) refl c) }
 
-pub wholes_more : (rows wholes : List (List Start)) (n : ℕ) (found : List Start) → All (IsWholeIn rows n) found → AreWholes rows wholes n → AreWholes rows (wholes ++ found ∷ []) (n + 1)
+pub wholes_more : (rows wholes : List (List Start)) (n : ℕ) (found : List Start) → All (IsWholeIn rows n) found → AreWholes rows wholes n
+    → AreWholes rows (wholes ++ found ∷ []) (n + 1)
 wholes_more rows wholes n found all old = record {
   count = length_push wholes found ∙ ap (λ (k : ℕ). k + 1) old.count;
   each = λ b w c. elim (before_at_past b n) [
     | inl (inl before) ↦ old.each b w (subst (λ (xs : List Start). Contains xs w) (row_before wholes found b (omega (arith, old.count))) c)
-    | inl (inr at) ↦ subst (λ (k : ℕ). IsWholeIn rows k w) at (All-contains (IsWholeIn rows n) found w all (subst (λ (xs : List Start). Contains xs w) (row_at wholes found b (old.count ∙ at)) c))
+    | inl (inr at) ↦ subst (λ (k : ℕ). IsWholeIn rows k w) at
+        (All-contains (IsWholeIn rows n) found w all (subst (λ (xs : List Start). Contains xs w) (row_at wholes found b (old.count ∙ at)) c))
     | inr past ↦ absurd (none_in w (row (wholes ++ found ∷ []) b) (row_past wholes found b (omega (arith, old.count))) c)
   ];
 }
@@ -74,11 +77,14 @@ module _ (xs wholes : List Start) (i j : ℕ) (d : Start) (l : i < length xs) (f
 pub singles_none : (rows wholes : List (List Start)) → AreSingles rows wholes [] 0
 singles_none rows wholes = record { count = refl; each = λ b j less l. absurd (omega arith) }
 
-pub singles_more : (rows wholes singles : List (List Start)) (n : ℕ) (found : List Start) → AreSinglesOf (row rows n) (row wholes (n / 4)) (n % 4) found → AreSingles rows wholes singles n → AreSingles rows wholes (singles ++ found ∷ []) (n + 1)
+pub singles_more : (rows wholes singles : List (List Start)) (n : ℕ) (found : List Start)
+    → AreSinglesOf (row rows n) (row wholes (n / 4)) (n % 4) found → AreSingles rows wholes singles n
+    → AreSingles rows wholes (singles ++ found ∷ []) (n + 1)
 singles_more rows wholes singles n found here old = record {
   count = length_push singles found ∙ ap (λ (k : ℕ). k + 1) old.count;
   each = λ b j less l. elim (before_at_past (4 * b + j) n) [
-    | inl (inl before) ↦ subst (AreSinglesOf (row rows (4 * b + j)) (row wholes b) j) (sym (row_before singles found (4 * b + j) (omega (arith, old.count)))) (old.each b j less before)
+    | inl (inl before) ↦ subst (AreSinglesOf (row rows (4 * b + j)) (row wholes b) j)
+        (sym (row_before singles found (4 * b + j) (omega (arith, old.count)))) (old.each b j less before)
     | inl (inr at) ↦
         let block : n / 4 ≡ b = omega arith in
         let slice : n % 4 ≡ j = omega arith in
@@ -92,14 +98,16 @@ singles_more rows wholes singles n found here old = record {
 
 -- ---- all rows are covered
 
-pub covered : (rows wholes singles : List (List Start)) → AreWholes rows wholes (length rows / 4) → AreSingles rows wholes singles (length rows) → IsCover rows wholes singles
+pub covered : (rows wholes singles : List (List Start)) → AreWholes rows wholes (length rows / 4) → AreSingles rows wholes singles (length rows)
+    → IsCover rows wholes singles
 covered rows wholes singles w s = record {
   count = s.count;
   blocks = omega (arith, w.count);
   single = λ k x c. elim (before_at_past k (length rows)) [
     | inl (inl before) ↦
         let at : k ≡ 4 * (k / 4) + k % 4 = omega arith in
-        subst (λ (i : ℕ). Contains (row rows i) x) (sym at) ((s.each (k / 4) (k % 4) (omega arith) (omega arith)).within x (subst (λ (i : ℕ). Contains (row singles i) x) at c))
+        subst (λ (i : ℕ). Contains (row rows i) x) (sym at)
+        ((s.each (k / 4) (k % 4) (omega arith) (omega arith)).within x (subst (λ (i : ℕ). Contains (row singles i) x) at c))
     | inl (inr end) ↦ absurd (none_in x (row singles k) (get_or_past singles k [] (omega (arith, s.count))) c)
     | inr past ↦ absurd (none_in x (row singles k) (get_or_past singles k [] (omega (arith, s.count))) c)
   ];
@@ -118,7 +126,8 @@ zero_to_three : (j : ℕ) → j < 4 → (((j ≡ 0) ⊎ (j ≡ 1)) ⊎ (j ≡ 2)
 zero_to_three j l = grind arith
 
 pub whole_in : (rows : List (List Start)) (b : ℕ) (w : Start) → 4 * b + 4 ≤ w.after → Contains (row rows (4 * b)) w
-    → Contains (row rows (4 * b + 1)) (later 1 w) → Contains (row rows (4 * b + 2)) (later 2 w) → Contains (row rows (4 * b + 3)) (later 3 w) → IsWholeIn rows b w
+    → Contains (row rows (4 * b + 1)) (later 1 w) → Contains (row rows (4 * b + 2)) (later 2 w)
+    → Contains (row rows (4 * b + 3)) (later 3 w) → IsWholeIn rows b w
 whole_in rows b w apart first second third fourth = record {
   apart = apart;
   all = λ j less. elim (zero_to_three j less) [

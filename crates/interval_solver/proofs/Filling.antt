@@ -1,5 +1,6 @@
 -- Tables of one lane, as they are filled.
-use Rattle.std.proofs.Common.{◌≡◌, ◌≢◌, ℕ, ◌+◌, ◌-◌, ◌*◌, ◌<◌, ◌≤◌, ◌⊎◌, inl, inr, ℤ, pos, ◌+ℤ◌, ◌-ℤ◌, ◌≤ℤ◌, List, length, slice_index_or, slice_set, All, Contains, sym, ◌∙◌, ap, subst, get_or-set_other, get_or-set_same, arith}
+use Rattle.std.proofs.Common.{◌≡◌, ◌≢◌, ℕ, ◌+◌, ◌-◌, ◌*◌, ◌<◌, ◌≤◌, ◌⊎◌, inl, inr, ℤ, pos, ◌+ℤ◌, ◌-ℤ◌, ◌≤ℤ◌, List, length, slice_index_or, slice_set}
+use Rattle.std.proofs.Common.{All, Contains, sym, ◌∙◌, ap, subst, get_or-set_other, get_or-set_same, arith}
 use Rattle.std.proofs.lemmas.Int.{ints}
 use Rattle.std.proofs.lemmas.List.{get_or_past}
 use Rattle.interval_solver.specs.declared.start.Start.{Start}
@@ -39,7 +40,8 @@ filled_at_end rows prices table zero = record {
   each = λ j h l. absurd (omega arith);
 }
 
-module _ (rows : List (List Start)) (prices table : List ℤ) (k : ℕ) (b : ℤ) (h : k < length rows) (count : length table ≡ length rows + 1) (range : All IsPriceInRange prices) (fit : DoRowsFit (length prices) rows) (filled : IsFilledFrom rows prices table (k + 1)) where
+module _ (rows : List (List Start)) (prices table : List ℤ) (k : ℕ) (b : ℤ) (h : k < length rows) (count : length table ≡ length rows + 1)
+    (range : All IsPriceInRange prices) (fit : DoRowsFit (length prices) rows) (filled : IsFilledFrom rows prices table (k + 1)) where
   other : (j : ℕ) → j ≢ k → entry (slice_set table k b) j ≡ entry table j
   other j ne = get_or-set_other table k j b (pos 0) ne
 
@@ -55,7 +57,8 @@ module _ (rows : List (List Start)) (prices table : List ℤ) (k : ℕ) (b : ℤ
       let next : entry (slice_set table k b) (j + 1) ≡ entry table (j + 1) = other (j + 1) (λ e. omega arith) in
       record {
         falling = let f : entry table (j + 1) ≤ℤ entry table j = g.falling in omega (arith, ints);
-        above = λ x c. let f : gain prices table x ≤ℤ entry table j = g.above x c in let e : gain prices (slice_set table k b) x ≡ gain prices table x = after_same j x (omega arith) c in omega (arith, ints);
+        above = λ x c. let f : gain prices table x ≤ℤ entry table j = g.above x c in
+            let e : gain prices (slice_set table k b) x ≡ gain prices table x = after_same j x (omega arith) c in omega (arith, ints);
         reached = elim g.reached [ inl e ↦ inl (same ∙ e ∙ sym next) | inr s ↦ inr (s.0, s.1, same ∙ s.2 ∙ sym (after_same j s.0 (omega arith) s.1)) ];
       }
 
@@ -74,7 +77,8 @@ module _ (rows : List (List Start)) (prices table : List ℤ) (k : ℕ) (b : ℤ
 
     most_high : b ≤ℤ pos ((length rows - k) * 1000288000000)
     most_high = elim most.reached [
-      | inl e ↦ let f : entry table (k + 1) ≤ℤ pos ((length rows - (k + 1)) * 1000288000000) = filled.high (k + 1) (omega arith) (omega arith) in omega (arith, ints)
+      | inl e ↦ let f : entry table (k + 1) ≤ℤ pos ((length rows - (k + 1)) * 1000288000000) = filled.high (k + 1) (omega arith) (omega arith) in
+          omega (arith, ints)
       | inr s ↦
           let fits : IsFitting (length rows) (length prices) k s.0 = fit k s.0 s.1 in
           let f : entry table s.0.after ≤ℤ pos ((length rows - s.0.after) * 1000288000000) = filled.high s.0.after (omega (arith, fits.after)) fits.within in
@@ -98,11 +102,14 @@ module _ (rows : List (List Start)) (prices table : List ℤ) (k : ℕ) (b : ℤ
         record {
           low = λ j l m. elim (same_or_later k j l) [
             | inl e ↦ subst (λ (n : ℕ). pos 0 ≤ℤ entry (slice_set table k b) n) (sym e) (omega (arith, ints, here))
-            | inr later ↦ let f : pos 0 ≤ℤ entry table j = filled.low j later m in let same : entry (slice_set table k b) j ≡ entry table j = other j (λ e. omega arith) in omega (arith, ints)
+            | inr later ↦ let f : pos 0 ≤ℤ entry table j = filled.low j later m in
+                let same : entry (slice_set table k b) j ≡ entry table j = other j (λ e. omega arith) in omega (arith, ints)
           ];
           high = λ j l m. elim (same_or_later k j l) [
-            | inl e ↦ subst (λ (n : ℕ). entry (slice_set table k b) n ≤ℤ pos ((length rows - n) * 1000288000000)) (sym e) (let top : b ≤ℤ pos ((length rows - k) * 1000288000000) = most_high in omega (arith, ints, here))
-            | inr later ↦ let f : entry table j ≤ℤ pos ((length rows - j) * 1000288000000) = filled.high j later m in let same : entry (slice_set table k b) j ≡ entry table j = other j (λ e. omega arith) in omega (arith, ints)
+            | inl e ↦ subst (λ (n : ℕ). entry (slice_set table k b) n ≤ℤ pos ((length rows - n) * 1000288000000)) (sym e)
+                (let top : b ≤ℤ pos ((length rows - k) * 1000288000000) = most_high in omega (arith, ints, here))
+            | inr later ↦ let f : entry table j ≤ℤ pos ((length rows - j) * 1000288000000) = filled.high j later m in
+                let same : entry (slice_set table k b) j ≡ entry table j = other j (λ e. omega arith) in omega (arith, ints)
           ];
           at_end = other (length rows) (λ e. omega arith) ∙ filled.at_end;
           each = λ j l m. elim (same_or_later k j l) [

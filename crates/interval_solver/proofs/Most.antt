@@ -1,5 +1,6 @@
 -- The greatest of what starts give, as more of them are met.
-use Rattle.std.proofs.Common.{◌≡◌, ℕ, ◌+◌, ◌<◌, ◌≤◌, ◌⊎◌, inl, inr, ℤ, ◌+ℤ◌, ◌≤ℤ◌, List, [], ◌∷◌, ◌++◌, length, slice_index_or, take, Contains, refl, sym, ◌∙◌, ap, subst, arith}
+use Rattle.std.proofs.Common.{◌≡◌, ℕ, ◌+◌, ◌<◌, ◌≤◌, ◌⊎◌, inl, inr, ℤ, ◌+ℤ◌, ◌≤ℤ◌, List, [], ◌∷◌, ◌++◌, length, slice_index_or, take, Contains, refl}
+use Rattle.std.proofs.Common.{sym, ◌∙◌, ap, subst, arith}
 use Rattle.std.proofs.lemmas.Int.{ints}
 use Rattle.std.proofs.lemmas.List.{get_or_default, take_more, take_all}
 use Rattle.std.proofs.lemmas.List.Elements.{Contains-append_left, Contains-push, Contains-push_cases}
@@ -32,7 +33,8 @@ pub most_none : (P : Start → Type 0) (g : Start → ℤ) (least : ℤ) → ((y
 most_none P g least none = record { above = omega (arith, ints); each = λ y p. absurd (none y p); reached = inl refl }
 
 -- of the same starts, by what gives the same
-pub most_same : (P Q : Start → Type 0) (f g : Start → ℤ) (least most : ℤ) → ((y : Start) → P y → Q y) → ((y : Start) → Q y → P y) → ((y : Start) → P y → f y ≡ g y)
+pub most_same : (P Q : Start → Type 0) (f g : Start → ℤ) (least most : ℤ) → ((y : Start) → P y → Q y) → ((y : Start) → Q y → P y)
+    → ((y : Start) → P y → f y ≡ g y)
     → IsMostAmong P f least most → IsMostAmong Q g least most
 most_same P Q f g least most to from same old = record {
   above = old.above;
@@ -48,9 +50,11 @@ first_none xs y c = let l : c.0 < 0 = c.1 in omega arith
 pub first_more : (xs : List Start) (i : ℕ) (y : Start) → i < length xs → Contains (take i xs) y → Contains (take (i + 1) xs) y
 first_more xs i y l c = rw (take_more xs i y l) (Contains-append_left (take i xs) (slice_index_or xs i y ∷ []) y c)
 
-pub first_cases : (xs : List Start) (i : ℕ) (x y : Start) → i < length xs → x ≡ slice_index_or xs i x → Contains (take (i + 1) xs) y → Contains (take i xs) y ⊎ (y ≡ x)
+pub first_cases : (xs : List Start) (i : ℕ) (x y : Start) → i < length xs → x ≡ slice_index_or xs i x → Contains (take (i + 1) xs) y
+    → Contains (take i xs) y ⊎ (y ≡ x)
 first_cases xs i x y l at c =
-    let more : Contains (take i xs ++ x ∷ []) y = subst (λ (zs : List Start). Contains zs y) (take_more xs i x l ∙ ap (λ (z : Start). take i xs ++ z ∷ []) (sym at)) c in
+    let more : Contains (take i xs ++ x ∷ []) y =
+    subst (λ (zs : List Start). Contains zs y) (take_more xs i x l ∙ ap (λ (z : Start). take i xs ++ z ∷ []) (sym at)) c in
     elim (Contains-push_cases (take i xs) x y more) [ inl before ↦ inl before | inr same ↦ inr (sym same) ]
 
 pub first_here : (xs : List Start) (i : ℕ) (x : Start) → i < length xs → x ≡ slice_index_or xs i x → Contains (take (i + 1) xs) x
@@ -66,7 +70,8 @@ pub most_of_more : (xs : List Start) (i : ℕ) (d : Start) (g : Start → ℤ) (
 most_of_more xs i d g least most next gained l is up over one old =
     let x : Start = slice_index_or xs i d in
     let at : x ≡ slice_index_or xs i x = get_or_default xs i d x l in
-    most_more (Contains (take i xs)) (Contains (take (i + 1) xs)) g least most next gained x is up over one (λ y c. first_more xs i y l c) (λ y c. first_cases xs i x y l at c) (first_here xs i x l at) old
+    most_more (Contains (take i xs)) (Contains (take (i + 1) xs)) g least most next gained x is up over one (λ y c. first_more xs i y l c)
+    (λ y c. first_cases xs i x y l at c) (first_here xs i x l at) old
 
 -- ---- what whole starts stand for
 
@@ -98,11 +103,16 @@ module _ (prices table : List ℤ) (i : ℕ) (d : Start) (n : ℕ) (least most n
   gives : (j : ℕ) (x : Start) → n ≡ x.after + j → weight ≡ start_weight prices x → weight +ℤ entry table n ≡ gain prices table (later j x)
   gives j x at is = ap (λ (w : ℤ). w +ℤ entry table n) is ∙ ap (λ (k : ℕ). start_weight prices x +ℤ entry table k) at
 
-  pub raised_more : (xs : List Start) → i < length xs → n ≡ (slice_index_or xs i d).after → weight ≡ start_weight prices (slice_index_or xs i d) → IsLarger (weight +ℤ entry table n) most next
+  pub raised_more : (xs : List Start) → i < length xs → n ≡ (slice_index_or xs i d).after → weight ≡ start_weight prices (slice_index_or xs i d)
+      → IsLarger (weight +ℤ entry table n) most next
       → IsMostAmong (Contains (take i xs)) (gain prices table) least most → IsMostAmong (Contains (take (i + 1) xs)) (gain prices table) least next
   raised_more xs l at is larger old =
-      most_of_more xs i d (gain prices table) least most next (weight +ℤ entry table n) l (ap (λ (w : ℤ). w +ℤ entry table n) is ∙ ap (λ (k : ℕ). start_weight prices (slice_index_or xs i d) +ℤ entry table k) at) larger.second larger.first (swapped larger.one) old
+      most_of_more xs i d (gain prices table) least most next (weight +ℤ entry table n) l
+      (ap (λ (w : ℤ). w +ℤ entry table n) is ∙ ap (λ (k : ℕ). start_weight prices (slice_index_or xs i d) +ℤ entry table k) at) larger.second
+      larger.first (swapped larger.one) old
 
-  pub whole_raised_more : (ws : List Start) (j : ℕ) → i < length ws → n ≡ (slice_index_or ws i d).after + j → weight ≡ start_weight prices (slice_index_or ws i d) → IsLarger (weight +ℤ entry table n) most next
+  pub whole_raised_more : (ws : List Start) (j : ℕ) → i < length ws → n ≡ (slice_index_or ws i d).after + j
+      → weight ≡ start_weight prices (slice_index_or ws i d) → IsLarger (weight +ℤ entry table n) most next
       → IsMostAmong (IsWholeAt (take i ws) j) (gain prices table) least most → IsMostAmong (IsWholeAt (take (i + 1) ws) j) (gain prices table) least next
-  whole_raised_more ws j l at is larger old = whole_more ws i j d (gain prices table) least most next (weight +ℤ entry table n) l (gives j (slice_index_or ws i d) at is) larger.second larger.first (swapped larger.one) old
+  whole_raised_more ws j l at is larger old = whole_more ws i j d (gain prices table) least most next (weight +ℤ entry table n) l
+      (gives j (slice_index_or ws i d) at is) larger.second larger.first (swapped larger.one) old

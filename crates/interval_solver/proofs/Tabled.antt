@@ -34,7 +34,8 @@ module _ (s : Parts) (t : ℕ) (rows : List (List Start)) (orderly : IsOrderly s
 
   module _ (prices : List ℤ) where
     weight_is : (p : Placement) (x : Start) → IsToldBy s p x → start_weight prices x ≡ weight s prices p
-    weight_is p x told = ap (λ (n : ℕ). pos n -ℤ slice_index_or prices x.place (pos 0)) told.worth ∙ ap (λ (n : ℕ). pos (worth_at s p) -ℤ slice_index_or prices n (pos 0)) told.place
+    weight_is p x told = ap (λ (n : ℕ). pos n -ℤ slice_index_or prices x.place (pos 0)) told.worth
+        ∙ ap (λ (n : ℕ). pos (worth_at s p) -ℤ slice_index_or prices n (pos 0)) told.place
 
     -- the row's start is the possible start, at the prices
     told_so : (p : Placement) (x : Start) → IsToldBy s p x → IsRowStart s prices (start_weight prices) (λ y. y.after) p x

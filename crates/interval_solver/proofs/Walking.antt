@@ -1,5 +1,6 @@
 -- What a telescope starts, read off a table over its starts.
-use Rattle.std.proofs.Common.{◌≡◌, ◌≢◌, ℕ, ◌+◌, ◌-◌, ◌<◌, ◌≤◌, ◌⊎◌, inl, inr, ℤ, List, [], ◌∷◌, ◌++◌, length, slice_index_or, Contains, refl, sym, ◌∙◌, ap, subst, arith}
+use Rattle.std.proofs.Common.{◌≡◌, ◌≢◌, ℕ, ◌+◌, ◌-◌, ◌<◌, ◌≤◌, ◌⊎◌, inl, inr, ℤ, List, [], ◌∷◌, ◌++◌, length, slice_index_or, Contains, refl, sym, ◌∙◌}
+use Rattle.std.proofs.Common.{ap, subst, arith}
 use Rattle.std.proofs.lemmas.List.{get_or_default, append_assoc, append-nil}
 use Rattle.plan_base.specs.declared.parts.Parts.{Parts}
 use Rattle.plan_base.specs.declared.claim.Placement.{Placement}
@@ -31,7 +32,8 @@ idle_joined s prices t k j n first then i from below = elim (below_or_from i j) 
     below_or_from a b = grind arith
 
 -- idle slices may stand before a canonical list
-idle_then : (s : Parts) (prices : List ℤ) (t k j : ℕ) (ps : List Placement) → k ≤ j → IsIdleUpTo s prices t k j → IsCanonicalFrom s prices t j ps → IsCanonicalFrom s prices t k ps
+idle_then : (s : Parts) (prices : List ℤ) (t k j : ℕ) (ps : List Placement) → k ≤ j → IsIdleUpTo s prices t k j → IsCanonicalFrom s prices t j ps
+    → IsCanonicalFrom s prices t k ps
 idle_then s prices t k j [] l idle h = idle_joined s prices t k j (s.first.0 + s.slices) idle h
 idle_then s prices t k j (p ∷ ps) l idle (from, then, starts, rest) = (omega arith, idle_joined s prices t k j p.slice.0 idle then, starts, rest)
 
@@ -54,17 +56,20 @@ number_most s a b orderly known also most = elim (below_same_above (place_of s a
   | inr same ↦ let one : a ≡ b = same_number s a b known also same in omega arith
 ]
 
-module _ (s : Parts) (t : TelescopeNo) (rows : List (List Start)) (orderly : IsOrderly s) (listing : IsListing s t.0 (IsPossibleStart s) rows) (prices table : List ℤ) (recursion : IsRecursion rows prices table) where
+module _ (s : Parts) (t : TelescopeNo) (rows : List (List Start)) (orderly : IsOrderly s) (listing : IsListing s t.0 (IsPossibleStart s) rows)
+    (prices table : List ℤ) (recursion : IsRecursion rows prices table) where
   idle_row : (k : ℕ) → s.first.0 ≤ k → k < horizon_end s → entry table (k - s.first.0) ≡ entry table (k - s.first.0 + 1) → IsIdle s prices t.0 k
   idle_row k from below e =
-      idle_from_table s prices t.0 orderly (from_slice s t.0 rows orderly listing prices table recursion) (is_table s t.0 rows orderly listing prices table recursion) k from below
+      idle_from_table s prices t.0 orderly (from_slice s t.0 rows orderly listing prices table recursion)
+      (is_table s t.0 rows orderly listing prices table recursion) k from below
       (e ∙ ap (entry table) (omega arith))
 
   flat_row : (i : ℕ) → i < length rows → IsIdle s prices t.0 (s.first.0 + i) → entry table i ≡ entry table (i + 1)
   flat_row i l idle =
       let count : length rows ≡ s.slices = listing.count in
       ap (entry table) (omega arith)
-      ∙ table_from_idle s prices t.0 orderly (from_slice s t.0 rows orderly listing prices table recursion) (is_table s t.0 rows orderly listing prices table recursion) (s.first.0 + i) (omega arith) (omega arith) idle
+      ∙ table_from_idle s prices t.0 orderly (from_slice s t.0 rows orderly listing prices table recursion)
+      (is_table s t.0 rows orderly listing prices table recursion) (s.first.0 + i) (omega arith) (omega arith) idle
       ∙ ap (entry table) (omega arith)
 
   -- where rows stay the same, slices are idle
@@ -77,29 +82,37 @@ module _ (s : Parts) (t : TelescopeNo) (rows : List (List Start)) (orderly : IsO
   busy_row i l differ idle = differ (flat_row i l idle)
 
   -- what a row tells of is the start that is placed at it, where q is the request at its place
-  at_row : (i : ℕ) (x : Start) (q : RequestPart) (p : Placement) → IsHere s x.place q → IsStartAt s t.0 (IsPossibleStart s) i x p → p ≡ placed_at s t i q.request
+  at_row : (i : ℕ) (x : Start) (q : RequestPart) (p : Placement) → IsHere s x.place q → IsStartAt s t.0 (IsPossibleStart s) i x p
+      → p ≡ placed_at s t i q.request
   at_row i x q p here h =
-      same_placement p (placed_at s t i q.request) (same_number s p.request.0 q.request.0 h.start.possible.known here.known (sym h.told.place ∙ sym here.at)) h.start.same_telescope h.at
+      same_placement p (placed_at s t i q.request)
+      (same_number s p.request.0 q.request.0 h.start.possible.known here.known (sym h.told.place ∙ sym here.at)) h.start.same_telescope h.at
 
-  start_at_row : (i : ℕ) (x : Start) (q : RequestPart) → IsHere s x.place q → Contains (row rows i) x → IsStartAt s t.0 (IsPossibleStart s) i x (placed_at s t i q.request)
+  start_at_row : (i : ℕ) (x : Start) (q : RequestPart) → IsHere s x.place q → Contains (row rows i) x
+      → IsStartAt s t.0 (IsPossibleStart s) i x (placed_at s t i q.request)
   start_at_row i x q here has = let p = listing.possible i x has in subst (IsStartAt s t.0 (IsPossibleStart s) i x) (at_row i x q p.0 here p.1) p.1
 
-  tight_row : (i : ℕ) (x : Start) (q : RequestPart) → IsHere s x.place q → Contains (row rows i) x → gain prices table x ≡ entry table i → IsTight s prices t.0 (placed_at s t i q.request)
+  tight_row : (i : ℕ) (x : Start) (q : RequestPart) → IsHere s x.place q → Contains (row rows i) x → gain prices table x ≡ entry table i
+      → IsTight s prices t.0 (placed_at s t i q.request)
   tight_row i x q here has e =
       let h = start_at_row i x q here has in
-      tight_from_table s prices t.0 orderly (from_slice s t.0 rows orderly listing prices table recursion) (is_table s t.0 rows orderly listing prices table recursion) (placed_at s t i q.request)
+      tight_from_table s prices t.0 orderly (from_slice s t.0 rows orderly listing prices table recursion)
+      (is_table s t.0 rows orderly listing prices table recursion) (placed_at s t i q.request)
       (record { possible = h.start.possible; same_telescope = refl })
       (ap (entry table) (omega arith) ∙ sym e ∙ gain_is s t.0 rows orderly listing prices table recursion (placed_at s t i q.request) x h.told)
 
-  gain_from_tight : (i : ℕ) (p : Placement) (y : Start) → IsPossibleStart s p → p.telescope ≡ t → p.slice.0 ≡ s.first.0 + i → IsToldBy s p y → IsTight s prices t.0 p → gain prices table y ≡ entry table i
+  gain_from_tight : (i : ℕ) (p : Placement) (y : Start) → IsPossibleStart s p → p.telescope ≡ t → p.slice.0 ≡ s.first.0 + i → IsToldBy s p y
+      → IsTight s prices t.0 p → gain prices table y ≡ entry table i
   gain_from_tight i p y possible on at told tight =
       gain_is s t.0 rows orderly listing prices table recursion p y told
-      ∙ sym (table_from_tight s prices t.0 orderly (from_slice s t.0 rows orderly listing prices table recursion) (is_table s t.0 rows orderly listing prices table recursion) p
+      ∙ sym (table_from_tight s prices t.0 orderly (from_slice s t.0 rows orderly listing prices table recursion)
+      (is_table s t.0 rows orderly listing prices table recursion) p
       (record { possible = possible; same_telescope = ap (λ (u : TelescopeNo). u.0) on }) tight)
       ∙ ap (entry table) (omega arith)
 
   -- no start of a row that gives as much is of a lower place than the first
-  lowest_in_row : (i : ℕ) (x y : Start) → IsFirstTight prices table (entry table i) (row rows i) x → Contains (row rows i) y → gain prices table y ≡ entry table i → x.place ≤ y.place
+  lowest_in_row : (i : ℕ) (x y : Start) → IsFirstTight prices table (entry table i) (row rows i) x → Contains (row rows i) y
+      → gain prices table y ≡ entry table i → x.place ≤ y.place
   lowest_in_row i x y first (j, m, at) gives = elim (below_same_above j first.place) [
     | inl (inl before) ↦ absurd (first.first j before (ap (gain prices table) (get_or_default (row rows i) j x y m ∙ at) ∙ gives))
     | inl (inr after) ↦
@@ -116,7 +129,8 @@ module _ (s : Parts) (t : TelescopeNo) (rows : List (List Start)) (orderly : IsO
   first_in_row i x first = (first.place, first.within, first.at)
 
   -- where the table changes, the first start that gives its number starts
-  starts_lowest : (i : ℕ) (x : Start) (q : RequestPart) → IsHere s x.place q → i < length rows → entry table i ≢ entry table (i + 1) → IsFirstTight prices table (entry table i) (row rows i) x → StartsLowest s prices t.0 (placed_at s t i q.request)
+  starts_lowest : (i : ℕ) (x : Start) (q : RequestPart) → IsHere s x.place q → i < length rows → entry table i ≢ entry table (i + 1)
+      → IsFirstTight prices table (entry table i) (row rows i) x → StartsLowest s prices t.0 (placed_at s t i q.request)
   starts_lowest i x q here l differ first =
       let h = start_at_row i x q here (first_in_row i x first) in
       record {
@@ -135,12 +149,15 @@ module _ (s : Parts) (t : TelescopeNo) (rows : List (List Start)) (orderly : IsO
       }
 
   -- where the table changes, a start gives its number
-  pub tight_reached : (i : ℕ) → i < length rows → entry table i ≢ entry table (i + 1) → (x : Start) × Contains (row rows i) x × (gain prices table x ≡ entry table i)
+  pub tight_reached : (i : ℕ) → i < length rows → entry table i ≢ entry table (i + 1) → (x : Start) × Contains (row rows i) x
+      × (gain prices table x ≡ entry table i)
   tight_reached i l differ = elim ((recursion.each i l).reached) [ inl e ↦ absurd (differ e) | inr (x, has, e) ↦ (x, has, sym e) ]
 
   -- what was read as the row and its number
-  pub first_read : (i : ℕ) (b : ℤ) (xs : List Start) (x : Start) → xs ≡ row rows i → b ≡ entry table i → IsFirstTight prices table b xs x → IsFirstTight prices table (entry table i) (row rows i) x
-  first_read i b xs x same number first = subst (λ (n : ℤ). IsFirstTight prices table n (row rows i) x) number (subst (λ (ys : List Start). IsFirstTight prices table b ys x) same first)
+  pub first_read : (i : ℕ) (b : ℤ) (xs : List Start) (x : Start) → xs ≡ row rows i → b ≡ entry table i → IsFirstTight prices table b xs x
+      → IsFirstTight prices table (entry table i) (row rows i) x
+  first_read i b xs x same number first =
+      subst (λ (n : ℤ). IsFirstTight prices table n (row rows i) x) number (subst (λ (ys : List Start). IsFirstTight prices table b ys x) same first)
 
   -- a start in a row ends after it and within the rows, and its place is that of a request
   pub row_ends : (i : ℕ) (x : Start) → Contains (row rows i) x → (i < x.after) × (x.after ≤ length rows) × (x.place < length (listed s))
@@ -148,18 +165,26 @@ module _ (s : Parts) (t : TelescopeNo) (rows : List (List Start)) (orderly : IsO
 
   -- the walk begins
   pub walk_begins : (i : ℕ) → i ≤ length rows → IsFlat table 0 i → IsWalked s prices t.0 i []
-  walk_begins i l flat = record { whole = λ ps h. idle_then s prices t.0 s.first.0 (s.first.0 + i) ps (omega arith) (subst (λ (k : ℕ). IsIdleUpTo s prices t.0 k (s.first.0 + i)) (omega arith) (idle_rows 0 i l flat)) h }
+  walk_begins i l flat = record {
+    whole = λ ps h. idle_then s prices t.0 s.first.0 (s.first.0 + i) ps (omega arith)
+        (subst (λ (k : ℕ). IsIdleUpTo s prices t.0 k (s.first.0 + i)) (omega arith) (idle_rows 0 i l flat)) h;
+  }
 
   -- it goes on with the first start that gives the table's number
-  pub walk_goes_on : (i j : ℕ) (x : Start) (q : RequestPart) (starts : List Placement) → IsHere s x.place q → i < length rows → entry table i ≢ entry table (i + 1) → IsFirstTight prices table (entry table i) (row rows i) x
-      → x.after ≤ j → j ≤ length rows → IsFlat table x.after j → IsWalked s prices t.0 i starts → IsWalked s prices t.0 j (starts ++ placed_at s t i q.request ∷ [])
+  pub walk_goes_on : (i j : ℕ) (x : Start) (q : RequestPart) (starts : List Placement) → IsHere s x.place q → i < length rows
+      → entry table i ≢ entry table (i + 1) → IsFirstTight prices table (entry table i) (row rows i) x
+      → x.after ≤ j → j ≤ length rows → IsFlat table x.after j → IsWalked s prices t.0 i starts
+      → IsWalked s prices t.0 j (starts ++ placed_at s t i q.request ∷ [])
   walk_goes_on i j x q starts here l differ first from within flat walked = record {
     whole = λ ps h.
         let p : Placement = placed_at s t i q.request in
         let told = (start_at_row i x q here (first_in_row i x first)).told in
         let ends : s.first.0 + x.after ≡ slice_after s p = told.after in
-        let rest : IsCanonicalFrom s prices t.0 (slice_after s p) ps = subst (λ (k : ℕ). IsCanonicalFrom s prices t.0 k ps) ends (idle_then s prices t.0 (s.first.0 + x.after) (s.first.0 + j) ps (omega arith) (idle_rows x.after j within flat) h) in
-        let one : IsCanonicalFrom s prices t.0 (s.first.0 + i) (p ∷ ps) = (omega arith, (λ k a b. absurd (omega arith)), starts_lowest i x q here l differ first, rest) in
+        let rest : IsCanonicalFrom s prices t.0 (slice_after s p) ps =
+        subst (λ (k : ℕ). IsCanonicalFrom s prices t.0 k ps) ends
+        (idle_then s prices t.0 (s.first.0 + x.after) (s.first.0 + j) ps (omega arith) (idle_rows x.after j within flat) h) in
+        let one : IsCanonicalFrom s prices t.0 (s.first.0 + i) (p ∷ ps) =
+        (omega arith, (λ k a b. absurd (omega arith)), starts_lowest i x q here l differ first, rest) in
         subst (IsCanonicalUse s prices t.0) (sym (append_assoc starts (p ∷ []) ps)) (walked.whole (p ∷ ps) one);
   }
 

@@ -32,7 +32,9 @@ module _ {X : Type 0} (g : X → ℕ) (xs : List X) (a n : ℕ) (x : X) (lt : n 
       (λ no. subst (Contains (a ∷ map g (take (n + 1) xs))) (let e : g (slice_index_or xs n x) ≡ max b (g (slice_index_or xs n x)) = omega arith in e) new)
 
   pub min_among : (b d m : ℕ) → x ≡ slice_index_or xs n x → d ≡ g x → m ≡ min b d → Contains so_far b → Contains (a ∷ map g (take (n + 1) xs)) m
-  min_among b d m is number least c = subst (Contains (a ∷ map g (take (n + 1) xs))) (ap (λ (i : ℕ). min b i) (sym (number ∙ ap g is)) ∙ sym least) (among_min b c)
+  min_among b d m is number least c =
+      subst (Contains (a ∷ map g (take (n + 1) xs))) (ap (λ (i : ℕ). min b i) (sym (number ∙ ap g is)) ∙ sym least) (among_min b c)
 
   pub max_among : (b d m : ℕ) → x ≡ slice_index_or xs n x → d ≡ g x → m ≡ max b d → Contains so_far b → Contains (a ∷ map g (take (n + 1) xs)) m
-  max_among b d m is number greatest c = subst (Contains (a ∷ map g (take (n + 1) xs))) (ap (λ (i : ℕ). max b i) (sym (number ∙ ap g is)) ∙ sym greatest) (among_max b c)
+  max_among b d m is number greatest c =
+      subst (Contains (a ∷ map g (take (n + 1) xs))) (ap (λ (i : ℕ). max b i) (sym (number ∙ ap g is)) ∙ sym greatest) (among_max b c)

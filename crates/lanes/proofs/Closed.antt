@@ -60,7 +60,8 @@ pub record IsClosed (v : SeatView) : Type 0 where
   pub count : ℕ
   pub claimed : EachOnce count (λ number. times number v.claims)
 
-module _ (s : Parts) (settings : Settings) (greedy : List Placement) (v : SeatView) (f : FoundSeen) (orderly : IsOrderly s) (range : IsInRange settings) (is_greedy : IsGreedy s greedy)
+module _ (s : Parts) (settings : Settings) (greedy : List Placement) (v : SeatView) (f : FoundSeen) (orderly : IsOrderly s)
+    (range : IsInRange settings) (is_greedy : IsGreedy s greedy)
     (x : IsSearched s settings (value_of_plan s greedy) greedy v f) (ended : IsEnded settings v) (closed : IsClosed v) where
   bound_under : f.bound ≤ v.least_given
   bound_under = elim x.bound_given [
@@ -81,7 +82,8 @@ module _ (s : Parts) (settings : Settings) (greedy : List Placement) (v : SeatVi
   met m = let a = bound_under in let b = value_over in let c = closed.bound in let d = closed.value in omega arith
 
   was_claimed : (j : ℕ) → Contains v.claims j → j < closed.count
-  was_claimed j c = dite (dec_lt j closed.count) (λ yes. yes) (λ no. (let none = (closed.claimed j).1 (omega arith) in let some = times_from j v.claims c in absurd (omega arith)))
+  was_claimed j c = dite (dec_lt j closed.count) (λ yes. yes)
+      (λ no. (let none = (closed.claimed j).1 (omega arith) in let some = times_from j v.claims c in absurd (omega arith)))
 
   claimed_below : (j : ℕ) → j < closed.count → Contains v.claims j
   claimed_below j lt = from_times j v.claims (let one = (closed.claimed j).0 lt in omega arith)
@@ -130,12 +132,14 @@ rest_of P xs ys x is all i d lt =
     subst P (get_or_append_left ys (x ∷ []) d i lt) (subst (All P) is all i d (omega arith))
 
 -- one worker's lanes are put to what others have found
-pub gathered_one : (L : ℕ) (s : Parts) (settings : Settings) (opening : ℕ) (greedy : List Placement) (v u : SeatView) (f : FoundSeen) (w : Worker L) (left : ℕ) → IsOrderly s
+pub gathered_one : (L : ℕ) (s : Parts) (settings : Settings) (opening : ℕ) (greedy : List Placement) (v u : SeatView) (f : FoundSeen)
+    (w : Worker L) (left : ℕ) → IsOrderly s
     → HasWorked L s settings opening w → IsGathering s settings opening greedy v f (left + 1) → u ≡ joined v (view w.seat)
     → IsGathering s settings opening greedy u (bettered f w.found) left
 gathered_one L s settings opening greedy v u f w left orderly worked h is =
     let few : left + 1 ≤ settings.workers = h.most in
-    let y : IsSearched s settings opening [] (view w.seat) w.found = subst (λ (p : Parts). IsSearched p settings opening [] (view w.seat) w.found) worked.snapshot
+    let y : IsSearched s settings opening [] (view w.seat) w.found =
+    subst (λ (p : Parts). IsSearched p settings opening [] (view w.seat) w.found) worked.snapshot
     (subst (λ (x : Settings). IsSearched w.steps.snapshot x opening [] (view w.seat) w.found) worked.settings
     (subst (λ (n : ℕ). IsSearched w.steps.snapshot w.settings n [] (view w.seat) w.found) worked.opening worked.done.searched)) in
     let alone : settings.workers ≡ 1 → v.claims ≡ [] = λ one. h.none_yet (omega arith) in
@@ -149,7 +153,8 @@ gathered_one L s settings opening greedy v u f w left orderly worked h is =
     })
 
 -- a worker that was new has worked
-pub has_worked : (L : ℕ) (board : Board) (s : Parts) (settings : Settings) (opening : ℕ) (w u : Worker L) → IsNew L s settings opening w → HasDoneWork L board w u → HasWorked L s settings opening u
+pub has_worked : (L : ℕ) (board : Board) (s : Parts) (settings : Settings) (opening : ℕ) (w u : Worker L) → IsNew L s settings opening w
+    → HasDoneWork L board w u → HasWorked L s settings opening u
 has_worked L board s settings opening w u new work = record {
   done = work.done;
   snapshot = work.same.snapshot ∙ new.snapshot;

@@ -39,7 +39,8 @@ pub record IsAllFound (s : Parts) (settings : Settings) (made : ℕ → ℕ → 
   pub found : IsFound s settings.workers made (value_of_plan s greedy) greedy f
   pub settled : (j : ℕ) → j < settings.lanes → IsSettled s settings made (value_of_plan s greedy) f.bound f.value j
 
-module _ (s : Parts) (settings : Settings) (made : ℕ → ℕ → Type 0) (greedy : List Placement) (f : FoundSeen) (orderly : IsOrderly s) (x : IsAllFound s settings made greedy f) where
+module _ (s : Parts) (settings : Settings) (made : ℕ → ℕ → Type 0) (greedy : List Placement) (f : FoundSeen) (orderly : IsOrderly s)
+    (x : IsAllFound s settings made greedy f) where
   pub worth : value_of_plan s f.plan ≡ f.value
   worth = elim x.found.value.reached [ inl o ↦ ap (value_of_plan s) o.1 ∙ sym o.0 | inr y ↦ y.1.reached.worth ]
 
@@ -49,7 +50,11 @@ module _ (s : Parts) (settings : Settings) (made : ℕ → ℕ → Type 0) (gree
   -- some round was made
   pub least : IsLeastMade s settings.workers made f.bound f.prices f.quota_prices
   least = elim x.found.bound [
-    | inl none ↦ elim (x.settled 0 x.some_lanes) [ inl all ↦ absurd (none.0 0 0 (all 0 x.some_rounds)) | inr met ↦ (let l = below_limit in let n = none.1 in let m = met.0 in absurd (omega arith)) ]
+    | inl none ↦ elim (x.settled 0 x.some_lanes) [
+      | inl all ↦ absurd (none.0 0 0 (all 0 x.some_rounds))
+      | inr met ↦ (let l = below_limit in let n = none.1 in
+          let m = met.0 in absurd (omega arith))
+    ]
     | inr l ↦ l
   ]
 
@@ -68,7 +73,8 @@ module _ (s : Parts) (settings : Settings) (made : ℕ → ℕ → Type 0) (gree
 
   above_all : (j k v : ℕ) (plan : List Placement) → IsRoundPlan s settings j k v plan → v ≤ f.value
   above_all j k v plan of = elim (x.settled j of.is_round.lane_known) [
-    | inl all ↦ (let a = x.found.value.above j k of.prices of.quota_prices plan (all k of.is_round.round_known) of.is_round.is_round of.repaired in let w = of.worth in omega arith)
+    | inl all ↦ (let a = x.found.value.above j k of.prices of.quota_prices plan (all k of.is_round.round_known) of.is_round.is_round of.repaired in
+        let w = of.worth in omega arith)
     | inr met ↦ (let d = dual plan f.prices f.quota_prices f.bound (repaired_feasible s of.prices plan orderly of.repaired) least.reached.is_bound in
         let m = met.0 in let w = of.worth in omega arith)
   ]
@@ -76,7 +82,8 @@ module _ (s : Parts) (settings : Settings) (made : ℕ → ℕ → Type 0) (gree
   -- a value that lanes gave is no greater than the one that was found
   given_below : (j v : ℕ) → IsValueGiven s (up_to made j) (value_of_plan s greedy) v → v ≤ f.value
   given_below j v (inl under) = let a = x.found.value.above_opening in omega arith
-  given_below j v (inr (q, y)) = let a = x.found.value.above y.lane y.round y.prices y.quota_prices q y.was_made.0 y.gives y.repaired in let w = y.worth in omega arith
+  given_below j v (inr (q, y)) = let a = x.found.value.above y.lane y.round y.prices y.quota_prices q y.was_made.0 y.gives y.repaired in
+      let w = y.worth in omega arith
 
   -- where lanes up to j gave a bound no higher than a value, one of them gave the least bound
   met_bound : (j : ℕ) (m : IsMetBy s made (value_of_plan s greedy) j) → (c : List ℤ) × (u : List ℕ) × IsBoundMade s (up_to made j) f.bound c u
@@ -91,7 +98,8 @@ module _ (s : Parts) (settings : Settings) (made : ℕ → ℕ → Type 0) (gree
         (c, u, subst (λ (b : ℕ). IsBoundMade s (up_to made j) b c u) same y)
   ]
 
-  met_value : (j : ℕ) (m : IsMetBy s made (value_of_plan s greedy) j) → (f.value ≤ value_of_plan s greedy) ⊎ ((q : List Placement) × IsValueMade s (up_to made j) f.value q)
+  met_value : (j : ℕ) (m : IsMetBy s made (value_of_plan s greedy) j) → (f.value ≤ value_of_plan s greedy)
+      ⊎ ((q : List Placement) × IsValueMade s (up_to made j) f.value q)
   met_value j m =
       let g = given_below j m.value m.has in
       let met = m.met in
@@ -104,30 +112,36 @@ module _ (s : Parts) (settings : Settings) (made : ℕ → ℕ → Type 0) (gree
       elim m.has [ inl under ↦ inl (omega arith) | inr (q, y) ↦ inr (q, subst (λ (w : ℕ). IsValueMade s (up_to made j) w q) same y) ]
 
   -- with one worker an earlier round gives no bound as low
-  first_bound : settings.workers ≡ 1 → (j k : ℕ) (c : List ℤ) (u : List ℕ) → IsEarlierRound j k least.reached.lane least.reached.round → IsRoundOf s settings j k c u
+  first_bound : settings.workers ≡ 1 → (j k : ℕ) (c : List ℤ) (u : List ℕ) → IsEarlierRound j k least.reached.lane least.reached.round
+      → IsRoundOf s settings j k c u
       → ¬ (IsBound s c u (pos f.bound))
   first_bound alone j k c u (inr (same, less)) of is =
-      least.first alone j k c u (x.closed j k least.reached.round (subst (λ (i : ℕ). made i least.reached.round) (sym same) least.reached.was_made) less) (inr (same, less)) of.is_round is
+      least.first alone j k c u (x.closed j k least.reached.round (subst (λ (i : ℕ). made i least.reached.round) (sym same) least.reached.was_made)
+      less) (inr (same, less)) of.is_round is
   first_bound alone j k c u (inl less) of is = elim (x.settled j of.lane_known) [
     | inl all ↦ least.first alone j k c u (all k of.round_known) (inl less) of.is_round is
     | inr (low, why) ↦ elim (why alone) [
-      | inl m ↦ (let (d, w, y) = met_bound j m in least.first alone y.lane y.round d w y.was_made.0 (inl (let le = y.was_made.1 in omega arith)) y.gives y.is_bound)
+      | inl m ↦ (let (d, w, y) = met_bound j m in
+          least.first alone y.lane y.round d w y.was_made.0 (inl (let le = y.was_made.1 in omega arith)) y.gives y.is_bound)
       | inr above ↦ (let l = above least.reached.lane least.reached.round least.reached.was_made in absurd (omega arith))
     ]
   ]
 
   -- nor a plan as good, where the greedy one isn't
-  first_value : (y : IsFirstValue s settings.workers made f.value f.plan) → value_of_plan s greedy < f.value → settings.workers ≡ 1 → (j k : ℕ) (q : List Placement)
+  first_value : (y : IsFirstValue s settings.workers made f.value f.plan) → value_of_plan s greedy < f.value → settings.workers ≡ 1
+      → (j k : ℕ) (q : List Placement)
       → IsEarlierRound j k y.reached.lane y.reached.round → ¬ (IsRoundPlan s settings j k f.value q)
   first_value y more alone j k q (inr (same, less)) of =
-      y.first alone j k of.prices of.quota_prices q (x.closed j k y.reached.round (subst (λ (i : ℕ). made i y.reached.round) (sym same) y.reached.was_made) less) (inr (same, less))
+      y.first alone j k of.prices of.quota_prices q
+      (x.closed j k y.reached.round (subst (λ (i : ℕ). made i y.reached.round) (sym same) y.reached.was_made) less) (inr (same, less))
       of.is_round.is_round of.repaired of.worth
   first_value y more alone j k q (inl less) of = elim (x.settled j of.is_round.lane_known) [
     | inl all ↦ y.first alone j k of.prices of.quota_prices q (all k of.is_round.round_known) (inl less) of.is_round.is_round of.repaired of.worth
     | inr (low, why) ↦ elim (why alone) [
       | inl m ↦ elim (met_value j m) [
         | inl under ↦ absurd (omega arith)
-        | inr (r, z) ↦ y.first alone z.lane z.round z.prices z.quota_prices r z.was_made.0 (inl (let le = z.was_made.1 in omega arith)) z.gives z.repaired z.worth
+        | inr (r, z) ↦ y.first alone z.lane z.round z.prices z.quota_prices r z.was_made.0
+            (inl (let le = z.was_made.1 in omega arith)) z.gives z.repaired z.worth
       ]
       | inr above ↦ (let l = above y.reached.lane y.reached.round y.reached.was_made in absurd (omega arith))
     ]
@@ -166,7 +180,8 @@ module _ (s : Parts) (settings : Settings) (made : ℕ → ℕ → Type 0) (gree
   bound_of : (claim : Claim) → claim.bound ≡ f.bound → claim.prices.0 ≡ f.prices → claim.quota_prices.0 ≡ f.quota_prices
       → IsBound s claim.prices.0 claim.quota_prices.0 (pos claim.bound)
   bound_of claim bound prices quota_prices =
-      subst (λ (c : List ℤ). IsBound s c claim.quota_prices.0 (pos claim.bound)) (sym prices) (subst (λ (u : List ℕ). IsBound s f.prices u (pos claim.bound)) (sym quota_prices)
+      subst (λ (c : List ℤ). IsBound s c claim.quota_prices.0 (pos claim.bound)) (sym prices)
+      (subst (λ (u : List ℕ). IsBound s f.prices u (pos claim.bound)) (sym quota_prices)
       (subst (λ (b : ℕ). IsBound s f.prices f.quota_prices (pos b)) (sym bound) least.reached.is_bound))
 
   round_of : (claim : Claim) → claim.prices.0 ≡ f.prices → claim.quota_prices.0 ≡ f.quota_prices

@@ -85,21 +85,29 @@ module _ (s : Parts) (settings : Settings) (opening : ℕ) (plan : List Placemen
 
   lanes_right : (j : ℕ) → IsLaneDone s settings (IsMade y.made) opening w j → IsLaneDone s settings (IsMade together) opening both j
   lanes_right j (inl all) = inl (λ k lt. right j k (all k lt))
-  lanes_right j (inr met) = inr ((let m = met.0 in omega arith), λ one. met_more s (IsMade y.made) (IsMade together) opening j j right (omega arith) (met.1 one))
+  lanes_right j (inr met) = inr (
+    (let m = met.0 in omega arith),
+    λ one. met_more s (IsMade y.made) (IsMade together) opening j j right (omega arith) (met.1 one),
+  )
 
   least : IsBoundGiven s (IsMade together) both.least_given
   least = dite (dec_le v.least_given w.least_given)
-      (λ le. subst (IsBoundGiven s (IsMade together)) (let e : v.least_given ≡ both.least_given = omega arith in e) (bound_given_more s (IsMade x.made) (IsMade together) left v.least_given x.bound_given))
-      (λ no. subst (IsBoundGiven s (IsMade together)) (let e : w.least_given ≡ both.least_given = omega arith in e) (bound_given_more s (IsMade y.made) (IsMade together) right w.least_given y.bound_given))
+      (λ le. subst (IsBoundGiven s (IsMade together)) (let e : v.least_given ≡ both.least_given = omega arith in
+      e) (bound_given_more s (IsMade x.made) (IsMade together) left v.least_given x.bound_given))
+      (λ no. subst (IsBoundGiven s (IsMade together)) (let e : w.least_given ≡ both.least_given = omega arith in
+      e) (bound_given_more s (IsMade y.made) (IsMade together) right w.least_given y.bound_given))
 
   greatest : IsValueGiven s (IsMade together) opening both.greatest_given
   greatest = dite (dec_le w.greatest_given v.greatest_given)
-      (λ le. subst (IsValueGiven s (IsMade together) opening) (let e : v.greatest_given ≡ both.greatest_given = omega arith in e) (value_given_more s (IsMade x.made) (IsMade together) left opening v.greatest_given x.value_given))
-      (λ no. subst (IsValueGiven s (IsMade together) opening) (let e : w.greatest_given ≡ both.greatest_given = omega arith in e) (value_given_more s (IsMade y.made) (IsMade together) right opening w.greatest_given y.value_given))
+      (λ le. subst (IsValueGiven s (IsMade together) opening) (let e : v.greatest_given ≡ both.greatest_given = omega arith in
+      e) (value_given_more s (IsMade x.made) (IsMade together) left opening v.greatest_given x.value_given))
+      (λ no. subst (IsValueGiven s (IsMade together) opening) (let e : w.greatest_given ≡ both.greatest_given = omega arith in
+      e) (value_given_more s (IsMade y.made) (IsMade together) right opening w.greatest_given y.value_given))
 
   found_both : IsFound s settings.workers (IsMade together) opening plan (bettered f g)
   found_both =
-      let before : settings.workers ≡ 1 → (i k j l : ℕ) → IsMade x.made i k → IsMade y.made j l → IsEarlierRound i k j l = λ one i k j l a b. absurd (none_left one i k a) in
+      let before : settings.workers ≡ 1 → (i k j l : ℕ) → IsMade x.made i k → IsMade y.made j l → IsEarlierRound i k j l =
+      λ one i k j l a b. absurd (none_left one i k a) in
       found_same s (either s settings.workers (IsMade x.made) (IsMade y.made) before) (IsMade together)
       (λ j k m. elim m [ inl a ↦ left j k a | inr b ↦ right j k b ]) settings.workers opening plan (bettered f g) cases
       (found_by_either s settings.workers (IsMade x.made) (IsMade y.made) before opening plan f g orderly x.found

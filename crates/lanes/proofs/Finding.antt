@@ -59,7 +59,8 @@ module _ (s : Parts) (m n : ℕ → ℕ → Type 0) (more : (j k : ℕ) → m j 
   value_given_more opening v (inr (p, x)) = inr (p, value_more v p x)
 
   -- what is found of the same rounds is the same
-  pub found_same : (workers opening : ℕ) (opening_plan : List Placement) (f : FoundSeen) → ((j k : ℕ) → n j k → m j k) → IsFound s workers m opening opening_plan f
+  pub found_same : (workers opening : ℕ) (opening_plan : List Placement) (f : FoundSeen) → ((j k : ℕ) → n j k → m j k)
+      → IsFound s workers m opening opening_plan f
       → IsFound s workers n opening opening_plan f
   found_same workers opening opening_plan f less x = record {
     bound = elim x.bound [
@@ -96,7 +97,8 @@ pub record IsLater (s : Parts) (workers : ℕ) (m : ℕ → ℕ → Type 0) (ope
   pub prices : ArePrices s g.prices g.quota_prices
   pub feasible : IsFeasible s g.plan
 
-pub found_later : (s : Parts) (workers : ℕ) (m : ℕ → ℕ → Type 0) (opening later : ℕ) (plan : List Placement) (g : FoundSeen) → later ≤ opening → IsFound s workers m later plan g
+pub found_later : (s : Parts) (workers : ℕ) (m : ℕ → ℕ → Type 0) (opening later : ℕ) (plan : List Placement) (g : FoundSeen) → later ≤ opening
+    → IsFound s workers m later plan g
     → IsLater s workers m opening g
 found_later s workers m opening later plan g under x = record {
   bound = x.bound;
@@ -110,14 +112,16 @@ found_later s workers m opening later plan g under x = record {
 bound_below : (s : Parts) (b : ℕ) (c : List ℤ) (u : List ℕ) → IsOrderly s → ArePrices s c u → IsBound s c u (pos b) → b < no_bound
 bound_below s b c u orderly are is = (let l = (bound_limit s c u (pos b) orderly are.range are.quota_range is).1 in omega (arith, ints))
 
-pub bound_at_most : (s : Parts) (workers : ℕ) (m : ℕ → ℕ → Type 0) (opening : ℕ) (plan : List Placement) (f : FoundSeen) → IsOrderly s → IsFound s workers m opening plan f
+pub bound_at_most : (s : Parts) (workers : ℕ) (m : ℕ → ℕ → Type 0) (opening : ℕ) (plan : List Placement) (f : FoundSeen) → IsOrderly s
+    → IsFound s workers m opening plan f
     → f.bound ≤ no_bound
 bound_at_most s workers m opening plan f orderly x = elim x.bound [
   | inl none ↦ (let e = none.1 in omega arith)
   | inr l ↦ (let b = bound_below s f.bound f.prices f.quota_prices orderly x.prices l.reached.is_bound in omega arith)
 ]
 
-pub either_prices : (s : Parts) (second : Bool) (c e : List ℤ) (u w : List ℕ) → ArePrices s c u → ArePrices s e w → ArePrices s (if second then e else c) (if second then w else u)
+pub either_prices : (s : Parts) (second : Bool) (c e : List ℤ) (u w : List ℕ) → ArePrices s c u → ArePrices s e w
+    → ArePrices s (if second then e else c) (if second then w else u)
 either_prices s true c e u w x y = y
 either_prices s false c e u w x y = x
 
@@ -173,7 +177,8 @@ module _ (s : Parts) (workers : ℕ) (m1 m2 : ℕ → ℕ → Type 0) (before : 
 
   module _ (opening : ℕ) (opening_plan : List Placement) where
     -- the first value stays where the second isn't greater
-    kept_value : (v : ℕ) (p : List Placement) (g : FoundSeen) → g.value ≤ v → IsValueFound s workers m1 opening opening_plan v p → IsLater s workers m2 opening g
+    kept_value : (v : ℕ) (p : List Placement) (g : FoundSeen) → g.value ≤ v → IsValueFound s workers m1 opening opening_plan v p
+        → IsLater s workers m2 opening g
         → IsValueFound s workers either opening opening_plan v p
     kept_value v p g le f y = record {
       above_opening = f.above_opening;
@@ -214,7 +219,8 @@ module _ (s : Parts) (workers : ℕ) (m1 m2 : ℕ → ℕ → Type 0) (before : 
           );
         }
 
-    both_values : (greater : Bool) (v : ℕ) (p : List Placement) (g : FoundSeen) → nat_lt v g.value ≡ greater → IsValueFound s workers m1 opening opening_plan v p
+    both_values : (greater : Bool) (v : ℕ) (p : List Placement) (g : FoundSeen) → nat_lt v g.value ≡ greater
+        → IsValueFound s workers m1 opening opening_plan v p
         → IsLater s workers m2 opening g → IsValueFound s workers either opening opening_plan (if greater then g.value else v) (if greater then g.plan else p)
     both_values true v p g is f y = new_value v p g (ltb-true v g.value is) f y
     both_values false v p g is f y = kept_value v p g (grind (arith, nat_tests)) f y
@@ -232,7 +238,8 @@ module _ (s : Parts) (workers : ℕ) (m1 m2 : ℕ → ℕ → Type 0) (before : 
     }
 
 -- before any round is made nothing is found
-pub none_found : (s : Parts) (workers : ℕ) (m : ℕ → ℕ → Type 0) (f : FoundSeen) (opening : ℕ) → ((j k : ℕ) → ¬ (m j k)) → f.bound ≡ no_bound → f.value ≡ opening → f.plan ≡ []
+pub none_found : (s : Parts) (workers : ℕ) (m : ℕ → ℕ → Type 0) (f : FoundSeen) (opening : ℕ) → ((j k : ℕ) → ¬ (m j k)) → f.bound ≡ no_bound
+    → f.value ≡ opening → f.plan ≡ []
     → ArePrices s f.prices f.quota_prices → IsFound s workers m opening [] f
 none_found s workers m f opening none bound value plan prices = record {
   bound = inl (none, bound);
@@ -262,15 +269,19 @@ answer_later s workers opening x g orderly prices quota_prices a =
               (subst (λ (u : List ℕ). IsBound s x.prices.0 u (pos g.bound)) (sym quota_prices) a.bound);
         };
         least = λ j k c u b h r is.
-            let r' : IsRoundPrices s x.lane x.made c u = subst (λ (i : ℕ). IsRoundPrices s i x.made c u) (sym h.0) (subst (λ (i : ℕ). IsRoundPrices s j i c u) h.1 r) in
+            let r' : IsRoundPrices s x.lane x.made c u =
+            subst (λ (i : ℕ). IsRoundPrices s i x.made c u) (sym h.0) (subst (λ (i : ℕ). IsRoundPrices s j i c u) h.1 r) in
             let same = one_round s x.lane x.made c u x.prices.0 x.quota_prices.0 sizes r' a.is_lane.is_round in
-            let is' : IsBound s x.prices.0 x.quota_prices.0 b = subst (λ (e : List ℤ). IsBound s e x.quota_prices.0 b) same.0 (subst (λ (w : List ℕ). IsBound s c w b) same.1 is) in
+            let is' : IsBound s x.prices.0 x.quota_prices.0 b =
+            subst (λ (e : List ℤ). IsBound s e x.quota_prices.0 b) same.0 (subst (λ (w : List ℕ). IsBound s c w b) same.1 is) in
             let e = one_bound s x.prices.0 x.quota_prices.0 b (pos g.bound) is' a.bound in
             subst (λ (z : ℤ). z ≤ℤ b) e (omega (arith, ints));
-        first = λ alone j k c u h earlier r is. elim earlier [ inl less ↦ (let e = h.0 in omega arith) | inr less ↦ (let e = h.1 in let l = less.1 in omega arith) ];
+        first = λ alone j k c u h earlier r is. elim earlier
+            [ inl less ↦ (let e = h.0 in omega arith) | inr less ↦ (let e = h.1 in let l = less.1 in omega arith) ];
       });
       above = λ j k c u q h r t.
-          let r' : IsRoundPrices s x.lane x.made c u = subst (λ (i : ℕ). IsRoundPrices s i x.made c u) (sym h.0) (subst (λ (i : ℕ). IsRoundPrices s j i c u) h.1 r) in
+          let r' : IsRoundPrices s x.lane x.made c u =
+          subst (λ (i : ℕ). IsRoundPrices s i x.made c u) (sym h.0) (subst (λ (i : ℕ). IsRoundPrices s j i c u) h.1 r) in
           let same = one_round s x.lane x.made c u x.prices.0 x.quota_prices.0 sizes r' a.is_lane.is_round in
           let e : q ≡ g.plan = one_repaired s x.prices.0 q g.plan sizes (subst (λ (d : List ℤ). IsRepaired s d q) same.0 t) a.repaired in
           let w = ap (value_of_plan s) e in let worth = a.worth in omega arith;
@@ -285,7 +296,8 @@ answer_later s workers opening x g orderly prices quota_prices a =
           repaired = a.repaired;
           worth = a.worth;
         };
-        first = λ alone j k c u q h earlier r t is. elim earlier [ inl less ↦ (let e = h.0 in omega arith) | inr less ↦ (let e = h.1 in let l = less.1 in omega arith) ];
+        first = λ alone j k c u q h earlier r t is. elim earlier
+            [ inl less ↦ (let e = h.0 in omega arith) | inr less ↦ (let e = h.1 in let l = less.1 in omega arith) ];
       };
       prices = record {
         count = ap (λ (c : List ℤ). length c) prices ∙ a.is_lane.count;

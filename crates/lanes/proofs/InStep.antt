@@ -68,10 +68,12 @@ looked s settings opening v w f lanes founds look h =
       taken = taken_on settings v w claims h.before lanes h.taken;
       each = λ l d e lt. found_on s settings opening v w seen (IsMadeSoFar h.before lanes) (IsMadeSoFar h.before lanes) _ _ (λ j k m. m) (h.each l d e lt);
       rising = h.rising;
-      done = λ j c lt. elim (h.done j (subst (λ (xs : List ℕ). Contains xs j) look.claims c) lt) [ inl done ↦ inl (done_on s settings opening v w seen (IsMade h.before) j done) | inr here ↦ inr here ];
+      done = λ j c lt. elim (h.done j (subst (λ (xs : List ℕ). Contains xs j) look.claims c) lt)
+          [ inl done ↦ inl (done_on s settings opening v w seen (IsMade h.before) j done) | inr here ↦ inr here ];
     }
 
-module _ (s : Parts) (settings : Settings) (opening : ℕ) (v : SeatView) (f : FoundSeen) (lanes : List LanePrices) (founds : List LaneFound) (h : IsInStep s settings opening v f lanes founds) where
+module _ (s : Parts) (settings : Settings) (opening : ℕ) (v : SeatView) (f : FoundSeen) (lanes : List LanePrices) (founds : List LaneFound)
+    (h : IsInStep s settings opening v f lanes founds) where
   claims_more : (n j : ℕ) → Contains v.claims j → Contains (v.claims ++ n ∷ []) j
   claims_more n j c = Contains-append_left v.claims (n ∷ []) j c
 
@@ -89,10 +91,12 @@ module _ (s : Parts) (settings : Settings) (opening : ℕ) (v : SeatView) (f : F
     value_given = h.value_given;
     count = h.count;
     taken = taken_on settings v (after_claim v n) (claims_more n) h.before lanes h.taken;
-    each = λ l d e lt. found_on s settings opening v (after_claim v n) (λ met. met) (IsMadeSoFar h.before lanes) (IsMadeSoFar h.before lanes) _ _ (λ j k m. m) (h.each l d e lt);
+    each = λ l d e lt. found_on s settings opening v (after_claim v n) (λ met. met) (IsMadeSoFar h.before lanes) (IsMadeSoFar h.before lanes) _ _
+        (λ j k m. m) (h.each l d e lt);
     rising = h.rising;
     done = λ j c lt. elim (Contains-append_cases v.claims (n ∷ []) j c) [
-      | inl old ↦ elim (h.done j old lt) [ inl done ↦ inl (done_on s settings opening v (after_claim v n) (λ met. met) (IsMade h.before) j done) | inr here ↦ inr here ]
+      | inl old ↦ elim (h.done j old lt)
+          [ inl done ↦ inl (done_on s settings opening v (after_claim v n) (λ met. met) (IsMade h.before) j done) | inr here ↦ inr here ]
       | inr new ↦ (let e = only n j new in absurd (omega arith))
     ];
   }
@@ -116,7 +120,8 @@ module _ (s : Parts) (settings : Settings) (opening : ℕ) (v : SeatView) (f : F
         claimed = λ j k m. claims_more n j (h.claimed j k m);
         found = h.found;
         bound_given = bound_given_more s (IsMadeSoFar h.before lanes) (IsMadeSoFar h.before (lanes ++ x ∷ [])) (more_lane x) v.least_given h.bound_given;
-        value_given = value_given_more s (IsMadeSoFar h.before lanes) (IsMadeSoFar h.before (lanes ++ x ∷ [])) (more_lane x) opening v.greatest_given h.value_given;
+        value_given = value_given_more s (IsMadeSoFar h.before lanes) (IsMadeSoFar h.before (lanes ++ x ∷ []))
+            (more_lane x) opening v.greatest_given h.value_given;
         count = length-append founds (y ∷ []) ∙ ap (λ (i : ℕ). i + 1) count ∙ sym longs;
         taken = All-push (IsTakenLane settings w h.before) lanes x (taken_on settings v w (claims_more n) h.before lanes h.taken) (record {
           known = omega arith;
@@ -125,20 +130,25 @@ module _ (s : Parts) (settings : Settings) (opening : ℕ) (v : SeatView) (f : F
           later = λ i k m. (let b = below i (h.claimed i k m) in omega arith);
         });
         each = λ l d e lt. dite (dec_lt l (length lanes))
-            (λ less. subst (λ (z : LanePrices). IsFoundInStep s settings opening w (IsMadeSoFar h.before (lanes ++ x ∷ [])) z (slice_index_or (founds ++ y ∷ []) l e)) (sym (get_or_append_left lanes (x ∷ []) d l less))
+            (λ less. subst (λ (z : LanePrices). IsFoundInStep s settings opening w (IsMadeSoFar h.before (lanes ++ x ∷ [])) z
+            (slice_index_or (founds ++ y ∷ []) l e)) (sym (get_or_append_left lanes (x ∷ []) d l less))
             (subst (λ (z : LaneFound). IsFoundInStep s settings opening w (IsMadeSoFar h.before (lanes ++ x ∷ [])) (slice_index_or lanes l d) z)
             (sym (get_or_append_left founds (y ∷ []) e l (omega arith)))
-            (found_on s settings opening v w (λ met. met) (IsMadeSoFar h.before lanes) (IsMadeSoFar h.before (lanes ++ x ∷ [])) _ _ (more_lane x) (h.each l d e less))))
+            (found_on s settings opening v w (λ met. met) (IsMadeSoFar h.before lanes) (IsMadeSoFar h.before (lanes ++ x ∷ [])) _ _
+            (more_lane x) (h.each l d e less))))
             (λ no. let last : l ≡ length lanes = omega arith in
             let here : slice_index_or (lanes ++ x ∷ []) l d ≡ x = ap (λ (i : ℕ). slice_index_or (lanes ++ x ∷ []) i d) last ∙ get_or-append_seam lanes x [] d in
-            let there : slice_index_or (founds ++ y ∷ []) l e ≡ y = ap (λ (i : ℕ). slice_index_or (founds ++ y ∷ []) i e) (last ∙ sym count) ∙ get_or-append_seam founds y [] e in
-            subst (λ (z : LanePrices). IsFoundInStep s settings opening w (IsMadeSoFar h.before (lanes ++ x ∷ [])) z (slice_index_or (founds ++ y ∷ []) l e)) (sym here)
+            let there : slice_index_or (founds ++ y ∷ []) l e ≡ y = ap (λ (i : ℕ). slice_index_or (founds ++ y ∷ []) i e) (last ∙ sym count)
+            ∙ get_or-append_seam founds y [] e in
+            subst (λ (z : LanePrices). IsFoundInStep s settings opening w (IsMadeSoFar h.before (lanes ++ x ∷ [])) z
+            (slice_index_or (founds ++ y ∷ []) l e)) (sym here)
             (subst (λ (z : LaneFound). IsFoundInStep s settings opening w (IsMadeSoFar h.before (lanes ++ x ∷ [])) x z) (sym there)
             (record { found = found; stopped = λ stopped. absurd (false≢true (sym going ∙ stopped)) })));
         rising = subst (AllPairs (λ a b. a < b)) (sym names) (all_pairs_push (λ a b. a < b) (lanes_of lanes) x.lane h.rising (λ k d lt.
             let t = h.taken k x (let c = length-map lanes (λ z. z.lane) in omega arith) in
             let b = below _ t.claimed in
-            let e : slice_index_or (lanes_of lanes) k d ≡ (slice_index_or lanes k x).lane = get_or-map (λ z. z.lane) lanes k x d (let c = length-map lanes (λ z. z.lane) in omega arith) in
+            let e : slice_index_or (lanes_of lanes) k d ≡ (slice_index_or lanes k x).lane =
+            get_or-map (λ z. z.lane) lanes k x d (let c = length-map lanes (λ z. z.lane) in omega arith) in
             omega arith));
         done = λ j c lt. elim (Contains-append_cases v.claims (n ∷ []) j c) [
           | inl old ↦ elim (h.done j old lt) [

@@ -1,5 +1,6 @@
 -- What lanes in step have found is kept.
-use Rattle.std.proofs.Common.{◌≡◌, ℕ, zero, suc, ◌+◌, ◌≤◌, ◌<◌, ◌⊎◌, inl, inr, true, List, [], ◌∷◌, ◌++◌, length, map, take, slice_index_or, refl, sym, ap, subst, ◌∙◌, arith}
+use Rattle.std.proofs.Common.{◌≡◌, ℕ, zero, suc, ◌+◌, ◌≤◌, ◌<◌, ◌⊎◌, inl, inr, true, List, [], ◌∷◌, ◌++◌, length, map, take, slice_index_or, refl, sym}
+use Rattle.std.proofs.Common.{ap, subst, ◌∙◌, arith}
 use Rattle.std.specs.Prelude.{Contains}
 use Rattle.std.specs.List.{fold}
 use Rattle.std.proofs.lemmas.List.{take_more, get_or-take, get_or-map, length-map, length-take-le, map-append, get_or_default}
@@ -47,7 +48,8 @@ module _ (s : Parts) (settings : Settings) (opening : ℕ) (v : SeatView) (f : F
   count = h.count
 
   -- the lanes before are earlier
-  earlier : (n : ℕ) → n < length lanes → settings.workers ≡ 1 → (i k j l : ℕ) → IsMadeSoFar h.before (take n lanes) i k → IsMadeIn (slice_index_or lanes n d) j l → IsEarlierRound i k j l
+  earlier : (n : ℕ) → n < length lanes → settings.workers ≡ 1 → (i k j l : ℕ) → IsMadeSoFar h.before (take n lanes) i k
+      → IsMadeIn (slice_index_or lanes n d) j l → IsEarlierRound i k j l
   earlier n lt alone i k j l (inl b) m = inl (let a = (h.taken n d lt).later i k b in let t = m.0 in omega arith)
   earlier n lt alone i k j l (inr (p, x, within, is, made)) m =
       let names : length (lanes_of lanes) ≡ length lanes = length-map lanes (λ y. y.lane) in
@@ -62,14 +64,16 @@ module _ (s : Parts) (settings : Settings) (opening : ℕ) (v : SeatView) (f : F
       inl (omega arith)
 
   folded : (n : ℕ) → n ≤ length lanes → IsFound s settings.workers (IsMadeSoFar h.before (take n lanes)) opening [] (kept_of f (take n founds))
-  folded zero le = found_same s (IsMade h.before) (IsMadeSoFar h.before []) (λ j k m. inl m) settings.workers opening [] f (λ j k m. elim m [ inl b ↦ b | inr none ↦ absurd (omega (arith, none.2)) ]) h.found
+  folded zero le = found_same s (IsMade h.before) (IsMadeSoFar h.before []) (λ j k m. inl m) settings.workers opening [] f
+      (λ j k m. elim m [ inl b ↦ b | inr none ↦ absurd (omega (arith, none.2)) ]) h.found
   folded (suc n) le =
       let lt : n < length lanes = omega arith in
       let x : LanePrices = slice_index_or lanes n d in
       let y : LaneFound = slice_index_or founds n e in
       let before = earlier n lt in
       let old = folded n (omega arith) in
-      let both = found_by_either s settings.workers (IsMadeSoFar h.before (take n lanes)) (IsMadeIn x) before opening [] (kept_of f (take n founds)) y.found orderly old
+      let both = found_by_either s settings.workers (IsMadeSoFar h.before (take n lanes)) (IsMadeIn x) before opening []
+      (kept_of f (take n founds)) y.found orderly old
       (found_later s settings.workers (IsMadeIn x) opening 0 [] y.found (omega arith) (h.each n d e lt).found) in
       let more : take (n + 1) lanes ≡ take n lanes ++ x ∷ [] = take_more lanes n d lt in
       let next : suc n ≡ n + 1 = omega arith in
@@ -91,7 +95,8 @@ module _ (s : Parts) (settings : Settings) (opening : ℕ) (v : SeatView) (f : F
       both in
       subst (λ (i : ℕ). IsFound s settings.workers (IsMadeSoFar h.before (take i lanes)) opening [] (kept_of f (take i founds))) (sym next)
       (subst (λ (ls : List LanePrices). IsFound s settings.workers (IsMadeSoFar h.before ls) opening [] (kept_of f (take (n + 1) founds))) (sym more)
-      (subst (λ (g : FoundSeen). IsFound s settings.workers (IsMadeSoFar h.before (take n lanes ++ x ∷ [])) opening [] g) (sym (kept_more f founds n e (omega arith))) joined))
+      (subst (λ (g : FoundSeen). IsFound s settings.workers (IsMadeSoFar h.before (take n lanes ++ x ∷ [])) opening [] g)
+      (sym (kept_more f founds n e (omega arith))) joined))
 
   whole : IsFound s settings.workers (IsMadeSoFar h.before lanes) opening [] (kept_of f founds)
   whole = subst (λ (ls : List LanePrices). IsFound s settings.workers (IsMadeSoFar h.before ls) opening [] (kept_of f founds)) (take-length lanes)
@@ -104,7 +109,8 @@ module _ (s : Parts) (settings : Settings) (opening : ℕ) (v : SeatView) (f : F
   made_after : (j k : ℕ) → IsMadeSoFar h.before lanes j k → IsMade after j k
   unfolding rounds_of
   made_after j k (inl b) = any_left (λ x. (x.lane ≡ j) × (k < x.rounds)) h.before (map rounds_of lanes) b
-  made_after j k (inr a) = any_right (λ x. (x.lane ≡ j) × (k < x.rounds)) h.before (map rounds_of lanes) (any_map (λ x. (x.lane ≡ j) × (k < x.rounds)) rounds_of lanes a)
+  made_after j k (inr a) = any_right (λ x. (x.lane ≡ j) × (k < x.rounds)) h.before (map rounds_of lanes)
+      (any_map (λ x. (x.lane ≡ j) × (k < x.rounds)) rounds_of lanes a)
 
   after_made : (j k : ℕ) → IsMade after j k → IsMadeSoFar h.before lanes j k
   unfolding rounds_of
@@ -124,8 +130,13 @@ module _ (s : Parts) (settings : Settings) (opening : ℕ) (v : SeatView) (f : F
       let (l, lt, is) = lane_at j c in
       elim (all l d e lt) [
         | inl stopped ↦ (let t = (h.each l d e lt).stopped stopped in
-            inr (t.0, λ alone. met_more s (IsMadeSoFar h.before lanes) (IsMade after) opening (slice_index_or lanes l d).lane j made_after (omega arith) (t.1 alone)))
-        | inr made ↦ inl (λ k less. made_after j k (inr (l, slice_index_or lanes l d, lt, get_or_default lanes l (slice_index_or lanes l d) d lt, (is, omega arith))))
+            inr (
+              t.0,
+              λ alone. met_more s (IsMadeSoFar h.before lanes) (IsMade after) opening (slice_index_or lanes l d).lane j made_after
+                  (omega arith) (t.1 alone),
+            ))
+        | inr made ↦ inl (λ k less. made_after j k
+            (inr (l, slice_index_or lanes l d, lt, get_or_default lanes l (slice_index_or lanes l d) d lt, (is, omega arith))))
       ]
 
   kept_lanes : AreMade lanes founds settings.rounds → IsInStep s settings opening v (kept_of f founds) [] []
@@ -133,7 +144,8 @@ module _ (s : Parts) (settings : Settings) (opening : ℕ) (v : SeatView) (f : F
     before = after;
     within = λ j k m. elim (after_made j k m) [
       | inl b ↦ h.within j k b
-      | inr (l, x, lt, is, (lane, made)) ↦ (let t = h.taken l x lt in let same = ap (λ (y : LanePrices). y.lane) is in let rounds = ap (λ (y : LanePrices). y.made) is in
+      | inr (l, x, lt, is, (lane, made)) ↦ (let t = h.taken l x lt in let same = ap (λ (y : LanePrices). y.lane) is in
+          let rounds = ap (λ (y : LanePrices). y.made) is in
           let a = t.known in let b = t.rounds in ((omega arith), (omega arith)))
     ];
     claimed = λ j k m. elim (after_made j k m) [
@@ -142,7 +154,8 @@ module _ (s : Parts) (settings : Settings) (opening : ℕ) (v : SeatView) (f : F
     ];
     found = found_same s (IsMadeSoFar h.before lanes) (IsMade after) made_after settings.workers opening [] (kept_of f founds) after_made whole;
     bound_given = bound_given_more s (IsMadeSoFar h.before lanes) (IsMadeSoFar after []) (λ j k m. inl (made_after j k m)) v.least_given h.bound_given;
-    value_given = value_given_more s (IsMadeSoFar h.before lanes) (IsMadeSoFar after []) (λ j k m. inl (made_after j k m)) opening v.greatest_given h.value_given;
+    value_given = value_given_more s (IsMadeSoFar h.before lanes) (IsMadeSoFar after [])
+        (λ j k m. inl (made_after j k m)) opening v.greatest_given h.value_given;
     count = refl;
     taken = λ l c lt. absurd (omega arith);
     each = λ l c g lt. absurd (omega arith);

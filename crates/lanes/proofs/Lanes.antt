@@ -1,5 +1,6 @@
 -- The prices of a lane, at its first round and from one round to the next.
-use Rattle.std.proofs.Common.{◌≡◌, ◌≢◌, ℕ, suc, ◌+◌, ◌<◌, ◌≤◌, ℤ, pos, List, length, map, replicate, slice_index_or, slice_set, All, refl, sym, ◌∙◌, ap, subst, arith}
+use Rattle.std.proofs.Common.{◌≡◌, ◌≢◌, ℕ, suc, ◌+◌, ◌<◌, ◌≤◌, ℤ, pos, List, length, map, replicate, slice_index_or, slice_set, All, refl, sym, ◌∙◌}
+use Rattle.std.proofs.Common.{ap, subst, arith}
 use Rattle.std.proofs.lemmas.Int.{ints}
 use Rattle.std.proofs.lemmas.List.{length-replicate, length-set, get_or-map, get_or-set_same, get_or-set_other}
 use Rattle.std.proofs.lemmas.List.Elements.{All-replicate}
@@ -35,7 +36,8 @@ first_lane s l lane made prices quota_prices = record {
   quota_range = subst (All (λ u. u ≤ 200000)) (sym quota_prices) (All-replicate (λ u. u ≤ 200000) (length s.quotas) 0 (omega arith));
 }
 
-module _ (s : Parts) (l : LanePrices) (starts : List Placement) (orderly : IsOrderly s) (h : IsLane s l) (canonical : IsCanonicalStarts s l.prices.0 starts) where
+module _ (s : Parts) (l : LanePrices) (starts : List Placement) (orderly : IsOrderly s) (h : IsLane s l)
+    (canonical : IsCanonicalStarts s l.prices.0 starts) where
   -- the step of the lane's round
   abbrev pub step : ℕ
   step = step_of l.lane l.made (greatest_value s)
@@ -49,7 +51,8 @@ module _ (s : Parts) (l : LanePrices) (starts : List Placement) (orderly : IsOrd
 
   -- the next prices are in their range
   pub next_stays : (uses : List ℕ) → l.made < 256 → AreUses s starts uses → All IsPriceInRange (prices_after s (pos step) l.prices.0 nets uses)
-  next_stays uses few are = subst (All IsPriceInRange) (sym (next_is s step l.prices.0 nets uses starts orderly are)) (round_in_range s l.lane (suc l.made) _ _ orderly (omega arith) next_round)
+  next_stays uses few are = subst (All IsPriceInRange) (sym (next_is s step l.prices.0 nets uses starts orderly are))
+      (round_in_range s l.lane (suc l.made) _ _ orderly (omega arith) next_round)
 
   -- they are those of the lane's next round
   pub next_lane : (n : LanePrices) → l.made < 256 → n.lane ≡ l.lane → n.made ≡ l.made + 1 → n.prices.0 ≡ next_prices s step l.prices.0 nets starts
@@ -57,15 +60,18 @@ module _ (s : Parts) (l : LanePrices) (starts : List Placement) (orderly : IsOrd
   next_lane n few same_lane made prices quota_prices =
       let more : n.made ≡ suc l.made = omega (arith, made) in
       let at_lane : IsRoundPrices s n.lane (suc l.made) (next_prices s step l.prices.0 nets starts) (next_quota_prices s step l.quota_prices.0 nets)
-      = subst (λ (j : ℕ). IsRoundPrices s j (suc l.made) (next_prices s step l.prices.0 nets starts) (next_quota_prices s step l.quota_prices.0 nets)) (sym same_lane) next_round
+      = subst (λ (j : ℕ). IsRoundPrices s j (suc l.made) (next_prices s step l.prices.0 nets starts) (next_quota_prices s step l.quota_prices.0 nets))
+      (sym same_lane) next_round
       in
       let at_round : IsRoundPrices s n.lane n.made (next_prices s step l.prices.0 nets starts) (next_quota_prices s step l.quota_prices.0 nets)
-      = subst (λ (k : ℕ). IsRoundPrices s n.lane k (next_prices s step l.prices.0 nets starts) (next_quota_prices s step l.quota_prices.0 nets)) (sym more) at_lane
+      = subst (λ (k : ℕ). IsRoundPrices s n.lane k (next_prices s step l.prices.0 nets starts) (next_quota_prices s step l.quota_prices.0 nets))
+      (sym more) at_lane
       in
       let at_prices : IsRoundPrices s n.lane n.made n.prices.0 (next_quota_prices s step l.quota_prices.0 nets)
       = subst (λ (c : List ℤ). IsRoundPrices s n.lane n.made c (next_quota_prices s step l.quota_prices.0 nets)) (sym prices) at_round
       in
-      let is_round : IsRoundPrices s n.lane n.made n.prices.0 n.quota_prices.0 = subst (λ (u : List ℕ). IsRoundPrices s n.lane n.made n.prices.0 u) (sym quota_prices) at_prices in
+      let is_round : IsRoundPrices s n.lane n.made n.prices.0 n.quota_prices.0 =
+      subst (λ (u : List ℕ). IsRoundPrices s n.lane n.made n.prices.0 u) (sym quota_prices) at_prices in
       record {
         lane = omega (arith, same_lane, h.lane);
         made = omega arith;
@@ -81,7 +87,8 @@ pub step_size_is : (z : ℤ) (n : ℕ) → z ≡ pos n → step_size z ≡ n
 step_size_is z n e = let same : pos (step_size z) ≡ pos n = size_is z (omega (arith, ints, e)) ∙ e in omega (arith, ints, same)
 
 -- what is known of a lane that was solved
-pub solved_now : (x v : Stepping) (l : ℕ) (a : LanePrices) (u : Started) → v ≡ x → a ≡ slice_index_or v.lanes l a → u ≡ slice_index_or v.uses l u → IsSolvedAt x l
+pub solved_now : (x v : Stepping) (l : ℕ) (a : LanePrices) (u : Started) → v ≡ x → a ≡ slice_index_or v.lanes l a
+    → u ≡ slice_index_or v.uses l u → IsSolvedAt x l
     → IsSolved v.snapshot a.prices.0 u.starts (lane l v.bests)
 solved_now x v l a u is is_lane is_uses h =
     let at : IsSolvedAt v l = subst (λ (y : Stepping). IsSolvedAt y l) (sym is) h in
@@ -122,12 +129,21 @@ pub one_still : (s : Parts) (lane made : ℕ) (old new : List LanePrices) → le
 one_still s lane made old new one now = ap length now.set ∙ length-set old 0 now.prices ∙ one
 
 -- the answer of the one lane's round
-pub answer_seen : (x : Stepping) (d : LanePrices) (b v : ℕ) (plan : List Placement) → length x.lanes ≡ 1 → IsAnswer x.snapshot (slice_index_or x.lanes 0 d) b v plan
+pub answer_seen : (x : Stepping) (d : LanePrices) (b v : ℕ) (plan : List Placement) → length x.lanes ≡ 1
+    → IsAnswer x.snapshot (slice_index_or x.lanes 0 d) b v plan
     → IsRoundAnswer x.snapshot (lane_seen x).lane (lane_seen x).made b v
 answer_seen x d b v plan one h =
     let l : LanePrices = slice_index_or x.lanes 0 d in
     subst (λ (y : LaneSeen). IsRoundAnswer x.snapshot y.lane y.made b v) (sym (seen_at x d one))
-    (record { prices = l.prices.0; quota_prices = l.quota_prices.0; is_round = h.is_lane.is_round; is_bound = h.bound; plan = plan; repaired = h.repaired; worth = h.worth })
+    (record {
+      prices = l.prices.0;
+      quota_prices = l.quota_prices.0;
+      is_round = h.is_lane.is_round;
+      is_bound = h.bound;
+      plan = plan;
+      repaired = h.repaired;
+      worth = h.worth;
+    })
 
 -- the same lanes are seen alike
 pub same_seen : (x y : Stepping) → y.snapshot ≡ x.snapshot → y.lanes ≡ x.lanes → lane_seen y ≡ lane_seen x

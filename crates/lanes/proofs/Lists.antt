@@ -1,7 +1,8 @@
 -- Elements of lists of which something is so.
 use Rattle.std.proofs.Common.{◌≡◌, ◌≢◌, ℕ, ◌+◌, ◌-◌, ◌<◌, ◌⊎◌, inl, inr, List, ◌++◌, length, map, slice_index_or, slice_set, sym, ap, subst, ◌∙◌, arith}
 use Rattle.std.specs.Prelude.{Any}
-use Rattle.std.proofs.lemmas.List.{get_or_append_left, get_or-append-add, get_or-set_same, get_or-set_other, get_or-map, get_or_default, length-append, length-map, length-set}
+use Rattle.std.proofs.lemmas.List.{get_or_append_left, get_or-append-add, get_or-set_same, get_or-set_other, get_or-map, get_or_default, length-append}
+use Rattle.std.proofs.lemmas.List.{length-map, length-set}
 use mathlib.Core.Logic.{dite}
 use native.Mathlib.Decide.{ℕ_discrete, dec_lt}
 

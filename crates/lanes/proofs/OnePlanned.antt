@@ -12,14 +12,16 @@ use Rattle.plan_base.specs.Planned.{IsRoundOf, IsRoundPlan, IsPlanned, IsRoundSh
 use Rattle.lanes.specs.Laws.{HaveSameRounds, WorkersAgree}
 
 -- the rounds of the one settings are those of the other
-round_of : (s : Parts) (x y : Settings) (lane round : ℕ) (prices : List ℤ) (quota_prices : List ℕ) → HaveSameRounds x y → IsRoundOf s x lane round prices quota_prices → IsRoundOf s y lane round prices quota_prices
+round_of : (s : Parts) (x y : Settings) (lane round : ℕ) (prices : List ℤ) (quota_prices : List ℕ) → HaveSameRounds x y
+    → IsRoundOf s x lane round prices quota_prices → IsRoundOf s y lane round prices quota_prices
 round_of s x y lane round prices quota_prices same is = record {
   lane_known = omega (arith, same.lanes, is.lane_known);
   round_known = omega (arith, same.rounds, is.round_known);
   is_round = is.is_round;
 }
 
-round_plan : (s : Parts) (x y : Settings) (lane round value : ℕ) (plan : List Placement) → HaveSameRounds x y → IsRoundPlan s x lane round value plan → IsRoundPlan s y lane round value plan
+round_plan : (s : Parts) (x y : Settings) (lane round value : ℕ) (plan : List Placement) → HaveSameRounds x y → IsRoundPlan s x lane round value plan
+    → IsRoundPlan s y lane round value plan
 round_plan s x y lane round value plan same is = record {
   prices = is.prices;
   quota_prices = is.quota_prices;

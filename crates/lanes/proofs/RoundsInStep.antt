@@ -22,7 +22,12 @@ pub record IsRoundGoing (L : ℕ) (board : Board) (start now : Worker L) (round 
   pub solved : (k : ℕ) → first ≤ k → k < L → IsSolvedAt now.steps k
 
 pub same_through : (L : ℕ) (a b c : Worker L) → IsSameWorker L a b → IsSameWorker L b c → IsSameWorker L a c
-same_through L a b c x y = record { settings = y.settings ∙ x.settings; opening = y.opening ∙ x.opening; snapshot = y.snapshot ∙ x.snapshot; share = y.share ∙ x.share }
+same_through L a b c x y = record {
+  settings = y.settings ∙ x.settings;
+  opening = y.opening ∙ x.opening;
+  snapshot = y.snapshot ∙ x.snapshot;
+  share = y.share ∙ x.share;
+}
 
 module _ (L : ℕ) (board : Board) (start now : Worker L) (round l : ℕ) (h : IsRoundGoing L board start now round l) (lt : l < now.taken) where
   -- a lane that has stopped is passed over
@@ -48,9 +53,11 @@ module _ (L : ℕ) (board : Board) (start now : Worker L) (round l : ℕ) (h : I
   round_on next seat working made =
       let fits = lanes_fit L now h.working in
       let at : (d : LanePrices) → (slice_index_or next.steps.lanes l d).made ≡ (slice_index_or now.steps.lanes l d).made + 1 = λ d.
-      (let n = made.lanes d in ap (λ (xs : List LanePrices). (slice_index_or xs l d).made) n.set ∙ ap (λ (z : LanePrices). z.made) (get_or-set_same now.steps.lanes l n.prices d (omega arith)) ∙ n.rounds) in
+      (let n = made.lanes d in ap (λ (xs : List LanePrices). (slice_index_or xs l d).made) n.set
+      ∙ ap (λ (z : LanePrices). z.made) (get_or-set_same now.steps.lanes l n.prices d (omega arith)) ∙ n.rounds) in
       let elsewhere : (k : ℕ) (d : LanePrices) → k ≢ l → (slice_index_or next.steps.lanes k d).made ≡ (slice_index_or now.steps.lanes k d).made = λ k d other.
-      (let n = made.lanes d in ap (λ (xs : List LanePrices). (slice_index_or xs k d).made) n.set ∙ ap (λ (z : LanePrices). z.made) (get_or-set_other now.steps.lanes l k n.prices d other)) in
+      (let n = made.lanes d in ap (λ (xs : List LanePrices). (slice_index_or xs k d).made) n.set
+      ∙ ap (λ (z : LanePrices). z.made) (get_or-set_other now.steps.lanes l k n.prices d other)) in
       record {
         seat = seat;
         working = working;

@@ -1,7 +1,9 @@
 -- What is known of lanes while one telescope after another is solved.
-use Rattle.std.proofs.Common.{◌≡◌, ℕ, ◌+◌, ◌*◌, ◌<◌, ◌≤◌, ◌⊎◌, inl, inr, ℤ, pos, List, [], ◌∷◌, ◌++◌, length, slice_index_or, slice_set, All, refl, sym, ◌∙◌, ap, subst, arith}
+use Rattle.std.proofs.Common.{◌≡◌, ℕ, ◌+◌, ◌*◌, ◌<◌, ◌≤◌, ◌⊎◌, inl, inr, ℤ, pos, List, [], ◌∷◌, ◌++◌, length, slice_index_or, slice_set, All, refl}
+use Rattle.std.proofs.Common.{sym, ◌∙◌, ap, subst, arith}
 use Rattle.std.specs.List.{flat_map}
-use Rattle.std.proofs.lemmas.List.{length-set, length-map, length-append, map-set, get_or-set_same, get_or-set_other, get_or_append_left, get_or_push, length_push, flat_map_more}
+use Rattle.std.proofs.lemmas.List.{length-set, length-map, length-append, map-set, get_or-set_same, get_or-set_other, get_or_append_left, get_or_push}
+use Rattle.std.proofs.lemmas.List.{length_push, flat_map_more}
 use Rattle.std.proofs.lemmas.List.Elements.{All-set}
 use Rattle.std.proofs.lemmas.Nat.{mul-le}
 use Rattle.plan_base.specs.declared.parts.Parts.{Parts}
@@ -59,7 +61,8 @@ solved_more s prices n u v bests b within more best h = record {
   best = λ t l. elim (below_or_at t n l) [
     | inl below ↦ subst (IsBest s prices t s.first.0) (sym (get_or-set_other bests n t b (pos 0) (λ e. omega arith))) (h.best t below)
     | inr same ↦
-        let read : slice_index_or (slice_set bests n b) t (pos 0) ≡ b = ap (λ (k : ℕ). slice_index_or (slice_set bests n b) k (pos 0)) same ∙ get_or-set_same bests n b (pos 0) within in
+        let read : slice_index_or (slice_set bests n b) t (pos 0) ≡ b = ap (λ (k : ℕ). slice_index_or (slice_set bests n b) k (pos 0)) same
+        ∙ get_or-set_same bests n b (pos 0) within in
         subst (IsBest s prices t s.first.0) (sym read) (subst (λ (k : ℕ). IsBest s prices k s.first.0 b) (sym same) best)
   ];
 }
@@ -121,7 +124,8 @@ lanes_more s m n prices uses new bests b below long is_solved h = record {
       (is_solved.best l within) (h.solved l u within));
 }
 
-pub lanes_all : (s : Parts) (m n : ℕ) (prices : List (List ℤ)) (uses : List Started) (bests : List (List ℤ)) → n ≡ length s.telescopes → AreSolvedTo s m n prices uses bests
+pub lanes_all : (s : Parts) (m n : ℕ) (prices : List (List ℤ)) (uses : List Started) (bests : List (List ℤ)) → n ≡ length s.telescopes
+    → AreSolvedTo s m n prices uses bests
     → (l : ℕ) (u : Started) → l < m → IsSolved s (lane l prices) (slice_index_or uses l u).starts (lane l bests)
 lanes_all s m n prices uses bests all h l u within =
     solved_all s (lane l prices) n (slice_index_or uses l u) (lane l bests) all (length-map bests (number_in l) ∙ h.bests_count) (h.solved l u within)

@@ -30,12 +30,14 @@ none_made : (j k : ℕ) → ¬ (IsMade [] j k)
 none_made j k m = absurd (omega (arith, m.2))
 
 -- no lane is in step, and none was before
-pub in_step_new : (s : Parts) (settings : Settings) (opening : ℕ) (v : SeatView) (f : FoundSeen) → f ≡ nothing s opening → IsUnused 0 v → IsInStep s settings opening v f [] []
+pub in_step_new : (s : Parts) (settings : Settings) (opening : ℕ) (v : SeatView) (f : FoundSeen) → f ≡ nothing s opening → IsUnused 0 v
+    → IsInStep s settings opening v f [] []
 in_step_new s settings opening v f is unused = record {
   before = [];
   within = λ j k m. absurd (none_made j k m);
   claimed = λ j k m. absurd (none_made j k m);
-  found = none_found s settings.workers (IsMade []) f opening none_made (ap (λ (g : FoundSeen). g.bound) is) (ap (λ (g : FoundSeen). g.value) is) (ap (λ (g : FoundSeen). g.plan) is)
+  found = none_found s settings.workers (IsMade []) f opening none_made (ap (λ (g : FoundSeen). g.bound) is) (ap (λ (g : FoundSeen). g.value) is)
+      (ap (λ (g : FoundSeen). g.plan) is)
       (subst (λ (g : FoundSeen). ArePrices s g.prices g.quota_prices) (sym is) (nothing_priced s opening));
   bound_given = inl unused.bound;
   value_given = inl (let m = unused.value in omega arith);
@@ -47,7 +49,8 @@ in_step_new s settings opening v f is unused = record {
 }
 
 -- nothing was searched yet, and the plan to begin with is held
-pub searched_new : (s : Parts) (settings : Settings) (opening : ℕ) (greedy : List Placement) (v : SeatView) (f : FoundSeen) → f ≡ record (nothing s opening) { plan = greedy } → IsUnused opening v
+pub searched_new : (s : Parts) (settings : Settings) (opening : ℕ) (greedy : List Placement) (v : SeatView) (f : FoundSeen)
+    → f ≡ record (nothing s opening) { plan = greedy } → IsUnused opening v
     → IsFeasible s greedy → IsSearched s settings opening greedy v f
 searched_new s settings opening greedy v f is unused feasible = record {
   made = [];

@@ -17,16 +17,21 @@ use Rattle.lanes.proofs.Finding.{bound_more, value_more}
 use Rattle.lanes.proofs.Lists.{same_or_not}
 
 -- what was found was given
-found_bound : (s : Parts) (workers opening : ℕ) (plan : List Placement) (m n : ℕ → ℕ → Type 0) (f : FoundSeen) → ((j k : ℕ) → m j k → n j k) → IsFound s workers m opening plan f
+found_bound : (s : Parts) (workers opening : ℕ) (plan : List Placement) (m n : ℕ → ℕ → Type 0) (f : FoundSeen) → ((j k : ℕ) → m j k → n j k)
+    → IsFound s workers m opening plan f
     → IsBoundGiven s n f.bound
-found_bound s workers opening plan m n f more x = elim x.bound [ inl none ↦ inl none.1 | inr l ↦ inr (f.prices, f.quota_prices, bound_more s m n more f.bound f.prices f.quota_prices l.reached) ]
+found_bound s workers opening plan m n f more x =
+    elim x.bound [ inl none ↦ inl none.1 | inr l ↦ inr (f.prices, f.quota_prices, bound_more s m n more f.bound f.prices f.quota_prices l.reached) ]
 
-found_value : (s : Parts) (workers opening top : ℕ) (plan : List Placement) (m n : ℕ → ℕ → Type 0) (f : FoundSeen) → opening ≤ top → ((j k : ℕ) → m j k → n j k) → IsFound s workers m opening plan f
+found_value : (s : Parts) (workers opening top : ℕ) (plan : List Placement) (m n : ℕ → ℕ → Type 0) (f : FoundSeen) → opening ≤ top
+    → ((j k : ℕ) → m j k → n j k) → IsFound s workers m opening plan f
     → IsValueGiven s n top f.value
-found_value s workers opening top plan m n f under more x = elim x.value.reached [ inl o ↦ inl (let e = o.0 in omega arith) | inr y ↦ inr (f.plan, value_more s m n more f.value f.plan y.1.reached) ]
+found_value s workers opening top plan m n f under more x =
+    elim x.value.reached [ inl o ↦ inl (let e = o.0 in omega arith) | inr y ↦ inr (f.plan, value_more s m n more f.value f.plan y.1.reached) ]
 
 -- an element of what was mapped from a beginning of a list
-mapped : {X : Type 0} (g : X → ℕ) (xs : List X) (n b : ℕ) → n ≤ length xs → Contains (map g (take n xs)) b → (k : ℕ) × (k < n) × ((d : X) → g (slice_index_or xs k d) ≡ b)
+mapped : {X : Type 0} (g : X → ℕ) (xs : List X) (n b : ℕ) → n ≤ length xs → Contains (map g (take n xs)) b
+    → (k : ℕ) × (k < n) × ((d : X) → g (slice_index_or xs k d) ≡ b)
 mapped g xs n b le (k, lt, e) =
     let long : length (take n xs) ≡ n = length-take-le n xs le in
     let same : length (map g (take n xs)) ≡ length (take n xs) = length-map (take n xs) g in
@@ -66,16 +71,20 @@ module _ (s : Parts) (settings : Settings) (opening : ℕ) (v : SeatView) (f : F
         bound = x.bound;
         value = x.value;
         gives = elim (contains_cases f.bound x.bound (map (λ y. y.found.bound) (take (l + 1) founds)) x.found_bound) [
-          | inl same ↦ subst (IsBoundGiven s (up_to so_far lane)) same (found_bound s settings.workers opening [] (IsMade h.before) (up_to so_far lane) f (from_before d) h.found)
+          | inl same ↦ subst (IsBoundGiven s (up_to so_far lane)) same
+              (found_bound s settings.workers opening [] (IsMade h.before) (up_to so_far lane) f (from_before d) h.found)
           | inr among ↦ (let (i, lt, is) = mapped (λ y. y.found.bound) founds (l + 1) x.bound (omega arith) among in
-              subst (IsBoundGiven s (up_to so_far lane)) (is e) (found_bound s settings.workers 0 [] (IsMadeIn (slice_index_or lanes i d)) (up_to so_far lane) (slice_index_or founds i e).found
+              subst (IsBoundGiven s (up_to so_far lane)) (is e)
+              (found_bound s settings.workers 0 [] (IsMadeIn (slice_index_or lanes i d)) (up_to so_far lane) (slice_index_or founds i e).found
               (λ j k. from_lane d i j k (omega arith)) (h.each i d e (omega arith)).found))
         ];
         has = elim (contains_cases f.value x.value (map (λ y. y.found.value) (take (l + 1) founds)) x.found_value) [
           | inl same ↦ subst (IsValueGiven s (up_to so_far lane) opening) same
               (found_value s settings.workers opening opening [] (IsMade h.before) (up_to so_far lane) f (omega arith) (from_before d) h.found)
           | inr among ↦ (let (i, lt, is) = mapped (λ y. y.found.value) founds (l + 1) x.value (omega arith) among in
-              subst (IsValueGiven s (up_to so_far lane) opening) (is e) (found_value s settings.workers 0 opening [] (IsMadeIn (slice_index_or lanes i d)) (up_to so_far lane) (slice_index_or founds i e).found
+              subst (IsValueGiven s (up_to so_far lane) opening) (is e)
+              (found_value s settings.workers 0 opening [] (IsMadeIn (slice_index_or lanes i d)) (up_to so_far lane)
+              (slice_index_or founds i e).found
               (omega arith) (λ j k. from_lane d i j k (omega arith)) (h.each i d e (omega arith)).found))
         ];
         met = x.met;
@@ -96,13 +105,15 @@ module _ (s : Parts) (settings : Settings) (opening : ℕ) (v : SeatView) (f : F
     each = λ k c g lt. elim (same_or_not k l) [
       | inl same ↦
           let long : length founds ≡ length lanes = h.count in
-          let there : slice_index_or (slice_set founds l y) k g ≡ y = ap (λ (i : ℕ). slice_index_or (slice_set founds l y) i g) same ∙ get_or-set_same founds l y g (omega arith) in
+          let there : slice_index_or (slice_set founds l y) k g ≡ y = ap (λ (i : ℕ). slice_index_or (slice_set founds l y) i g) same
+          ∙ get_or-set_same founds l y g (omega arith) in
           subst (λ (z : LaneFound). IsFoundInStep s settings opening v so_far (slice_index_or lanes k c) z) (sym there)
           (subst (λ (i : ℕ). IsFoundInStep s settings opening v so_far (slice_index_or lanes i c) y) (sym same) (record {
             found = subst (λ (z : FoundSeen). IsFound s settings.workers (IsMadeIn (slice_index_or lanes l c)) 0 [] z) (sym found) (h.each l c e within).found;
             stopped = λ yes. (met, λ alone. met_at c e (why alone));
           }))
-      | inr other ↦ subst (λ (z : LaneFound). IsFoundInStep s settings opening v so_far (slice_index_or lanes k c) z) (sym (get_or-set_other founds l k y g other)) (h.each k c g lt)
+      | inr other ↦ subst (λ (z : LaneFound). IsFoundInStep s settings opening v so_far (slice_index_or lanes k c) z)
+          (sym (get_or-set_other founds l k y g other)) (h.each k c g lt)
     ];
     rising = h.rising;
     done = h.done;

@@ -1,5 +1,6 @@
 -- Numbers of lanes that are written side by side, and copied out again.
-use Rattle.std.proofs.Common.{◌≡◌, ◌≢◌, ℕ, ◌+◌, ◌<◌, ◌≤◌, ◌⊎◌, inl, inr, ℤ, pos, List, [], length, slice_index_or, slice_set, All, refl, sym, ◌∙◌, ap, subst, arith}
+use Rattle.std.proofs.Common.{◌≡◌, ◌≢◌, ℕ, ◌+◌, ◌<◌, ◌≤◌, ◌⊎◌, inl, inr, ℤ, pos, List, [], length, slice_index_or, slice_set, All, refl, sym, ◌∙◌, ap}
+use Rattle.std.proofs.Common.{subst, arith}
 use Rattle.std.proofs.lemmas.List.{length-set, length-map, get_or-map, get_or-set_same, get_or-set_other, get_or_default, ext_get_or}
 use Rattle.std.proofs.lemmas.List.Elements.{All-set, All-from_get_or}
 use Rattle.interval_solver.specs.Lanes.{number_in, lane, IsForLanes}
@@ -40,18 +41,21 @@ written_more m l n prices old now row p lane_known below is value h = record {
     | inl earlier ↦ ap (number_in l) (get_or-set_other now n k (slice_set row l p) [] (λ e. omega arith)) ∙ h.here k earlier
     | inr same ↦
         let size : length row ≡ m = ap length is ∙ h.long n [] below in
-        ap (at l (slice_set now n (slice_set row l p))) same ∙ ap (number_in l) (get_or-set_same now n (slice_set row l p) [] below) ∙ get_or-set_same row l p (pos 0) (omega arith) ∙ value
+        ap (at l (slice_set now n (slice_set row l p))) same ∙ ap (number_in l) (get_or-set_same now n (slice_set row l p) [] below)
+        ∙ get_or-set_same row l p (pos 0) (omega arith) ∙ value
         ∙ ap (λ (i : ℕ). slice_index_or prices i (pos 0)) (sym same)
   ];
   others = λ j k other. elim (same_or_other k n) [
     | inl same ↦
-        ap (at j (slice_set now n (slice_set row l p))) same ∙ ap (number_in j) (get_or-set_same now n (slice_set row l p) [] below) ∙ get_or-set_other row l j p (pos 0) other ∙ ap (number_in j) is
+        ap (at j (slice_set now n (slice_set row l p))) same ∙ ap (number_in j) (get_or-set_same now n (slice_set row l p) [] below)
+        ∙ get_or-set_other row l j p (pos 0) other ∙ ap (number_in j) is
         ∙ h.others j n other ∙ ap (at j old) (sym same)
     | inr differ ↦ ap (number_in j) (get_or-set_other now n k (slice_set row l p) [] differ) ∙ h.others j k other
   ];
 }
 
-pub written_here : (m l n : ℕ) (prices : List ℤ) (old now : List (List ℤ)) → n ≡ length prices → length prices ≡ length old → IsWrittenTo m l n prices old now → lane l now ≡ prices
+pub written_here : (m l n : ℕ) (prices : List ℤ) (old now : List (List ℤ)) → n ≡ length prices → length prices ≡ length old
+    → IsWrittenTo m l n prices old now → lane l now ≡ prices
 written_here m l n prices old now all count h =
     let size : length (lane l now) ≡ length now = length-map now (number_in l) in
     ext_get_or (pos 0) (lane l now) prices (size ∙ h.count ∙ sym count) (λ k below. lane_at l now k (pos 0) (omega arith) ∙ h.here k (omega (arith, h.count)))
@@ -64,7 +68,8 @@ written_others m l n prices old now h j other =
     lane_at j now k (pos 0) (omega arith) ∙ h.others j k other ∙ sym (lane_at j old k (pos 0) (omega (arith, h.count))))
 
 -- each number of each lane is P where all numbers of each lane are
-pub for_lanes : (m : ℕ) (P : ℤ → Type 0) (lists : List (List ℤ)) → All (IsAsLong m) lists → ((l : ℕ) → l < m → All P (lane l lists)) → All (IsForLanes m P) lists
+pub for_lanes : (m : ℕ) (P : ℤ → Type 0) (lists : List (List ℤ)) → All (IsAsLong m) lists → ((l : ℕ) → l < m → All P (lane l lists))
+    → All (IsForLanes m P) lists
 for_lanes m P lists long all k d below = record {
   count = long k d below;
   each = All-from_get_or P (slice_index_or lists k d) (pos 0) (λ l within.
@@ -91,7 +96,8 @@ lanes_written_more m n lanes old now new x within is count long here others h = 
   prices = λ l d below. elim (below_or_at l n below) [
     | inl earlier ↦ others l (λ e. omega arith) ∙ h.prices l d earlier
     | inr same ↦
-        ap (λ (k : ℕ). lane k new) same ∙ here ∙ ap (λ (y : LanePrices). y.prices.0) (is ∙ get_or_default lanes n x d within) ∙ ap (λ (k : ℕ). (slice_index_or lanes k d).prices.0) (sym same)
+        ap (λ (k : ℕ). lane k new) same ∙ here ∙ ap (λ (y : LanePrices). y.prices.0) (is ∙ get_or_default lanes n x d within)
+        ∙ ap (λ (k : ℕ). (slice_index_or lanes k d).prices.0) (sym same)
   ];
 }
 
@@ -111,7 +117,8 @@ cleared_more n old now u v within is cleared h = record {
   done = λ l d below. elim (below_or_at l n below) [
     | inl earlier ↦ get_or-set_other now n l v d (λ e. omega arith) ∙ h.done l d earlier
     | inr same ↦
-        let before : u ≡ slice_index_or old l d = is ∙ h.rest n u (omega arith) ∙ get_or_default old n u d within ∙ ap (λ (k : ℕ). slice_index_or old k d) (sym same) in
+        let before : u ≡ slice_index_or old l d = is ∙ h.rest n u (omega arith) ∙ get_or_default old n u d within
+        ∙ ap (λ (k : ℕ). slice_index_or old k d) (sym same) in
         ap (λ (k : ℕ). slice_index_or (slice_set now n v) k d) same ∙ get_or-set_same now n v d (omega (arith, h.count)) ∙ cleared
         ∙ ap (λ (w : Started). let it : Started = record { snapshot = w.snapshot; starts = []; room = w.room } in it) before
   ];

@@ -59,7 +59,9 @@ pub fn solve_plan_with<R: Threads + Sync, G: Gate>(
     requires { IsInRange taken.settings }
     ensures same_taken { IfOk result (λ solved. solved.taken ≡ taken) }
     ensures outcome { IfOk result (λ solved. IsOutcome taken.snapshot taken.settings solved.outcome) }
-    ensures cache { MatchResult result (λ solved. IsCachedFor taken.snapshot solved.outcome cache.old cache.new) (λ _. IsCachedOrNot taken.snapshot cache.old cache.new) }
+    ensures cache { MatchResult result
+        (λ solved. IsCachedFor taken.snapshot solved.outcome cache.old cache.new)
+        (λ _. IsCachedOrNot taken.snapshot cache.old cache.new) }
 {
     let outcome = outcome_of(rt, alloc, &taken, cache, gate)?;
     Ok(Solved::new(taken, outcome))
@@ -75,7 +77,9 @@ fn outcome_of<R: Threads + Sync, G: Gate>(
 ) -> Result<Outcome, AllocError>
     requires { IsInRange taken.now.settings }
     ensures outcome { IfOk result (λ outcome. IsOutcome taken.now.snapshot taken.now.settings outcome) }
-    ensures cache { MatchResult result (λ outcome. IsCachedFor taken.now.snapshot outcome cache.old cache.new) (λ _. IsCachedOrNot taken.now.snapshot cache.old cache.new) }
+    ensures cache { MatchResult result
+        (λ outcome. IsCachedFor taken.now.snapshot outcome cache.old cache.new)
+        (λ _. IsCachedOrNot taken.now.snapshot cache.old cache.new) }
 {
     match cache.mend(rt, alloc, &taken.snapshot) {
         Ok(()) => {

@@ -81,7 +81,8 @@ pub(crate) fn solve_telescopes<const L: usize>(
     ensures long { All (IsAsLong L) bests.new }
     ensures each { length uses.new ≡ length uses.old }
     ensures uses { All (IsRoomy snapshot.now) uses.new }
-    ensures solved { (place : ℕ) (u : Started) → place < L → IsSolved snapshot.now (lane place prices.now) (slice_index_or uses.new place u).starts (lane place bests.new) }
+    ensures solved { (place : ℕ) (u : Started) → place < L
+        → IsSolved snapshot.now (lane place prices.now) (slice_index_or uses.new place u).starts (lane place bests.new) }
 {
     for telescope in 0..snapshot.parts().telescopes.len() {
         bests[telescope] = rows[telescope].solve(prices, table, uses);

@@ -15,7 +15,8 @@ same_number s a b known_a known_b at =
     let x = known_as s a known_a in
     let y = known_as s b known_b in
     let here : slice_index_or (listed s) (place_of s a) x.0 ≡ x.0 = x.1.at_place in
-    let there : slice_index_or (listed s) (place_of s a) x.0 ≡ y.0 = ap (λ (i : ℕ). slice_index_or (listed s) i x.0) at ∙ get_or_default (listed s) (place_of s b) x.0 y.0 known_b ∙ y.1.at_place in
+    let there : slice_index_or (listed s) (place_of s a) x.0 ≡ y.0 = ap (λ (i : ℕ). slice_index_or (listed s) i x.0) at
+    ∙ get_or_default (listed s) (place_of s b) x.0 y.0 known_b ∙ y.1.at_place in
     sym x.1.number ∙ ap (λ z. z.request.request.0) (sym here ∙ there) ∙ y.1.number
 
 pub same_start : (p q : Placement) → p.request.0 ≡ q.request.0 → p.telescope.0 ≡ q.telescope.0 → p.slice.0 ≡ q.slice.0 → p ≡ q

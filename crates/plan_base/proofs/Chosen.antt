@@ -58,9 +58,11 @@ joined_from s n (xs ∷ lists) h =
     let on : All (λ p. p.telescope.0 ≡ n) xs = λ i d l. here.same_telescope i d l ∙ omega arith in
     record {
       possible = All-append (IsPossibleStart s) xs (flat_map (λ list. list) lists) here.possible rest.possible;
-      from = All-append (λ p. n ≤ p.telescope.0) xs (flat_map (λ list. list) lists) (λ i d l. let same = on i d l in omega (arith, same)) (λ i d l. let more = rest.from i d l in omega (arith, more));
+      from = All-append (λ p. n ≤ p.telescope.0) xs (flat_map (λ list. list) lists) (λ i d l. let same = on i d l in
+          omega (arith, same)) (λ i d l. let more = rest.from i d l in omega (arith, more));
       disjoint = pairs_append (AreApart s) xs (flat_map (λ list. list) lists) here.disjoint rest.disjoint (λ p q a b.
-          later_telescope s n p q (All-contains (λ x. x.telescope.0 ≡ n) xs p on a) (All-contains (λ x. suc n ≤ x.telescope.0) (flat_map (λ list. list) lists) q rest.from b));
+          later_telescope s n p q (All-contains (λ x. x.telescope.0 ≡ n) xs p on a)
+          (All-contains (λ x. suc n ≤ x.telescope.0) (flat_map (λ list. list) lists) q rest.from b));
     }
 
 joined : (s : Parts) (prices : List ℤ) (starts : List Placement) → IsCanonicalStarts s prices starts → AreJoined s 0 starts
@@ -68,7 +70,8 @@ joined s prices starts h =
     subst (AreJoined s 0) (sym h.joined)
     (joined_from s 0 h.lists (λ t l.
     let same : t ≡ 0 + t = omega arith in
-    subst (λ (k : ℕ). IsStartList s k s.first.0 (slice_index_or h.lists t [])) same (chosen_from s prices t s.first.0 (slice_index_or h.lists t []) (h.each t (omega (arith, h.count))))))
+    subst (λ (k : ℕ). IsStartList s k s.first.0 (slice_index_or h.lists t [])) same
+    (chosen_from s prices t s.first.0 (slice_index_or h.lists t []) (h.each t (omega (arith, h.count))))))
 
 pub starts_possible : (s : Parts) (prices : List ℤ) (starts : List Placement) → IsCanonicalStarts s prices starts → All (IsPossibleStart s) starts
 starts_possible s prices starts h = (joined s prices starts h).possible

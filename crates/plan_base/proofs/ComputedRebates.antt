@@ -15,7 +15,15 @@ use Rattle.plan_base.proofs.Rebates.{AreMembers, rebate_of_one, rebate_of_and}
 
 -- one group of requests 4 and 9
 abbrev pair_of : Op → Parts
-pair_of op = record fading { groups = record { group = record { 0 = 2 }; op = op; requests = asked 4 300 70000 0 ∷ asked 9 300 60000 0 ∷ []; quota = None } ∷ [] }
+pair_of op = record fading {
+  groups = record {
+    group = record { 0 = 2 };
+    op = op;
+    requests = asked 4 300 70000 0 ∷ asked 9 300 60000 0
+        ∷ [];
+    quota = None;
+  } ∷ [];
+}
 
 abbrev at_prices : Op → ℤ → ℤ → ℕ → ℤ
 at_prices op a b = price (pair_of op) (a ∷ b ∷ [])
@@ -27,14 +35,16 @@ four_differs (suc i) d l = absurd (omega arith)
 both : (op : Op) → AreMembers (pair_of op) 0 (4 ∷ 9 ∷ [])
 both op = record {
   once = AllPairs-cons (λ a b. a ≢ b) 4 (9 ∷ []) four_differs (λ i j d l m. absurd (omega arith));
-  members = All-cons (IsOf (pair_of op) 0) 4 (9 ∷ []) (omega arith, refl) (All-cons (IsOf (pair_of op) 0) 9 [] (omega arith, refl) (All-nil (IsOf (pair_of op) 0)));
+  members = All-cons (IsOf (pair_of op) 0) 4 (9 ∷ []) (omega arith, refl)
+      (All-cons (IsOf (pair_of op) 0) 9 [] (omega arith, refl) (All-nil (IsOf (pair_of op) 0)));
   complete = λ r is_of. member_is_of (pair_of op) 0 r is_of;
 }
 
 greater_of_two : IsRebate (pair_of OneOf) (at_prices OneOf (pos 5) (pos 7)) 0 (pos 7)
 greater_of_two = rebate_of_one (pair_of OneOf) (at_prices OneOf (pos 5) (pos 7)) 0 (4 ∷ 9 ∷ []) (pos 7) (both OneOf) (λ d. refl) (record {
   least = omega (arith, ints);
-  above = All-cons (λ r. at_prices OneOf (pos 5) (pos 7) r ≤ℤ pos 7) 4 (9 ∷ []) (omega (arith, ints)) (All-cons (λ r. at_prices OneOf (pos 5) (pos 7) r ≤ℤ pos 7) 9 [] (omega (arith, ints)) (All-nil _));
+  above = All-cons (λ r. at_prices OneOf (pos 5) (pos 7) r ≤ℤ pos 7) 4 (9 ∷ []) (omega (arith, ints))
+      (All-cons (λ r. at_prices OneOf (pos 5) (pos 7) r ≤ℤ pos 7) 9 [] (omega (arith, ints)) (All-nil _));
   reached = inr (9, contains_rest 4 9 (9 ∷ []) (contains_first 9 []), refl);
 })
 

@@ -18,7 +18,8 @@ abbrev Sees : ℕ → TargetNo → Type 0
 Sees k target = IsVisibleThrough touching target.0 (site_of touching 0) (start_second touching (at 1 k)) (end_second touching (at 1 k))
 
 seen : (k : ℕ) → k < 3 → All (Sees k) (targets_of touching 1)
-seen k h = All-cons (Sees k) (record { 0 = 0 }) [] (zero, _, omega arith, refl, (refl, refl, (zero, span 0 86400, omega arith, refl, (omega arith, omega arith)))) (All-nil (Sees k))
+seen k h = All-cons (Sees k) (record { 0 = 0 }) []
+    (zero, _, omega arith, refl, (refl, refl, (zero, span 0 86400, omega arith, refl, (omega arith, omega arith)))) (All-nil (Sees k))
 
 inside : (k : ℕ) → k < 3 → OneHasAll (windows_of touching 1) (start_second touching (at 1 k)) (end_second touching (at 1 k)) → IsPossibleStart touching (at 1 k)
 inside k h window = possible_from_by_spans touching (at 1 k) (record {

@@ -72,7 +72,8 @@ no_empty w lt = grind (arith, nat_tests)
 
 no_span_fault : (s : Parts) → IsOrderly s → span_fault s ≡ None
 no_span_fault s h =
-    rw (list_any_none (λ w. nat_le w.to.0 w.from.0) (all_spans s) (All-weaker (λ w. w.from.0 < w.to.0) (λ w. nat_le w.to.0 w.from.0 ≡ false) no_empty (all_spans s) (all_full s h))) refl
+    rw (list_any_none (λ w. nat_le w.to.0 w.from.0) (all_spans s)
+    (All-weaker (λ w. w.from.0 < w.to.0) (λ w. nat_le w.to.0 w.from.0 ≡ false) no_empty (all_spans s) (all_full s h))) refl
 
 apart_is : (spans : List Span) → IsSortedApart spans → is_apart spans ≡ true
 apart_is spans h =
@@ -116,7 +117,8 @@ no_request_fault s h = map_nothing _ _ (zip (listed s) (drop 1 (listed s))) (no_
 no_shape_fault : (s : Parts) → IsOrderly s → shape_fault s ≡ None
 no_shape_fault s h = map_nothing _ _ s.groups (λ k d lt. let both = h.shapes k d lt in grind (arith, nat_tests, both.0, both.1))
 
-fits_one : (n : ℕ) (last : Option TelescopeNo) (t : TelescopeNo) → ((p : TelescopeNo) → last ≡ Some p → p.0 < t.0) → t.0 < n → not (fits_after n (last, t)) ≡ false
+fits_one : (n : ℕ) (last : Option TelescopeNo) (t : TelescopeNo) → ((p : TelescopeNo) → last ≡ Some p → p.0 < t.0) → t.0 < n
+    → not (fits_after n (last, t)) ≡ false
 fits_one n None t after lt = grind (arith, nat_tests)
 fits_one n (Some p) t after lt = let rises : p.0 < t.0 = after p refl in grind (arith, nat_tests)
 
@@ -137,7 +139,8 @@ no_telescope_fault : (s : Parts) → IsOrderly s → telescope_fault s ≡ None
 no_telescope_fault s h =
     map_nothing _ _ (flat_map (λ x. with_last x.request.telescopes) (listed s))
     (all_flat (λ p. not (fits_after (length s.telescopes) p) ≡ false) (λ x. with_last x.request.telescopes) (listed s)
-    (λ k d lt. fits_all (length s.telescopes) None (slice_index_or (listed s) k d).request.telescopes (λ p e. absurd (cc)) (h.telescopes k d lt) (h.telescopes_rise k d lt)))
+    (λ k d lt. fits_all (length s.telescopes) None (slice_index_or (listed s) k d).request.telescopes (λ p e. absurd (cc)) (h.telescopes k d lt)
+    (h.telescopes_rise k d lt)))
 
 no_fade_fault : (s : Parts) → IsOrderly s → fade_fault s ≡ None
 no_fade_fault s h = map_nothing _ _ (listed s) (λ k d lt. let fade = h.fades k d lt in grind (arith, nat_tests))
@@ -171,7 +174,8 @@ no_quota_range_fault s h = no_position _ (λ q. nat_lt 100000000 q) s.quotas (λ
 no_limit_fault : (s : Parts) → IsOrderly s → limit_fault s ≡ None
 no_limit_fault s h =
     all_nothing (λ what. option_map (λ n. OverLimit what n) (find (λ n. nat_lt (limit_of what) n) (counts_of s what))) all_counted
-    (λ what. map_nothing (λ n. OverLimit what n) (λ n. nat_lt (limit_of what) n) (counts_of s what) (λ k d lt. let most = h.within what k d lt in grind (arith, nat_tests)))
+    (λ what. map_nothing (λ n. OverLimit what n) (λ n. nat_lt (limit_of what) n) (counts_of s what) (λ k d lt. let most = h.within what k d lt in
+    grind (arith, nat_tests)))
 
 -- ---- all together
 

@@ -1,21 +1,24 @@
 -- A filled plan is feasible, where it began so, and saturated.
-use Rattle.std.proofs.Common.{◌≡◌, ◌≢◌, ℕ, zero, suc, ◌+◌, ◌<◌, ◌≤◌, ◌⊎◌, inl, inr, Bool, true, false, cond, ◌==◌, List, [], ◌∷◌, ◌++◌, length, map, slice_index_or, Option, Some, None, All, AllPairs, Contains, length-append, refl, sym, ◌∙◌, ap, subst, arith}
+use Rattle.std.proofs.Common.{◌≡◌, ◌≢◌, ℕ, zero, suc, ◌+◌, ◌<◌, ◌≤◌, ◌⊎◌, inl, inr, Bool, true, false, cond, ◌==◌, List, [], ◌∷◌, ◌++◌, length}
+use Rattle.std.proofs.Common.{slice_index_or, Option, Some, None, All, AllPairs, Contains, length-append, refl, sym, ◌∙◌, ap, subst, arith}
 use Rattle.std.proofs.lemmas.Bool.{eqb-true}
-use Rattle.std.proofs.lemmas.List.{get_or_default, length-map}
-use Rattle.std.proofs.lemmas.List.Elements.{All-nil, All-head, All-tail, All-cons, All-contains, All-weaker, Contains-append_left, Contains-append_cases, Contains-push_cases, Contains-get_or}
+use Rattle.std.proofs.lemmas.List.{get_or_default}
+use Rattle.std.proofs.lemmas.List.Elements.{All-nil, All-head, All-tail, All-cons, All-contains, All-weaker, Contains-append_left}
+use Rattle.std.proofs.lemmas.List.Elements.{Contains-append_cases, Contains-push_cases, Contains-get_or}
 use Rattle.plan_base.specs.declared.parts.Parts.{Parts}
 use Rattle.plan_base.specs.declared.parts.GroupPart.{GroupPart}
 use Rattle.plan_base.specs.declared.parts.Op.{Op}
 use Rattle.plan_base.specs.declared.parts.Op.TheVariants.{Single, Many, OneOf, And}
 use Rattle.plan_base.specs.declared.claim.Placement.{Placement}
-use Rattle.plan_base.specs.Requests.{quota_of, seconds_of, IsOf, IsKind, members_of, members, AllOrNone}
-use Rattle.plan_base.specs.Snapshot.{IsOrderly, most_requests}
+use Rattle.plan_base.specs.Requests.{quota_of, seconds_of, IsOf, IsKind, members, AllOrNone}
+use Rattle.plan_base.specs.Snapshot.{IsOrderly}
 use Rattle.plan_base.specs.Starts.{ShareSlice}
 use Rattle.plan_base.specs.Feasible.{requests_of, AreOfOneOneOf, is_quota, quota_seconds, quota_at, IsFeasible}
 use Rattle.plan_base.specs.FeasibleSoFar.{IsFeasibleSoFar}
 use Rattle.plan_base.specs.Saturated.{IsFree, HasNoFree, HasNonePlaced, IsUntouched, TakesEach, IsSaturated}
 use Rattle.plan_base.specs.Fill.{TriesOne, TriesEach, TriesUntilOne, VisitsGroup, VisitsEach, PassesTo}
 use Rattle.plan_base.proofs.Orders.{contains_cases, contains_first, contains_rest, pairs_head, pairs_tail}
+use Rattle.plan_base.proofs.GroupKinds.{kind_of, one_kind, some_member}
 use Rattle.plan_base.proofs.Known.{group_known}
 use Rattle.plan_base.proofs.Members.{is_of_member, member_is_of, members_rise}
 use Rattle.plan_base.proofs.Tables.{share_symmetric}
@@ -46,36 +49,9 @@ none_or_one xs (m ∷ ms) = elim (contains_or_not xs m) [
   ]
 ]
 
--- the kind of a group of the snapshot
-kind_of : (s : Parts) (g : ℕ) → g < length s.groups → (k : Op) × IsKind s k g
-kind_of s g l = at s.groups g l
-  where
-    at : (xs : List GroupPart) (i : ℕ) → i < length xs → (k : Op) × ((d : GroupPart) → (slice_index_or xs i d).op ≡ k)
-    at [] i l = absurd (omega arith)
-    at (x ∷ xs) zero l = (x.op, λ d. refl)
-    at (x ∷ xs) (suc i) l = at xs i (omega arith)
-
--- a group has one kind
-one_kind : (s : Parts) (j k : Op) (g : ℕ) → g < length s.groups → IsKind s j g → IsKind s k g → j ≡ k
-one_kind s j k g l a b = by s.groups g l a b
-  where
-    by : (xs : List GroupPart) (i : ℕ) → i < length xs → ((d : GroupPart) → (slice_index_or xs i d).op ≡ j) → ((d : GroupPart) → (slice_index_or xs i d).op ≡ k) → j ≡ k
-    by [] i l a b = absurd (omega arith)
-    by (x ∷ xs) zero l a b = sym (a x) ∙ b x
-    by (x ∷ xs) (suc i) l a b = by xs i (omega arith) a b
-
 -- of a ONEOF and an AND
 not_both : OneOf ≢ And
 not_both e = cc
-
--- a group of the snapshot has a request
-some_member : (s : Parts) (g : ℕ) → IsOrderly s → g < length s.groups → 1 ≤ length (members s g)
-some_member s g o l = at s.groups g l o.shapes
-  where
-    at : (xs : List GroupPart) (i : ℕ) → i < length xs → All (λ x. (1 ≤ length x.requests) × (length x.requests ≤ most_requests x.op)) xs → 1 ≤ length (slice_index_or (map members_of xs) i [])
-    at [] i l a = absurd (omega arith)
-    at (x ∷ xs) zero l a = let count : length (members_of x) ≡ length x.requests = length-map x.requests (λ q. q.request.0) in let some = All-head (λ y. (1 ≤ length y.requests) × (length y.requests ≤ most_requests y.op)) x xs a in omega (arith, some.0)
-    at (x ∷ xs) (suc i) l a = at xs i (omega arith) (All-tail (λ y. (1 ≤ length y.requests) × (length y.requests ≤ most_requests y.op)) x xs a)
 
 quota_room : (q n m d : ℕ) (o : Option ℕ) → (o ≡ Some q → n + d ≤ m) → n ≤ m → n + cond (is_quota q o) d 0 ≤ m
 quota_room q n m d None free within = omega arith
@@ -92,12 +68,16 @@ fits_free s plan p feasible free unplaced apart = record {
   unplaced = λ i d l e. unplaced (i, l, get_or_default (requests_of plan) i p.request.0 d l ∙ e);
   apart = All-weaker (λ q. ¬ (ShareSlice s p q)) (λ q. ¬ (ShareSlice s q p)) (λ q h share. h (share_symmetric s q p share)) plan free.apart;
   oneof_free = apart;
-  quota_free = λ q l. quota_room q (quota_seconds s q (requests_of plan)) (quota_at s q) (seconds_of s p.request.0) (quota_of s p.request.0) (free.within_quota q) (feasible.within_quotas q l);
+  quota_free = λ q l. quota_room q (quota_seconds s q (requests_of plan)) (quota_at s q) (seconds_of s p.request.0) (quota_of s p.request.0)
+      (free.within_quota q) (feasible.within_quotas q l);
 }
 
 -- one more request leaves whole what it isn't of
-whole_push : (s : Parts) (plan : List Placement) (p : Placement) (g : ℕ) → (IsOf s g p.request.0 → ⊥) → AllOrNone s g (requests_of plan) → AllOrNone s g (requests_of (plan ++ p ∷ []))
-whole_push s plan p g other (inl all) = inl (λ r of. subst (λ (rs : List ℕ). Contains rs r) (sym (requests_push plan p)) (Contains-append_left (requests_of plan) (p.request.0 ∷ []) r (all r of)))
+whole_push : (s : Parts) (plan : List Placement) (p : Placement) (g : ℕ) → (IsOf s g p.request.0 → ⊥) → AllOrNone s g (requests_of plan)
+    → AllOrNone s g (requests_of (plan ++ p ∷ []))
+whole_push s plan p g other (inl all) =
+    inl (λ r of. subst (λ (rs : List ℕ). Contains rs r) (sym (requests_push plan p))
+    (Contains-append_left (requests_of plan) (p.request.0 ∷ []) r (all r of)))
 whole_push s plan p g other (inr none) = inr (λ r of c.
     elim (Contains-push_cases (requests_of plan) p.request.0 r (subst (λ (rs : List ℕ). Contains rs r) (requests_push plan p) c)) [
       | inl d ↦ none r of d
@@ -105,16 +85,19 @@ whole_push s plan p g other (inr none) = inr (λ r of c.
     ])
 
 -- no request of a group of another kind is of one ONEOF with any
-outside_oneofs : (s : Parts) (plan : List Placement) (g r : ℕ) (k : Op) → IsKind s k g → k ≢ OneOf → IsOf s g r → All (λ a. ¬ (AreOfOneOneOf s a r)) (requests_of plan)
+outside_oneofs : (s : Parts) (plan : List Placement) (g r : ℕ) (k : Op) → IsKind s k g → k ≢ OneOf → IsOf s g r
+    → All (λ a. ¬ (AreOfOneOneOf s a r)) (requests_of plan)
 outside_oneofs s plan g r k kind other of i d l (h, one_of, left, right) =
     let same : h ≡ g = sym right.1 ∙ of.1 in
     other (one_kind s k OneOf g (subst (λ (n : ℕ). n < length s.groups) of.1 (group_known s r of.0)) kind (subst (IsKind s OneOf) same one_of))
 
 -- nor with any placed where nothing of its own ONEOF is placed
-pub outside_untouched : (s : Parts) (plan : List Placement) (g r : ℕ) → HasNonePlaced s plan g → IsOf s g r → All (λ a. ¬ (AreOfOneOneOf s a r)) (requests_of plan)
+pub outside_untouched : (s : Parts) (plan : List Placement) (g r : ℕ) → HasNonePlaced s plan g → IsOf s g r
+    → All (λ a. ¬ (AreOfOneOneOf s a r)) (requests_of plan)
 outside_untouched s plan g r none of i d l (h, one_of, left, right) =
     let same : h ≡ g = sym right.1 ∙ of.1 in
-    let in_group : Contains (members s g) (slice_index_or (requests_of plan) i d) = member_is_of s g _ (subst (λ (n : ℕ). IsOf s n (slice_index_or (requests_of plan) i d)) same left) in
+    let in_group : Contains (members s g) (slice_index_or (requests_of plan) i d) =
+    member_is_of s g _ (subst (λ (n : ℕ). IsOf s n (slice_index_or (requests_of plan) i d)) same left) in
     All-contains (λ a. ¬ (Contains (requests_of plan) a)) (members s g) _ none in_group (Contains-get_or (requests_of plan) i d l)
 
 module _ (s : Parts) (orderly : IsOrderly s) where
@@ -126,9 +109,11 @@ module _ (s : Parts) (orderly : IsOrderly s) where
       feasible_from_whole s (plan ++ p ∷ []) (so_far_push s plan p so_far free.possible (fits_free s plan p so_far free unplaced apart))
       (λ h is_and. whole_push s plan p h (λ of_h.
       let same : h ≡ g = sym of_h.1 ∙ of.1 in
-      other (one_kind s k And g (subst (λ (n : ℕ). n < length s.groups) of.1 (group_known s p.request.0 of.0)) kind (subst (IsKind s And) same is_and))) (feasible.and_whole h is_and))
+      other (one_kind s k And g (subst (λ (n : ℕ). n < length s.groups) of.1 (group_known s p.request.0 of.0)) kind
+      (subst (IsKind s And) same is_and))) (feasible.and_whole h is_and))
 
-  one_feasible : (plan after : List Placement) (g r : ℕ) (k : Op) → IsKind s k g → k ≢ And → k ≢ OneOf → IsOf s g r → IsFeasible s plan → TriesOne s plan r after → IsFeasible s after
+  one_feasible : (plan after : List Placement) (g r : ℕ) (k : Op) → IsKind s k g → k ≢ And → k ≢ OneOf → IsOf s g r → IsFeasible s plan
+      → TriesOne s plan r after → IsFeasible s after
   one_feasible plan after g r k kind no_and no_oneof of feasible (inl (c, e)) = subst (IsFeasible s) (sym e) feasible
   one_feasible plan after g r k kind no_and no_oneof of feasible (inr (n, inl (p, earliest, e))) =
       let of_p : IsOf s g p.request.0 = subst (IsOf s g) (sym earliest.same_request) of in
@@ -137,19 +122,24 @@ module _ (s : Parts) (orderly : IsOrderly s) where
       (outside_oneofs s plan g p.request.0 k kind no_oneof of_p))
   one_feasible plan after g r k kind no_and no_oneof of feasible (inr (n, inr (none, e))) = subst (IsFeasible s) (sym e) feasible
 
-  each_feasible : (plan after : List Placement) (g : ℕ) (rs : List ℕ) (k : Op) → IsKind s k g → k ≢ And → k ≢ OneOf → All (IsOf s g) rs → IsFeasible s plan → TriesEach s plan rs after → IsFeasible s after
+  each_feasible : (plan after : List Placement) (g : ℕ) (rs : List ℕ) (k : Op) → IsKind s k g → k ≢ And → k ≢ OneOf → All (IsOf s g) rs
+      → IsFeasible s plan → TriesEach s plan rs after → IsFeasible s after
   each_feasible plan after g [] k kind no_and no_oneof of feasible e = subst (IsFeasible s) (sym e) feasible
   each_feasible plan after g (r ∷ rs) k kind no_and no_oneof of feasible (next, one, rest) =
-      each_feasible next after g rs k kind no_and no_oneof (All-tail (IsOf s g) r rs of) (one_feasible plan next g r k kind no_and no_oneof (All-head (IsOf s g) r rs of) feasible one) rest
+      each_feasible next after g rs k kind no_and no_oneof (All-tail (IsOf s g) r rs of)
+      (one_feasible plan next g r k kind no_and no_oneof (All-head (IsOf s g) r rs of) feasible one) rest
 
-  until_feasible : (plan after : List Placement) (g : ℕ) (rs : List ℕ) → IsKind s OneOf g → HasNonePlaced s plan g → All (IsOf s g) rs → IsFeasible s plan → TriesUntilOne s plan rs after → IsFeasible s after
+  until_feasible : (plan after : List Placement) (g : ℕ) (rs : List ℕ) → IsKind s OneOf g → HasNonePlaced s plan g → All (IsOf s g) rs
+      → IsFeasible s plan → TriesUntilOne s plan rs after → IsFeasible s after
   until_feasible plan after g [] kind none of feasible e = subst (IsFeasible s) (sym e) feasible
   until_feasible plan after g (r ∷ rs) kind none of feasible (inl (p, earliest, e)) =
       let of_p : IsOf s g p.request.0 = subst (IsOf s g) (sym earliest.same_request) (All-head (IsOf s g) r rs of) in
       subst (IsFeasible s) (sym e)
-      (feasible_push plan p g OneOf feasible earliest.free of_p kind not_both (All-contains (λ a. ¬ (Contains (requests_of plan) a)) (members s g) p.request.0 none (member_is_of s g p.request.0 of_p))
+      (feasible_push plan p g OneOf feasible earliest.free of_p kind not_both
+      (All-contains (λ a. ¬ (Contains (requests_of plan) a)) (members s g) p.request.0 none (member_is_of s g p.request.0 of_p))
       (outside_untouched s plan g p.request.0 none of_p))
-  until_feasible plan after g (r ∷ rs) kind none of feasible (inr (nothing, rest)) = until_feasible plan after g rs kind none (All-tail (IsOf s g) r rs of) feasible rest
+  until_feasible plan after g (r ∷ rs) kind none of feasible (inr (nothing, rest)) =
+      until_feasible plan after g rs kind none (All-tail (IsOf s g) r rs of) feasible rest
 
   -- what is taken one after another of an AND is placed in that order
   taken_requests : (plan after : List Placement) (rs : List ℕ) → TakesEach s plan rs after → requests_of after ≡ requests_of plan ++ rs
@@ -159,26 +149,34 @@ module _ (s : Parts) (orderly : IsOrderly s) where
       append_nothing [] = refl
       append_nothing (x ∷ xs) = ap (λ (ys : List ℕ). x ∷ ys) (append_nothing xs)
   taken_requests plan after (r ∷ rs) (p, earliest, rest) =
-      taken_requests (plan ++ p ∷ []) after rs rest ∙ ap (λ (xs : List ℕ). xs ++ rs) (requests_push plan p ∙ ap (λ (n : ℕ). requests_of plan ++ n ∷ []) earliest.same_request) ∙ append_in (requests_of plan) r rs
+      taken_requests (plan ++ p ∷ []) after rs rest
+      ∙ ap (λ (xs : List ℕ). xs ++ rs) (requests_push plan p ∙ ap (λ (n : ℕ). requests_of plan ++ n ∷ []) earliest.same_request)
+      ∙ append_in (requests_of plan) r rs
     where
       append_in : (xs : List ℕ) (y : ℕ) (ys : List ℕ) → (xs ++ y ∷ []) ++ ys ≡ xs ++ y ∷ ys
       append_in [] y ys = refl
       append_in (x ∷ xs) y ys = ap (λ (zs : List ℕ). x ∷ zs) (append_in xs y ys)
 
-  taken_so_far : (plan after : List Placement) (g : ℕ) (rs : List ℕ) → IsKind s And g → All (IsOf s g) rs → AllPairs (λ a b. a < b) rs → All (λ r. ¬ (Contains (requests_of plan) r)) rs → IsFeasibleSoFar s plan → TakesEach s plan rs after → IsFeasibleSoFar s after
+  taken_so_far : (plan after : List Placement) (g : ℕ) (rs : List ℕ) → IsKind s And g → All (IsOf s g) rs → AllPairs (λ a b. a < b) rs
+      → All (λ r. ¬ (Contains (requests_of plan) r)) rs → IsFeasibleSoFar s plan → TakesEach s plan rs after → IsFeasibleSoFar s after
   taken_so_far plan after g [] kind of rise none feasible e = subst (IsFeasibleSoFar s) (sym e) feasible
   taken_so_far plan after g (r ∷ rs) kind of rise none feasible (p, earliest, rest) =
       let of_p : IsOf s g p.request.0 = subst (IsOf s g) (sym earliest.same_request) (All-head (IsOf s g) r rs of) in
-      let unplaced : ¬ (Contains (requests_of plan) p.request.0) = subst (λ (n : ℕ). ¬ (Contains (requests_of plan) n)) (sym earliest.same_request) (All-head (λ x. ¬ (Contains (requests_of plan) x)) r rs none) in
-      let more = so_far_push s plan p feasible earliest.free.possible (fits_free s plan p feasible earliest.free unplaced (outside_oneofs s plan g p.request.0 And kind (λ e. not_both (sym e)) of_p)) in
+      let unplaced : ¬ (Contains (requests_of plan) p.request.0) = subst (λ (n : ℕ). ¬ (Contains (requests_of plan) n)) (sym earliest.same_request)
+      (All-head (λ x. ¬ (Contains (requests_of plan) x)) r rs none) in
+      let more = so_far_push s plan p feasible earliest.free.possible
+      (fits_free s plan p feasible earliest.free unplaced (outside_oneofs s plan g p.request.0 And kind (λ e. not_both (sym e)) of_p)) in
       taken_so_far (plan ++ p ∷ []) after g rs kind (All-tail (IsOf s g) r rs of) (pairs_tail (λ a b. a < b) r rs rise)
-      (λ i d l c. elim (Contains-push_cases (requests_of plan) p.request.0 (slice_index_or rs i d) (subst (λ (xs : List ℕ). Contains xs (slice_index_or rs i d)) (requests_push plan p) c)) [
+      (λ i d l c. elim (Contains-push_cases (requests_of plan) p.request.0 (slice_index_or rs i d)
+      (subst (λ (xs : List ℕ). Contains xs (slice_index_or rs i d)) (requests_push plan p) c)) [
         | inl had ↦ All-tail (λ x. ¬ (Contains (requests_of plan) x)) r rs none i d l had
-        | inr same ↦ let less : r < slice_index_or rs i d = pairs_head (λ a b. a < b) r rs rise i d l in let at : p.request.0 ≡ r = earliest.same_request in absurd (omega arith)
+        | inr same ↦ let less : r < slice_index_or rs i d = pairs_head (λ a b. a < b) r rs rise i d l in
+            let at : p.request.0 ≡ r = earliest.same_request in absurd (omega arith)
       ]) more rest
 
   -- an AND that is taken whole is whole, and the others stay so
-  taken_feasible : (plan after : List Placement) (g : ℕ) → IsKind s And g → HasNonePlaced s plan g → IsFeasible s plan → TakesEach s plan (members s g) after → IsFeasible s after
+  taken_feasible : (plan after : List Placement) (g : ℕ) → IsKind s And g → HasNonePlaced s plan g → IsFeasible s plan
+      → TakesEach s plan (members s g) after → IsFeasible s after
   taken_feasible plan after g kind none feasible takes =
       let requests : requests_of after ≡ requests_of plan ++ members s g = taken_requests plan after (members s g) takes in
       let of : All (IsOf s g) (members s g) = λ i d l. is_of_member s g _ orderly (Contains-get_or (members s g) i d l) in
@@ -212,26 +210,31 @@ module _ (s : Parts) (orderly : IsOrderly s) where
       by_placed : (k : Op) → IsKind s k g → IsKind s OneOf g ⊎ IsKind s And g → (HasNonePlaced s plan g → IsFeasible s after) → IsFeasible s after
       by_placed k kind either when_none = elim (none_or_one (requests_of plan) (members s g)) [
         | inl none ↦ when_none none
-        | inr one ↦ subst (IsFeasible s) (sym (visit.served either (λ none. All-contains (λ a. ¬ (Contains (requests_of plan) a)) (members s g) one.0 none one.1 one.2))) feasible
+        | inr one ↦ subst (IsFeasible s)
+            (sym (visit.served either (λ none. All-contains (λ a. ¬ (Contains (requests_of plan) a)) (members s g) one.0 none one.1 one.2))) feasible
       ]
 
       by : (k : Op) → IsKind s k g → IsFeasible s after
       by Single kind = each_feasible plan after g (members s g) Single kind (λ e. cc) (λ e. cc) of feasible (visit.alone (inl kind))
       by Many kind = each_feasible plan after g (members s g) Many kind (λ e. cc) (λ e. cc) of feasible (visit.alone (inr kind))
-      by OneOf kind = by_placed OneOf kind (inl kind) (λ none. let order = visit.untouched (kind, none) in until_feasible plan after g order.0 kind none order.1.members feasible order.2)
+      by OneOf kind = by_placed OneOf kind (inl kind) (λ none. let order = visit.untouched (kind, none) in
+          until_feasible plan after g order.0 kind none order.1.members feasible order.2)
       by And kind = by_placed And kind (inr kind) (λ none. elim (visit.absent (kind, none)) [
         | inl takes ↦ taken_feasible plan after g kind none feasible takes
         | inr same ↦ subst (IsFeasible s) (sym same.1) feasible
       ])
 
-  visits_feasible : (plan after : List Placement) (gs : List ℕ) → All (λ g. g < length s.groups) gs → IsFeasible s plan → VisitsEach s plan gs after → IsFeasible s after
+  visits_feasible : (plan after : List Placement) (gs : List ℕ) → All (λ g. g < length s.groups) gs → IsFeasible s plan
+      → VisitsEach s plan gs after → IsFeasible s after
   visits_feasible plan after [] below feasible e = subst (IsFeasible s) (sym e) feasible
   visits_feasible plan after (g ∷ gs) below feasible (next, visit, rest) =
-      visits_feasible next after gs (All-tail (λ h. h < length s.groups) g gs below) (visit_feasible plan next g (All-head (λ h. h < length s.groups) g gs below) feasible visit) rest
+      visits_feasible next after gs (All-tail (λ h. h < length s.groups) g gs below)
+      (visit_feasible plan next g (All-head (λ h. h < length s.groups) g gs below) feasible visit) rest
 
   pub filled_feasible : (plan after : List Placement) (passes : List (List Placement)) → IsFeasible s plan → PassesTo s plan passes after → IsFeasible s after
   filled_feasible plan after [] feasible (e, pass) = subst (IsFeasible s) (sym e) feasible
-  filled_feasible plan after (next ∷ passes) feasible ((order, is_order, visits), differ, rest) = filled_feasible next after passes (visits_feasible plan next order is_order.places feasible visits) rest
+  filled_feasible plan after (next ∷ passes) feasible ((order, is_order, visits), differ, rest) =
+      filled_feasible next after passes (visits_feasible plan next order is_order.places feasible visits) rest
 
   -- a visit leaves the plan as it is, or makes it longer
   abbrev Grows : List Placement → List Placement → Type 0
@@ -288,7 +291,8 @@ module _ (s : Parts) (orderly : IsOrderly s) where
   visits_grow : (plan after : List Placement) (gs : List ℕ) → All (λ g. g < length s.groups) gs → VisitsEach s plan gs after → Grows plan after
   visits_grow plan after [] below e = inl e
   visits_grow plan after (g ∷ gs) below (next, visit, rest) =
-      grows_on plan next after (visit_grows plan next g (All-head (λ h. h < length s.groups) g gs below) visit) (visits_grow next after gs (All-tail (λ h. h < length s.groups) g gs below) rest)
+      grows_on plan next after (visit_grows plan next g (All-head (λ h. h < length s.groups) g gs below) visit)
+      (visits_grow next after gs (All-tail (λ h. h < length s.groups) g gs below) rest)
 
   -- where two steps lead back to the plan, neither changes it
   stays : (plan next : List Placement) → Grows plan next → Grows next plan → next ≡ plan
@@ -301,8 +305,10 @@ module _ (s : Parts) (orderly : IsOrderly s) where
   visits_still plan [] below e = All-nil (λ g. VisitsGroup s plan g plan)
   visits_still plan (g ∷ gs) below (next, visit, rest) =
       let later = All-tail (λ h. h < length s.groups) g gs below in
-      let same : next ≡ plan = stays plan next (visit_grows plan next g (All-head (λ h. h < length s.groups) g gs below) visit) (visits_grow next plan gs later rest) in
-      All-cons (λ h. VisitsGroup s plan h plan) g gs (subst (λ (xs : List Placement). VisitsGroup s plan g xs) same visit) (visits_still plan gs later (subst (λ (xs : List Placement). VisitsEach s xs gs plan) same rest))
+      let same : next ≡ plan = stays plan next (visit_grows plan next g (All-head (λ h. h < length s.groups) g gs below) visit)
+      (visits_grow next plan gs later rest) in
+      All-cons (λ h. VisitsGroup s plan h plan) g gs (subst (λ (xs : List Placement). VisitsGroup s plan g xs) same visit)
+      (visits_still plan gs later (subst (λ (xs : List Placement). VisitsEach s xs gs plan) same rest))
 
   not_longer : (plan : List Placement) (p : Placement) → plan ≡ plan ++ p ∷ [] → ⊥
   not_longer plan p e = let more = longer plan p in let same : length plan ≡ length (plan ++ p ∷ []) = ap (λ (xs : List Placement). length xs) e in omega arith
@@ -311,7 +317,8 @@ module _ (s : Parts) (orderly : IsOrderly s) where
   each_still plan [] e = All-nil (λ r. Contains (requests_of plan) r ⊎ HasNoFree s plan r)
   each_still plan (r ∷ rs) (next, one, rest) =
       let same : next ≡ plan = stays plan next (one_grows plan next r one) (each_grows next plan rs rest) in
-      All-cons (λ x. Contains (requests_of plan) x ⊎ HasNoFree s plan x) r rs (still (subst (λ (xs : List Placement). TriesOne s plan r xs) same one)) (each_still plan rs (subst (λ (xs : List Placement). TriesEach s xs rs plan) same rest))
+      All-cons (λ x. Contains (requests_of plan) x ⊎ HasNoFree s plan x) r rs (still (subst (λ (xs : List Placement). TriesOne s plan r xs) same one))
+      (each_still plan rs (subst (λ (xs : List Placement). TriesEach s xs rs plan) same rest))
     where
       still : TriesOne s plan r plan → Contains (requests_of plan) r ⊎ HasNoFree s plan r
       still (inl (c, e)) = inl c
@@ -352,10 +359,12 @@ module _ (s : Parts) (orderly : IsOrderly s) where
           within (inl l) = l
           within (inr l) = let bad : Single ≡ And = sym (ap (λ (x : GroupPart). x.op) (past s.groups g other l)) ∙ kind other in cc
 
-      none_free : (g : ℕ) (p : Placement) → (IsKind s Single g ⊎ IsKind s Many g) ⊎ IsUntouched s plan g → IsOf s g p.request.0 → ¬ (Contains (requests_of plan) p.request.0) → HasNoFree s plan p.request.0
+      none_free : (g : ℕ) (p : Placement) → (IsKind s Single g ⊎ IsKind s Many g) ⊎ IsUntouched s plan g → IsOf s g p.request.0
+          → ¬ (Contains (requests_of plan) p.request.0) → HasNoFree s plan p.request.0
       none_free g p (inl kind) of unplaced =
           let below : g < length s.groups = subst (λ (n : ℕ). n < length s.groups) of.1 (group_known s p.request.0 of.0) in
-          elim (All-contains (λ r. Contains (requests_of plan) r ⊎ HasNoFree s plan r) (members s g) p.request.0 (each_still plan (members s g) ((visit g below).alone kind)) (member_is_of s g p.request.0 of)) [
+          elim (All-contains (λ r. Contains (requests_of plan) r ⊎ HasNoFree s plan r) (members s g) p.request.0
+          (each_still plan (members s g) ((visit g below).alone kind)) (member_is_of s g p.request.0 of)) [
             | inl c ↦ absurd (unplaced c)
             | inr none ↦ none
           ]
@@ -366,5 +375,7 @@ module _ (s : Parts) (orderly : IsOrderly s) where
 
   pub filled_saturated : (plan after : List Placement) (passes : List (List Placement)) → PassesTo s plan passes after → IsSaturated s after
   filled_saturated plan after [] (e, (order, is_order, visits)) =
-      subst (IsSaturated s) (sym e) (still_saturated plan (λ g below. All-contains (λ h. VisitsGroup s plan h plan) order g (visits_still plan order is_order.places visits) (is_order.complete g below)))
+      subst (IsSaturated s) (sym e) (still_saturated plan
+      (λ g below. All-contains (λ h. VisitsGroup s plan h plan) order g (visits_still plan order is_order.places visits)
+      (is_order.complete g below)))
   filled_saturated plan after (next ∷ passes) (pass, differ, rest) = filled_saturated next after passes rest

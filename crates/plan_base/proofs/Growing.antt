@@ -1,5 +1,6 @@
 -- What the loops over prices keep.
-use Rattle.std.proofs.Common.{◌≡◌, ℕ, ◌+◌, ◌*◌, ◌<◌, ◌≤◌, ◌⊎◌, inl, inr, Bool, true, false, cond, int_lt, ℤ, pos, negsuc, neg_ℤ, w64, ◌+ℤ◌, ◌≤ℤ◌, List, length, drop, slice_index_or, Contains, sym, ◌∙◌, subst, below_more, arith}
+use Rattle.std.proofs.Common.{◌≡◌, ℕ, ◌+◌, ◌*◌, ◌<◌, ◌≤◌, ◌⊎◌, inl, inr, Bool, true, false, cond, int_lt, ℤ, pos, negsuc, neg_ℤ, w64, ◌+ℤ◌, ◌≤ℤ◌, List}
+use Rattle.std.proofs.Common.{length, drop, slice_index_or, Contains, sym, ◌∙◌, subst, below_more, arith}
 use Rattle.std.proofs.lemmas.Int.{ints}
 use Rattle.std.proofs.lemmas.List.{at_drop_more, at_drop_all, get_or_default}
 use Rattle.std.proofs.lemmas.List.Elements.{Contains-get_or}
@@ -19,7 +20,8 @@ pub record IsGreatestSoFar (prices : List ℤ) (i : ℕ) (b : ℤ) : Type 0 wher
   pub above : (k : ℕ) → k < i → slice_index_or prices k (pos 0) ≤ℤ b
   pub reached : (b ≡ pos 0) ⊎ Contains prices b
 
-pub grown_more : (f : ℤ → ℤ) (prices : List ℤ) (i : ℕ) (sum : ℤ) → i < length prices → IsNetInRange (f (slice_index_or prices i (pos 0))) → IsGrown f prices i sum → IsGrown f prices (i + 1) (sum +ℤ f (slice_index_or prices i (pos 0)))
+pub grown_more : (f : ℤ → ℤ) (prices : List ℤ) (i : ℕ) (sum : ℤ) → i < length prices → IsNetInRange (f (slice_index_or prices i (pos 0)))
+    → IsGrown f prices i sum → IsGrown f prices (i + 1) (sum +ℤ f (slice_index_or prices i (pos 0)))
 grown_more f prices i sum l range grown =
     let step : total f (drop i prices) ≡ f (slice_index_or prices i (pos 0)) +ℤ total f (drop (i + 1) prices) = at_drop_more (total f) prices i (pos 0) l in
     let rest : sum +ℤ total f (drop i prices) ≡ total f prices = grown.rest in
@@ -40,7 +42,8 @@ positive_in_range c range = by_test (int_lt (pos 0) c)
     by_test true = range
     by_test false = (omega (arith, ints), omega (arith, ints))
 
-pub greatest_more : (prices : List ℤ) (i : ℕ) (a b : ℤ) → i < length prices → a ≤ℤ b → slice_index_or prices i (pos 0) ≤ℤ b → (b ≡ a) ⊎ (b ≡ slice_index_or prices i (pos 0))
+pub greatest_more : (prices : List ℤ) (i : ℕ) (a b : ℤ) → i < length prices → a ≤ℤ b → slice_index_or prices i (pos 0) ≤ℤ b
+    → (b ≡ a) ⊎ (b ≡ slice_index_or prices i (pos 0))
     → IsGreatestSoFar prices i a → IsGreatestSoFar prices (i + 1) b
 greatest_more prices i a b l first second one so_far = record {
   least = let least : pos 0 ≤ℤ a = so_far.least in omega (arith, ints);

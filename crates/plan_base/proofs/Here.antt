@@ -1,5 +1,6 @@
 -- The request at a place, as the snapshot knows it by its number.
-use Rattle.std.proofs.Common.{◌≡◌, ℕ, zero, suc, ◌<◌, ◌≤◌, ◌⊎◌, inl, inr, List, [], ◌∷◌, ◌++◌, length, slice_index_or, Contains, refl, sym, ◌∙◌, ap, subst, arith}
+use Rattle.std.proofs.Common.{◌≡◌, ℕ, zero, suc, ◌<◌, ◌≤◌, ◌⊎◌, inl, inr, List, [], ◌∷◌, ◌++◌, length, slice_index_or, Contains, refl, sym, ◌∙◌, ap}
+use Rattle.std.proofs.Common.{subst, arith}
 use Rattle.std.specs.Prelude.{HoldsAt}
 use Rattle.std.specs.List.{flat_map}
 use Rattle.std.proofs.lemmas.List.Elements.{All-contains, Contains-get_or, Contains-append_left, Contains-append_right}
@@ -46,8 +47,10 @@ place_at s i x o l is =
     let there : number_of (slice_index_or (listed s) (place_of s (number_of x)) x) ≡ number_of x = ap number_of listing.at_place in
     let here : number_of (slice_index_or (listed s) i x) ≡ number_of x = ap number_of is in
     elim (below_same_above (place_of s (number_of x)) i) [
-      | inl (inl below) ↦ let less : number_of (slice_index_or (listed s) (place_of s (number_of x)) x) < number_of (slice_index_or (listed s) i x) = o.requests_rise _ i x below l in absurd (omega arith)
-      | inl (inr above) ↦ let less : number_of (slice_index_or (listed s) i x) < number_of (slice_index_or (listed s) (place_of s (number_of x)) x) = o.requests_rise i _ x above known in absurd (omega arith)
+      | inl (inl below) ↦ let less : number_of (slice_index_or (listed s) (place_of s (number_of x)) x) < number_of (slice_index_or (listed s) i x) =
+          o.requests_rise _ i x below l in absurd (omega arith)
+      | inl (inr above) ↦ let less : number_of (slice_index_or (listed s) i x) < number_of (slice_index_or (listed s) (place_of s (number_of x)) x) =
+          o.requests_rise i _ x above known in absurd (omega arith)
       | inr same ↦ same
     ]
 
@@ -70,17 +73,24 @@ window_spans s = flat_map (λ x. x.request.windows) (listed s)
 span_moments : (s : Parts) (w : Span) → IsOrderly s → Contains (usable_spans s ++ sky_spans s ++ window_spans s) w → IsMoment w.from.0 × IsMoment w.to.0
 span_moments s w o c = All-contains (λ v. IsMoment v.from.0 × IsMoment v.to.0) (all_spans s) w o.ranges.moments c
 
-pub usable_moments : (s : Parts) (x : TelescopePart) (w : Span) → IsOrderly s → Contains s.telescopes x → Contains x.usable w → IsMoment w.from.0 × IsMoment w.to.0
+pub usable_moments : (s : Parts) (x : TelescopePart) (w : Span) → IsOrderly s → Contains s.telescopes x → Contains x.usable w
+    → IsMoment w.from.0 × IsMoment w.to.0
 usable_moments s x w o c d =
-    span_moments s w o (Contains-append_left (usable_spans s ++ sky_spans s) (window_spans s) w (Contains-append_left (usable_spans s) (sky_spans s) w (contains_flat_map (λ y. y.usable) s.telescopes x w c d)))
+    span_moments s w o (Contains-append_left (usable_spans s ++ sky_spans s) (window_spans s) w
+    (Contains-append_left (usable_spans s) (sky_spans s) w (contains_flat_map (λ y. y.usable) s.telescopes x w c d)))
 
 pub sky_moments : (s : Parts) (x : Sky) (w : Span) → IsOrderly s → Contains s.skies x → Contains x.spans w → IsMoment w.from.0 × IsMoment w.to.0
-sky_moments s x w o c d = span_moments s w o (Contains-append_left (usable_spans s ++ sky_spans s) (window_spans s) w (Contains-append_right (usable_spans s) (sky_spans s) w (contains_flat_map (λ y. y.spans) s.skies x w c d)))
+sky_moments s x w o c d = span_moments s w o
+    (Contains-append_left (usable_spans s ++ sky_spans s) (window_spans s) w
+    (Contains-append_right (usable_spans s) (sky_spans s) w (contains_flat_map (λ y. y.spans) s.skies x w c d)))
 
-pub window_moments : (s : Parts) (x : Listed) (w : Span) → IsOrderly s → Contains (listed s) x → Contains x.request.windows w → IsMoment w.from.0 × IsMoment w.to.0
-window_moments s x w o c d = span_moments s w o (Contains-append_right (usable_spans s ++ sky_spans s) (window_spans s) w (contains_flat_map (λ y. y.request.windows) (listed s) x w c d))
+pub window_moments : (s : Parts) (x : Listed) (w : Span) → IsOrderly s → Contains (listed s) x → Contains x.request.windows w
+    → IsMoment w.from.0 × IsMoment w.to.0
+window_moments s x w o c d = span_moments s w o
+    (Contains-append_right (usable_spans s ++ sky_spans s) (window_spans s) w (contains_flat_map (λ y. y.request.windows) (listed s) x w c d))
 
-pub request_here : (s : Parts) (place : ℕ) (q : RequestPart) → IsOrderly s → place < length (listed s) → HoldsAt (λ x. x.request ≡ q) (listed s) place → IsHere s place q
+pub request_here : (s : Parts) (place : ℕ) (q : RequestPart) → IsOrderly s → place < length (listed s)
+    → HoldsAt (λ x. x.request ≡ q) (listed s) place → IsHere s place q
 request_here s place q o l at =
     let x = element_at (listed s) place l in
     let same : x.0.request ≡ q = ap (λ (y : Listed). y.request) (sym x.1) ∙ at x.0 in
@@ -91,12 +101,17 @@ request_here s place q o l at =
     record {
       known = subst (IsKnown s) number known;
       at = ap (place_of s) (sym number) ∙ place_at s place x.0 o l x.1;
-      seconds = ap (seconds_of s) (sym number) ∙ known_or_is (λ y. y.request.seconds) 0 s (number_of x.0) x.0 known listing ∙ ap (λ (p : RequestPart). p.seconds) same;
-      value = ap (request_value s) (sym number) ∙ known_or_is (λ y. y.request.value) 0 s (number_of x.0) x.0 known listing ∙ ap (λ (p : RequestPart). p.value) same;
+      seconds = ap (seconds_of s) (sym number) ∙ known_or_is (λ y. y.request.seconds) 0 s (number_of x.0) x.0 known listing
+          ∙ ap (λ (p : RequestPart). p.seconds) same;
+      value = ap (request_value s) (sym number) ∙ known_or_is (λ y. y.request.value) 0 s (number_of x.0) x.0 known listing
+          ∙ ap (λ (p : RequestPart). p.value) same;
       fade = ap (fade_of s) (sym number) ∙ known_or_is (λ y. y.request.fade) 0 s (number_of x.0) x.0 known listing ∙ ap (λ (p : RequestPart). p.fade) same;
-      windows = ap (windows_of s) (sym number) ∙ known_or_is (λ y. y.request.windows) [] s (number_of x.0) x.0 known listing ∙ ap (λ (p : RequestPart). p.windows) same;
-      telescopes = ap (telescopes_of s) (sym number) ∙ known_or_is (λ y. y.request.telescopes) [] s (number_of x.0) x.0 known listing ∙ ap (λ (p : RequestPart). p.telescopes) same;
-      targets = ap (targets_of s) (sym number) ∙ known_or_is (λ y. y.request.targets) [] s (number_of x.0) x.0 known listing ∙ ap (λ (p : RequestPart). p.targets) same;
+      windows = ap (windows_of s) (sym number) ∙ known_or_is (λ y. y.request.windows) [] s (number_of x.0) x.0 known listing
+          ∙ ap (λ (p : RequestPart). p.windows) same;
+      telescopes = ap (telescopes_of s) (sym number) ∙ known_or_is (λ y. y.request.telescopes) [] s (number_of x.0) x.0 known listing
+          ∙ ap (λ (p : RequestPart). p.telescopes) same;
+      targets = ap (targets_of s) (sym number) ∙ known_or_is (λ y. y.request.targets) [] s (number_of x.0) x.0 known listing
+          ∙ ap (λ (p : RequestPart). p.targets) same;
       asked = subst IsAsked same (record {
         seconds_least = (All-contains (λ y. (1 ≤ y.request.seconds) × (y.request.seconds ≤ 86400)) (listed s) x.0 o.ranges.seconds in_list).0;
         seconds_most = (All-contains (λ y. (1 ≤ y.request.seconds) × (y.request.seconds ≤ 86400)) (listed s) x.0 o.ranges.seconds in_list).1;

@@ -1,5 +1,6 @@
 -- What is known of a request that a snapshot has, and of its possible starts.
-use Rattle.std.proofs.Common.{◌+◌, ◌-◌, suc, ◌≡◌, ℕ, ◌≤◌, ◌<◌, inl, inr, max, ◌==◌, List, [], ◌∷◌, length, map, slice_index_or, All, Contains, None, ◌∙◌, ap, subst, arith}
+use Rattle.std.proofs.Common.{◌+◌, ◌-◌, suc, ◌≡◌, ℕ, ◌≤◌, ◌<◌, inl, inr, max, ◌==◌, List, [], ◌∷◌, length, map, slice_index_or, All, Contains, None}
+use Rattle.std.proofs.Common.{◌∙◌, ap, subst, arith}
 use Rattle.std.specs.Option.{ForSome}
 use Rattle.std.proofs.lemmas.List.{length-map, get_or-map}
 use Rattle.std.proofs.lemmas.List.Elements.{All-nil, All-head, All-tail, All-append, All-map, All-contains}
@@ -29,7 +30,8 @@ pub record IsListedAs (s : Parts) (r : ℕ) (x : Listed) : Type 0 where
 pub known_as : (s : Parts) (r : ℕ) → IsKnown s r → (x : Listed) × IsListedAs s r x
 known_as s r k = elim ((slice_get_cases (listed s) (place_of s r)).1) [
   | inl h ↦
-      let test : (slice_index_or (listed s) (place_of s r) h.0).request.request.0 ≡ r = eqb-true _ r (passes_at_first (λ x. x.request.request.0 == r) (listed s) h.0 k) in (
+      let test : (slice_index_or (listed s) (place_of s r) h.0).request.request.0 ≡ r =
+      eqb-true _ r (passes_at_first (λ x. x.request.request.0 == r) (listed s) h.0 k) in (
         h.0,
         record {
           in_list = (place_of s r, k, h.3);
@@ -51,7 +53,8 @@ listed_groups : (g n : ℕ) (xs : List GroupPart) → g + length xs ≡ n → Al
 listed_groups g n [] e = All-nil (λ x. x.group < n)
 listed_groups g n (x ∷ xs) e =
     All-append (λ y. y.group < n) (map (λ q. record { group = g; quota = x.quota; request = q }) x.requests) (listed_from (suc g) xs)
-    (All-map (λ y. y.group < n) (λ q. record { group = g; quota = x.quota; request = q }) x.requests (λ i d l. omega arith)) (listed_groups (suc g) n xs (omega arith))
+    (All-map (λ y. y.group < n) (λ q. record { group = g; quota = x.quota; request = q }) x.requests (λ i d l. omega arith))
+    (listed_groups (suc g) n xs (omega arith))
 
 -- the group of a known request is one of the snapshot's
 pub group_known : (s : Parts) (r : ℕ) → IsKnown s r → group_of s r < length s.groups
@@ -66,7 +69,8 @@ listed_quotas P g (x ∷ xs) a =
 
 -- the quota that a known request counts towards is one of the snapshot's
 pub quota_known : (s : Parts) (r : ℕ) → IsOrderly s → IsKnown s r → ForSome (quota_of s r) (λ q. q < length s.quotas)
-quota_known s r o k = known_has (λ x. ForSome x (λ q. q < length s.quotas)) (λ x. x.quota) None s r (listed_quotas (λ q. q < length s.quotas) 0 s.groups o.quotas) k
+quota_known s r o k = known_has (λ x. ForSome x (λ q. q < length s.quotas)) (λ x. x.quota) None s r
+    (listed_quotas (λ q. q < length s.quotas) 0 s.groups o.quotas) k
 
 -- the telescope of a possible start is one of the snapshot's
 pub telescope_known : (s : Parts) (p : Placement) → IsOrderly s → IsPossibleStart s p → p.telescope.0 < length s.telescopes

@@ -10,6 +10,7 @@ pub mod Equality
 pub mod FaultLemmas
 pub mod Faultless
 pub mod Filled
+pub mod GroupKinds
 pub mod GroupRebates
 pub mod Growing
 pub mod Here

@@ -1,5 +1,6 @@
 -- How large the value of a feasible plan and the bound that prices give can be.
-use Rattle.std.proofs.Common.{◌+◌, ◌-◌, ◌*◌, ◌^◌, ◌≡◌, ◌≢◌, ℕ, ◌≤◌, ◌<◌, ◌⊎◌, inl, inr, ◌==◌, ℤ, pos, neg_ℤ, ◌+ℤ◌, ◌-ℤ◌, ◌≤ℤ◌, ◌<ℤ◌, List, [], length, map, slice_index_or, filter, All, AllPairs, Contains, Option, Some, None, sym, ◌∙◌, ap, subst, arith}
+use Rattle.std.proofs.Common.{◌+◌, ◌-◌, ◌*◌, ◌^◌, ◌≡◌, ◌≢◌, ℕ, ◌≤◌, ◌<◌, ◌⊎◌, inl, inr, ◌==◌, ℤ, pos, neg_ℤ, ◌+ℤ◌, ◌-ℤ◌, ◌≤ℤ◌, ◌<ℤ◌, List, [], length}
+use Rattle.std.proofs.Common.{map, slice_index_or, filter, All, AllPairs, Contains, Option, Some, None, sym, ◌∙◌, ap, subst, arith}
 use Rattle.std.proofs.lemmas.Int.{ints}
 use Rattle.std.proofs.lemmas.Nat.{mul-le}
 use Rattle.std.proofs.lemmas.Bool.{eq-eqb}
@@ -48,12 +49,14 @@ number_in_group s g r h =
     let group : group_of s r ≡ x.0.group = known_or_is (λ y. y.group) 0 s r x.0 h.0 x.1 in
     let same : x.0.group ≡ g = sym group ∙ h.1 in
     subst (λ (n : ℕ). Contains (numbers_of s g) n) x.1.number
-    (contains_map (λ y. y.request.request.0) (filter (λ y. y.group == g) (listed s)) x.0 (contains_filter (λ y. y.group == g) (listed s) x.0 x.1.in_list (eq-eqb _ g same)))
+    (contains_map (λ y. y.request.request.0) (filter (λ y. y.group == g) (listed s)) x.0
+    (contains_filter (λ y. y.group == g) (listed s) x.0 x.1.in_list (eq-eqb _ g same)))
 
 -- a feasible plan has as many placements as there are requests, or fewer
 pub length_of_plan : (s : Parts) (plan : List Placement) → IsFeasible s plan → length plan ≤ length (listed s)
 length_of_plan s plan f =
-    let among : length (requests_of plan) ≤ length (map (λ x. x.request.request.0) (listed s)) = length_among (requests_of plan) _ f.once (λ i d l. number_listed s _ (requests_known s plan f i d l)) in
+    let among : length (requests_of plan) ≤ length (map (λ x. x.request.request.0) (listed s)) =
+    length_among (requests_of plan) _ f.once (λ i d l. number_listed s _ (requests_known s plan f i d l)) in
     let placed : length (requests_of plan) ≡ length plan = length-map plan (λ p. p.request.0) in
     let all : length (map (λ x. x.request.request.0) (listed s)) ≡ length (listed s) = length-map (listed s) (λ x. x.request.request.0) in
     omega arith
@@ -79,7 +82,8 @@ value_limit s plan o f =
 same_telescope : (a b : TelescopeNo) (t : ℕ) → a.0 ≡ t → b.0 ≡ t → a ≡ b
 same_telescope a b t h k = ap (λ (n : ℕ). let x : TelescopeNo = record { 0 = n } in x) (h ∙ sym k)
 
-shares : (s : Parts) (a b : Placement) → IsOrderly s → IsPossibleStart s a → IsPossibleStart s b → a.telescope ≡ b.telescope → a.slice.0 - s.first.0 ≡ b.slice.0 - s.first.0 → ShareSlice s a b
+shares : (s : Parts) (a b : Placement) → IsOrderly s → IsPossibleStart s a → IsPossibleStart s b → a.telescope ≡ b.telescope
+    → a.slice.0 - s.first.0 ≡ b.slice.0 - s.first.0 → ShareSlice s a b
 shares s a b o h k e g =
     let one : 0 < size_of s a.request.0 = start_size_above s o a h in
     let two : 0 < size_of s b.request.0 = start_size_above s o b k in
@@ -99,8 +103,11 @@ pub length_of_starts : (s : Parts) (t k : ℕ) (starts : List Placement) → IsO
 length_of_starts s t k starts o h =
     let places : List ℕ = map (λ p. p.slice.0 - s.first.0) starts in
     let once : AllPairs (λ a b. a ≢ b) places = AllPairs-map (λ a b. a ≢ b) (λ p. p.slice.0 - s.first.0) starts
-    (λ i j d l m e. h.disjoint i j d l m (shares s _ _ o (h.possible i d (omega arith)) (h.possible j d m) (same_telescope _ _ t (h.same_telescope i d (omega arith)) (h.same_telescope j d m)) e)) in
-    let below : All (λ n. n < s.slices) places = All-map (λ n. n < s.slices) (λ p. p.slice.0 - s.first.0) starts (λ i d l. within_horizon s _ o (h.possible i d l)) in
+    (λ i j d l m e. h.disjoint i j d l m
+    (shares s _ _ o (h.possible i d (omega arith)) (h.possible j d m)
+    (same_telescope _ _ t (h.same_telescope i d (omega arith)) (h.same_telescope j d m)) e)) in
+    let below : All (λ n. n < s.slices) places =
+    All-map (λ n. n < s.slices) (λ p. p.slice.0 - s.first.0) starts (λ i d l. within_horizon s _ o (h.possible i d l)) in
     let count : length places ≤ s.slices = length_below places s.slices once below in
     let same : length places ≡ length starts = length-map starts (λ p. p.slice.0 - s.first.0) in
     omega arith
@@ -121,10 +128,12 @@ difference_between w c h r = (omega (arith, ints), omega (arith, ints))
 -- a possible start's weight at prices in their range
 pub weight_between : (s : Parts) (prices : List ℤ) (p : Placement) → IsOrderly s → All IsPriceInRange prices → IsPossibleStart s p
     → (neg_ℤ (pos (10 ^ 12)) ≤ℤ weight s prices p) × (weight s prices p ≤ℤ pos 1000288000000)
-weight_between s prices p o a h = difference_between (worth_at s p) (price s prices p.request.0) (worth_at_most s p o h) (price_in_range prices (place_of s p.request.0) a)
+weight_between s prices p o a h = difference_between (worth_at s p) (price s prices p.request.0) (worth_at_most s p o h)
+    (price_in_range prices (place_of s p.request.0) a)
 
 -- a best at prices in their range
-pub best_between : (s : Parts) (prices : List ℤ) (t k : ℕ) (b : ℤ) → IsOrderly s → All IsPriceInRange prices → IsBest s prices t k b → (pos 0 ≤ℤ b) × (b ≤ℤ pos 1440414720000000)
+pub best_between : (s : Parts) (prices : List ℤ) (t k : ℕ) (b : ℤ) → IsOrderly s → All IsPriceInRange prices → IsBest s prices t k b
+    → (pos 0 ≤ℤ b) × (b ≤ℤ pos 1440414720000000)
 best_between s prices t k b o a best =
     let none : IsStartList s t k [] = record {
       possible = All-nil (IsPossibleStart s);
@@ -134,7 +143,8 @@ best_between s prices t k b o a best =
     } in
     let least : pos 0 ≤ℤ b = best.bound [] none in
     let starts : List Placement = best.reached.0 in
-    let sum : surplus s prices starts ≤ℤ pos (length starts * 1000288000000) = total_at_most (weight s prices) 1000288000000 starts (λ i d l. (weight_between s prices _ o a (best.reached.1.possible i d l)).1) in
+    let sum : surplus s prices starts ≤ℤ pos (length starts * 1000288000000) =
+    total_at_most (weight s prices) 1000288000000 starts (λ i d l. (weight_between s prices _ o a (best.reached.1.possible i d l)).1) in
     let count : length starts ≤ s.slices = length_of_starts s t k starts o best.reached.1 in
     let slices : s.slices ≤ 1440 = o.ranges.slices_most in
     let is : surplus s prices starts ≡ b = best.reached.2 in
@@ -147,7 +157,8 @@ quota_price_at_most quota_prices q a = elim (below_or_from q (length quota_price
   | inr l ↦ let past : slice_index_or quota_prices q 0 ≡ 0 = get_or_past quota_prices q 0 l in omega arith
 ]
 
-quota_cost_at_most : (quota_prices : List ℕ) (seconds : ℕ) (o : Option ℕ) → All (λ u. u ≤ 200000) quota_prices → seconds ≤ 86400 → quota_cost quota_prices seconds o ≤ 200000 * 86400
+quota_cost_at_most : (quota_prices : List ℕ) (seconds : ℕ) (o : Option ℕ) → All (λ u. u ≤ 200000) quota_prices → seconds ≤ 86400
+    → quota_cost quota_prices seconds o ≤ 200000 * 86400
 quota_cost_at_most quota_prices seconds None u h = omega arith
 quota_cost_at_most quota_prices seconds (Some q) u h = mul-le _ _ 200000 86400 (quota_price_at_most quota_prices q u) h
 
@@ -155,18 +166,21 @@ net_between : (c : ℤ) (n : ℕ) → IsPriceInRange c → n ≤ 200000 * 86400 
 net_between c n r h = (omega (arith, ints), omega (arith, ints))
 
 -- the net price of a known request at prices in their ranges
-pub net_price_between : (s : Parts) (prices : List ℤ) (quota_prices : List ℕ) (r : ℕ) → IsOrderly s → IsKnown s r → All IsPriceInRange prices → All (λ u. u ≤ 200000) quota_prices
+pub net_price_between : (s : Parts) (prices : List ℤ) (quota_prices : List ℕ) (r : ℕ) → IsOrderly s → IsKnown s r → All IsPriceInRange prices
+    → All (λ u. u ≤ 200000) quota_prices
     → (neg_ℤ (pos (2 * 10 ^ 12)) ≤ℤ net_price s prices quota_prices r) × (net_price s prices quota_prices r ≤ℤ pos (10 ^ 12))
 net_price_between s prices quota_prices r o k a u =
     net_between (price s prices r) (quota_cost quota_prices (seconds_of s r) (quota_of s r)) (price_in_range prices (place_of s r) a)
-    (quota_cost_at_most quota_prices (seconds_of s r) (quota_of s r) u (known_has (λ n. n ≤ 86400) (λ x. x.request.seconds) 0 s r (λ i d l. (o.ranges.seconds i d l).1) k))
+    (quota_cost_at_most quota_prices (seconds_of s r) (quota_of s r) u
+    (known_has (λ n. n ≤ 86400) (λ x. x.request.seconds) 0 s r (λ i d l. (o.ranges.seconds i d l).1) k))
 
 -- by group
 -- an allowed choice has as many requests as are listed of its group, or fewer
 pub length_of_choice : (s : Parts) (g : ℕ) (choice : List ℕ) → IsAllowedChoice s g choice → length choice ≤ length (filter (λ x. x.group == g) (listed s))
 length_of_choice s g choice h =
     let among : length choice ≤ length (numbers_of s g) = length_among choice (numbers_of s g) h.once (λ i d l. number_in_group s g _ (h.members i d l)) in
-    let same : length (numbers_of s g) ≡ length (filter (λ x. x.group == g) (listed s)) = length-map (filter (λ x. x.group == g) (listed s)) (λ x. x.request.request.0) in
+    let same : length (numbers_of s g) ≡ length (filter (λ x. x.group == g) (listed s)) =
+    length-map (filter (λ x. x.group == g) (listed s)) (λ x. x.request.request.0) in
     omega arith
 
 rebate_not_negative : (s : Parts) (c : ℕ → ℤ) (g : ℕ) (b : ℤ) → IsRebate s c g b → pos 0 ≤ℤ b
@@ -179,28 +193,35 @@ rebate_not_negative s c g b rebate =
     } in
     rebate.bound [] none
 
-rebate_at_most : (s : Parts) (prices : List ℤ) (quota_prices : List ℕ) (g : ℕ) (b : ℤ) → IsOrderly s → All IsPriceInRange prices → All (λ u. u ≤ 200000) quota_prices → IsRebate s (net_price s prices quota_prices) g b
+rebate_at_most : (s : Parts) (prices : List ℤ) (quota_prices : List ℕ) (g : ℕ) (b : ℤ) → IsOrderly s → All IsPriceInRange prices
+    → All (λ u. u ≤ 200000) quota_prices → IsRebate s (net_price s prices quota_prices) g b
     → b ≤ℤ total (λ x. pos (10 ^ 12)) (filter (λ x. x.group == g) (listed s))
 rebate_at_most s prices quota_prices g b o a u rebate =
     let choice : List ℕ = rebate.reached.0 in
     let count : length choice ≤ length (filter (λ x. x.group == g) (listed s)) = length_of_choice s g choice rebate.reached.1 in
-    let sum : total (net_price s prices quota_prices) choice ≤ℤ pos (length choice * 10 ^ 12) = total_at_most (net_price s prices quota_prices) (10 ^ 12) choice (λ i d l. (net_price_between s prices quota_prices _ o (rebate.reached.1.members i d l).0 a u).1) in
+    let sum : total (net_price s prices quota_prices) choice ≤ℤ pos (length choice * 10 ^ 12) =
+    total_at_most (net_price s prices quota_prices) (10 ^ 12) choice
+    (λ i d l. (net_price_between s prices quota_prices _ o (rebate.reached.1.members i d l).0 a u).1) in
     let is : total (net_price s prices quota_prices) choice ≡ b = rebate.reached.2 in
-    let all : total (λ x. pos (10 ^ 12)) (filter (λ x. x.group == g) (listed s)) ≡ pos (length (filter (λ x. x.group == g) (listed s)) * 10 ^ 12) = total_constant (10 ^ 12) (filter (λ x. x.group == g) (listed s)) in
+    let all : total (λ x. pos (10 ^ 12)) (filter (λ x. x.group == g) (listed s)) ≡ pos (length (filter (λ x. x.group == g) (listed s)) * 10 ^ 12) =
+    total_constant (10 ^ 12) (filter (λ x. x.group == g) (listed s)) in
     omega (arith, ints)
 
 rebates_between : (s : Parts) (prices : List ℤ) (quota_prices : List ℕ) (b : ℤ) → IsOrderly s → All IsPriceInRange prices → All (λ u. u ≤ 200000) quota_prices
     → IsSumOf (length s.groups) (IsRebate s (net_price s prices quota_prices)) b → (pos 0 ≤ℤ b) × (b ≤ℤ pos (1024 * 10 ^ 12))
 rebates_between s prices quota_prices b o a u sum =
-    let least : pos 0 ≤ℤ b = sum_not_negative (length s.groups) (IsRebate s (net_price s prices quota_prices)) b sum (λ g y l rebate. rebate_not_negative s (net_price s prices quota_prices) g y rebate) in
-    let all : b ≤ℤ total (λ x. pos (10 ^ 12)) (listed s) = gather (λ x. pos (10 ^ 12)) (λ x. x.group) (listed s) (length s.groups) (IsRebate s (net_price s prices quota_prices)) b sum
+    let least : pos 0 ≤ℤ b = sum_not_negative (length s.groups) (IsRebate s (net_price s prices quota_prices)) b sum
+    (λ g y l rebate. rebate_not_negative s (net_price s prices quota_prices) g y rebate) in
+    let all : b ≤ℤ total (λ x. pos (10 ^ 12)) (listed s) =
+    gather (λ x. pos (10 ^ 12)) (λ x. x.group) (listed s) (length s.groups) (IsRebate s (net_price s prices quota_prices)) b sum
     (λ i d l. omega (arith, ints)) (λ g y l rebate. rebate_at_most s prices quota_prices g y o a u rebate) in
     let is : total (λ x. pos (10 ^ 12)) (listed s) ≡ pos (length (listed s) * 10 ^ 12) = total_constant (10 ^ 12) (listed s) in
     let most : length (listed s) ≤ 1024 = requests_at_most s o in
     (least, omega (arith, ints))
 
 -- by quota
-quota_part_between : (s : Parts) (quota_prices : List ℕ) (q : ℕ) (y : ℤ) → IsOrderly s → All (λ u. u ≤ 200000) quota_prices → q < length s.quotas → IsQuotaPart s quota_prices q y
+quota_part_between : (s : Parts) (quota_prices : List ℕ) (q : ℕ) (y : ℤ) → IsOrderly s → All (λ u. u ≤ 200000) quota_prices → q < length s.quotas
+    → IsQuotaPart s quota_prices q y
     → (pos 0 ≤ℤ y) × (y ≤ℤ pos 20000000000000)
 quota_part_between s quota_prices q y o u l part =
     let one : slice_index_or quota_prices q 0 ≤ 200000 = quota_price_at_most quota_prices q u in
@@ -219,7 +240,9 @@ pub bound_limit : (s : Parts) (prices : List ℤ) (quota_prices : List ℕ) (b :
     → IsBound s prices quota_prices b → (pos 0 ≤ℤ b) × (b <ℤ pos (10 ^ 17))
 bound_limit s prices quota_prices b o a u bound =
     sums_between (length s.telescopes) (length s.quotas) bound.bests bound.rebates bound.quotas b (telescopes_at_most s o) (quotas_at_most s o)
-    (sum_between (length s.telescopes) 1440414720000000 (λ t. IsBest s prices t s.first.0) bound.bests bound.best (λ t y l best. best_between s prices t s.first.0 y o a best))
+    (sum_between (length s.telescopes) 1440414720000000 (λ t. IsBest s prices t s.first.0) bound.bests bound.best
+    (λ t y l best. best_between s prices t s.first.0 y o a best))
     (rebates_between s prices quota_prices bound.rebates o a u bound.rebate)
-    (sum_between (length s.quotas) 20000000000000 (IsQuotaPart s quota_prices) bound.quotas bound.quota (λ q y l part. quota_part_between s quota_prices q y o u l part))
+    (sum_between (length s.quotas) 20000000000000 (IsQuotaPart s quota_prices) bound.quotas bound.quota
+    (λ q y l part. quota_part_between s quota_prices q y o u l part))
     bound.whole

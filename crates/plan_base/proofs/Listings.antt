@@ -1,5 +1,6 @@
 -- The placements of a plan, listed by telescope, then slice.
-use Rattle.std.proofs.Common.{◌≡◌, ◌≢◌, ℕ, ◌+◌, ◌<◌, ◌≤◌, ◌⊎◌, inl, inr, Bool, true, false, cond, List, [], ◌∷◌, slice_index_or, All, AllPairs, Contains, IsPermutation, sum_by, Ordering, Less, Equal, refl, sym, ◌∙◌, subst, arith}
+use Rattle.std.proofs.Common.{◌≡◌, ◌≢◌, ℕ, ◌+◌, ◌<◌, ◌≤◌, ◌⊎◌, inl, inr, Bool, true, false, cond, List, [], ◌∷◌, slice_index_or, All, AllPairs}
+use Rattle.std.proofs.Common.{Contains, IsPermutation, sum_by, Ordering, Less, Equal, refl, sym, ◌∙◌, subst, arith}
 use Rattle.std.specs.Cmp.{nat_cmp_is}
 use Rattle.std.specs.Ordering.{is_lt, nat_cmp, ordering_then}
 use Rattle.std.specs.List.Sorted.{IsSortedBy}
@@ -60,7 +61,9 @@ module _ (s : Parts) (plan listing : List Placement) (orderly : IsOrderly s) (sa
 
   whole : (g : ℕ) → AllOrNone s g (requests_of plan) → AllOrNone s g (requests_of listing)
   whole g (inl all) = inl (λ r of. Contains-permutation (requests_of plan) (requests_of listing) r requests (all r of))
-  whole g (inr none) = inr (λ r of c. none r of (Contains-permutation (requests_of listing) (requests_of plan) r (IsPermutation-sym (requests_of plan) (requests_of listing) requests) c))
+  whole g (inr none) = inr (λ r of c.
+      none r of (Contains-permutation (requests_of listing) (requests_of plan) r
+      (IsPermutation-sym (requests_of plan) (requests_of listing) requests) c))
 
   -- it is feasible too
   pub listing_feasible : IsFeasible s listing
@@ -68,7 +71,8 @@ module _ (s : Parts) (plan listing : List Placement) (orderly : IsOrderly s) (sa
     possible = possible;
     once = all_pairs_permutation (λ a b. a ≢ b) (λ a b other e. other (sym e)) (requests_of plan) (requests_of listing) requests feasible.once;
     disjoint = apart;
-    oneof_once = all_pairs_permutation (λ a b. ¬ (AreOfOneOneOf s a b)) (λ a b none both. none (both.0, both.1, both.3, both.2)) (requests_of plan) (requests_of listing) requests feasible.oneof_once;
+    oneof_once = all_pairs_permutation (λ a b. ¬ (AreOfOneOneOf s a b)) (λ a b none both. none (both.0, both.1, both.3, both.2)) (requests_of plan)
+        (requests_of listing) requests feasible.oneof_once;
     and_whole = λ g kind. whole g (feasible.and_whole g kind);
     within_quotas = λ q lt. (let w = feasible.within_quotas q lt in let e = quota_seconds_permuted s q plan listing same in omega arith);
   }
@@ -79,7 +83,9 @@ module _ (s : Parts) (plan listing : List Placement) (orderly : IsOrderly s) (sa
 
   pub listing_is : IsSortedBy is_listed_before listing → IsListing plan listing
   listing_is sorted =
-      let order : AllPairs IsNotAfter listing = all_pairs_from_neighbours IsNotAfter joined listing (λ k d lt. not_after (slice_index_or listing k d) (slice_index_or listing (k + 1) d) (sorted k d (omega arith) lt)) in
+      let order : AllPairs IsNotAfter listing =
+      all_pairs_from_neighbours IsNotAfter joined listing
+      (λ k d lt. not_after (slice_index_or listing k d) (slice_index_or listing (k + 1) d) (sorted k d (omega arith) lt)) in
       record {
         same = same;
         rising = λ i j d less below.
@@ -91,7 +97,13 @@ module _ (s : Parts) (plan listing : List Placement) (orderly : IsOrderly s) (sa
               | inl telescope ↦ inl telescope
               | inr tie ↦ elim (cases_lt a.slice.0 b.slice.0) [
                 | inl before ↦ inr (same_telescope a.telescope b.telescope tie.0, before)
-                | inr not_before ↦ (let le = tie.1 in absurd (apart i j d less below (same_telescope a.telescope b.telescope tie.0, b.slice.0, (omega arith, omega arith), (omega arith, omega arith))))
+                | inr not_before ↦ (let le = tie.1 in
+                    absurd (apart i j d less below (
+                      same_telescope a.telescope b.telescope tie.0,
+                      b.slice.0,
+                      (omega arith, omega arith),
+                      (omega arith, omega arith),
+                    )))
               ]
             ];
       }

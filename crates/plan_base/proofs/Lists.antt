@@ -1,5 +1,6 @@
 -- Lists: what a filter and a map keep, and that numbers no two of which are equal are no more than those among which they are.
-use Rattle.std.proofs.Common.{◌≡◌, ◌≢◌, ℕ, zero, suc, ◌<◌, ◌≤◌, Bool, true, false, cond, List, [], ◌∷◌, length, map, filter, All, AllPairs, Contains, refl, ◌∙◌, ap, arith}
+use Rattle.std.proofs.Common.{◌≡◌, ◌≢◌, ℕ, zero, suc, ◌<◌, ◌≤◌, Bool, true, false, cond, List, [], ◌∷◌, length, map, filter, All, AllPairs, Contains}
+use Rattle.std.proofs.Common.{refl, ◌∙◌, ap, arith}
 use Rattle.std.specs.List.{IsDistinct, flat_map}
 use Rattle.std.specs.Prelude.{nat_eq}
 use Rattle.std.proofs.lemmas.Bool.Decides.{Decides-eqb}
@@ -11,9 +12,11 @@ use Rattle.std.proofs.lemmas.Map.Made.{IsDistinct-from_AllPairs, is_member-Decid
 use Rattle.std.proofs.lemmas.Map.Steps.{length-le_from_distinct_below}
 use Rattle.plan_base.proofs.Orders.{contains_rest, pairs_head, pairs_tail}
 
-within_step : {X : Type 0} (q : X → Bool) (b : Bool) (x : X) (ys zs : List X) → (q x ≡ true → b ≡ true) → filter q ys ≡ zs → filter q (cond b (x ∷ ys) ys) ≡ cond (q x) (x ∷ zs) zs
+within_step : {X : Type 0} (q : X → Bool) (b : Bool) (x : X) (ys zs : List X) → (q x ≡ true → b ≡ true) → filter q ys ≡ zs
+    → filter q (cond b (x ∷ ys) ys) ≡ cond (q x) (x ∷ zs) zs
 within_step q true x ys zs h e = ap (λ (l : List _). cond (q x) (x ∷ l) l) e
-within_step q false x ys zs h e = elim (q x) as (λ v. (v ≡ true → false ≡ true) → filter q ys ≡ cond v (x ∷ zs) zs) [ true ↦ λ g. let bad : false ≡ true = g refl in cc | false ↦ λ g. e ] h
+within_step q false x ys zs h e = elim (q x) as (λ v. (v ≡ true → false ≡ true) → filter q ys ≡ cond v (x ∷ zs) zs)
+    [ true ↦ λ g. let bad : false ≡ true = g refl in cc | false ↦ λ g. e ] h
 
 -- a filter within another that keeps all that it keeps
 pub filter_within : {X : Type 0} (p q : X → Bool) (xs : List X) → ((x : X) → q x ≡ true → p x ≡ true) → filter q (filter p xs) ≡ filter q xs
@@ -42,7 +45,8 @@ contains_map f xs x (k, l, e) = let len : length (map f xs) ≡ length xs = leng
 pub AllPairs-map : {X Y : Type 0} (R : Y → Y → Type 0) (f : X → Y) (xs : List X) → AllPairs (λ a b. R (f a) (f b)) xs → AllPairs R (map f xs)
 AllPairs-map R f [] h = λ i j d l m. absurd (omega arith)
 AllPairs-map R f (x ∷ xs) h =
-    AllPairs-cons R (f x) (map f xs) (All-map (R (f x)) f xs (pairs_head (λ a b. R (f a) (f b)) x xs h)) (AllPairs-map R f xs (pairs_tail (λ a b. R (f a) (f b)) x xs h))
+    AllPairs-cons R (f x) (map f xs) (All-map (R (f x)) f xs (pairs_head (λ a b. R (f a) (f b)) x xs h))
+    (AllPairs-map R f xs (pairs_tail (λ a b. R (f a) (f b)) x xs h))
 
 is_distinct : (xs : List ℕ) → AllPairs (λ a b. a ≢ b) xs → IsDistinct nat_eq xs
 is_distinct xs h = IsDistinct-from_AllPairs {eq = nat_eq} Decides-eqb xs h

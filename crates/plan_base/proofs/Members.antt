@@ -1,5 +1,6 @@
 -- A group's requests, as they are listed and as the group has them.
-use Rattle.std.proofs.Common.{◌≡◌, ◌≢◌, ℕ, zero, suc, ◌+◌, ◌<◌, ◌⊎◌, inl, inr, Bool, true, false, cond, not, ◌==◌, List, [], ◌∷◌, ◌++◌, length, map, slice_index_or, AllPairs, Contains, refl, sym, ◌∙◌, ap, subst, arith}
+use Rattle.std.proofs.Common.{◌≡◌, ◌≢◌, ℕ, zero, suc, ◌+◌, ◌<◌, ◌⊎◌, inl, inr, Bool, true, false, cond, not, ◌==◌, List, [], ◌∷◌, ◌++◌, length, map}
+use Rattle.std.proofs.Common.{slice_index_or, AllPairs, Contains, refl, sym, ◌∙◌, ap, subst, arith}
 use Rattle.std.specs.List.{position_or_len}
 use Rattle.std.proofs.lemmas.List.{get_or_default}
 use Rattle.std.proofs.lemmas.List.Elements.{All-contains, Contains-append_left, Contains-append_right, Contains-append_cases, Contains-get_or}
@@ -51,17 +52,19 @@ member_listed g (y ∷ ys) (suc i) r c =
     (rest.0, Contains-append_right (map (λ q. record { group = g; quota = y.quota; request = q }) y.requests) _ rest.0 rest.1, omega arith, rest.3)
 
 -- what is listed is one of its group's requests
-listed_member : (g : ℕ) (xs : List GroupPart) (x : Listed) → Contains (listed_from g xs) x → (i : ℕ) × (x.group ≡ g + i) × Contains (slice_index_or (map members_of xs) i []) x.request.request.0
+listed_member : (g : ℕ) (xs : List GroupPart) (x : Listed) → Contains (listed_from g xs) x → (i : ℕ) × (x.group ≡ g + i)
+    × Contains (slice_index_or (map members_of xs) i []) x.request.request.0
 listed_member g [] x c = absurd (omega (arith, c.1))
-listed_member g (y ∷ ys) x c = elim (Contains-append_cases (map (λ q. record { group = g; quota = y.quota; request = q }) y.requests) (listed_from (suc g) ys) x c) [
-  | inl here ↦
-      let found = contains_from_map (λ q. record { group = g; quota = y.quota; request = q }) y.requests x here in (
-        0,
-        ap (λ z. z.group) (sym found.2) ∙ at_zero g,
-        subst (λ (r : ℕ). Contains (members_of y) r) (ap (λ z. z.request.request.0) found.2) (contains_map (λ q. q.request.0) y.requests found.0 found.1),
-      )
-  | inr later ↦ let rest = listed_member (suc g) ys x later in let place : x.group ≡ suc g + rest.0 = rest.1 in (suc rest.0, omega arith, rest.2)
-]
+listed_member g (y ∷ ys) x c = elim (Contains-append_cases (map (λ q. record { group = g; quota = y.quota; request = q }) y.requests)
+    (listed_from (suc g) ys) x c) [
+      | inl here ↦
+          let found = contains_from_map (λ q. record { group = g; quota = y.quota; request = q }) y.requests x here in (
+            0,
+            ap (λ z. z.group) (sym found.2) ∙ at_zero g,
+            subst (λ (r : ℕ). Contains (members_of y) r) (ap (λ z. z.request.request.0) found.2) (contains_map (λ q. q.request.0) y.requests found.0 found.1),
+          )
+      | inr later ↦ let rest = listed_member (suc g) ys x later in let place : x.group ≡ suc g + rest.0 = rest.1 in (suc rest.0, omega arith, rest.2)
+    ]
   where
     at_zero : (n : ℕ) → n ≡ n + 0
     at_zero n = omega arith
@@ -106,7 +109,8 @@ pub is_of_member : (s : Parts) (g r : ℕ) → IsOrderly s → Contains (members
 is_of_member s g r o c =
     let found = member_listed 0 s.groups g r c in
     let known : IsKnown s (number_of found.0) = listed_known s found.0 found.1 in
-    let group : group_of s (number_of found.0) ≡ found.0.group = known_or_is (λ x. x.group) 0 s (number_of found.0) found.0 known (listed_as s found.0 o found.1) in
+    let group : group_of s (number_of found.0) ≡ found.0.group =
+    known_or_is (λ x. x.group) 0 s (number_of found.0) found.0 known (listed_as s found.0 o found.1) in
     let place : found.0.group ≡ 0 + g = found.2 in
     subst (λ (n : ℕ). IsOf s g n) found.3 (known, omega arith)
 
@@ -122,7 +126,8 @@ member_is_of s g r (known, group) =
 pub pairs_left : {X : Type 0} (R : X → X → Type 0) (xs ys : List X) → AllPairs R (xs ++ ys) → AllPairs R xs
 pairs_left R [] ys a = λ i j d l m. absurd (omega arith)
 pairs_left R (x ∷ xs) ys a =
-    AllPairs-cons R x xs (λ i d l. All-contains (R x) (xs ++ ys) _ (pairs_head R x (xs ++ ys) a) (Contains-append_left xs ys _ (Contains-get_or xs i d l))) (pairs_left R xs ys (pairs_tail R x (xs ++ ys) a))
+    AllPairs-cons R x xs (λ i d l. All-contains (R x) (xs ++ ys) _ (pairs_head R x (xs ++ ys) a)
+    (Contains-append_left xs ys _ (Contains-get_or xs i d l))) (pairs_left R xs ys (pairs_tail R x (xs ++ ys) a))
 
 pub pairs_right : {X : Type 0} (R : X → X → Type 0) (xs ys : List X) → AllPairs R (xs ++ ys) → AllPairs R ys
 pairs_right R [] ys a = a
@@ -131,16 +136,21 @@ pairs_right R (x ∷ xs) ys a = pairs_right R xs ys (pairs_tail R x (xs ++ ys) a
 pub pairs_from_map : {X Y : Type 0} (R : Y → Y → Type 0) (f : X → Y) (xs : List X) → AllPairs R (map f xs) → AllPairs (λ a b. R (f a) (f b)) xs
 pairs_from_map R f [] a = λ i j d l m. absurd (omega arith)
 pairs_from_map R f (x ∷ xs) a =
-    AllPairs-cons (λ p q. R (f p) (f q)) x xs (λ i d l. All-contains (R (f x)) (map f xs) _ (pairs_head R (f x) (map f xs) a) (contains_map f xs _ (Contains-get_or xs i d l)))
+    AllPairs-cons (λ p q. R (f p) (f q)) x xs
+    (λ i d l. All-contains (R (f x)) (map f xs) _ (pairs_head R (f x) (map f xs) a) (contains_map f xs _ (Contains-get_or xs i d l)))
     (pairs_from_map R f xs (pairs_tail R (f x) (map f xs) a))
 
 -- a group's numbers rise
-rising_members : (g : ℕ) (xs : List GroupPart) (i : ℕ) → AllPairs (λ a b. number_of a < number_of b) (listed_from g xs) → AllPairs (λ a b. a < b) (slice_index_or (map members_of xs) i [])
+rising_members : (g : ℕ) (xs : List GroupPart) (i : ℕ) → AllPairs (λ a b. number_of a < number_of b) (listed_from g xs)
+    → AllPairs (λ a b. a < b) (slice_index_or (map members_of xs) i [])
 rising_members g [] i a = λ k j d l m. absurd (omega arith)
 rising_members g (y ∷ ys) zero a =
     AllPairs-map (λ a b. a < b) (λ q. q.request.0) y.requests
-    (pairs_from_map (λ a b. number_of a < number_of b) (λ q. record { group = g; quota = y.quota; request = q }) y.requests (pairs_left (λ a b. number_of a < number_of b) _ (listed_from (suc g) ys) a))
-rising_members g (y ∷ ys) (suc i) a = rising_members (suc g) ys i (pairs_right (λ a b. number_of a < number_of b) (map (λ q. record { group = g; quota = y.quota; request = q }) y.requests) (listed_from (suc g) ys) a)
+    (pairs_from_map (λ a b. number_of a < number_of b) (λ q. record { group = g; quota = y.quota; request = q }) y.requests
+    (pairs_left (λ a b. number_of a < number_of b) _ (listed_from (suc g) ys) a))
+rising_members g (y ∷ ys) (suc i) a =
+    rising_members (suc g) ys i (pairs_right (λ a b. number_of a < number_of b)
+    (map (λ q. record { group = g; quota = y.quota; request = q }) y.requests) (listed_from (suc g) ys) a)
 
 pub members_rise : (s : Parts) (g : ℕ) → IsOrderly s → AllPairs (λ a b. a < b) (members s g)
 members_rise s g o = rising_members 0 s.groups g o.requests_rise

@@ -9,7 +9,8 @@ use Rattle.plan_base.specs.declared.claim.Placement.{Placement}
 use Rattle.plan_base.specs.Requests.{request_value, IsOf, IsKind, members}
 use Rattle.plan_base.specs.Feasible.{requests_of}
 use Rattle.plan_base.specs.Saturated.{HasNoFree, HasNonePlaced, IsNoLater, IsEarliestFree, TakesEach}
-use Rattle.plan_base.specs.Fill.{group_worth, IsFillOrder, IsMemberOrder, TriesOne, TriesEach, TriesUntilOne, TakesAllOrNone, VisitsGroup, VisitsEach, IsPass, PassesTo, IsFilled}
+use Rattle.plan_base.specs.Fill.{group_worth, IsFillOrder, IsMemberOrder, TriesOne, TriesEach, TriesUntilOne, TakesAllOrNone, VisitsGroup, VisitsEach}
+use Rattle.plan_base.specs.Fill.{IsPass, PassesTo, IsFilled}
 use Rattle.plan_base.proofs.Orders.{contains_cases, contains_rest, one_order}
 
 pub same_placement : (p q : Placement) → p.request.0 ≡ q.request.0 → p.telescope.0 ≡ q.telescope.0 → p.slice.0 ≡ q.slice.0 → p ≡ q
@@ -88,7 +89,8 @@ one_member_order s g xs ys a b =
 one_fill_order : (s : Parts) (xs ys : List ℕ) → IsFillOrder s xs → IsFillOrder s ys → xs ≡ ys
 one_fill_order s xs ys a b =
     one_order (FallsBy (group_worth s)) (falls_irreflexive (group_worth s)) (falls_asymmetric (group_worth s)) xs ys a.falling b.falling
-    (λ z c. b.complete z (All-contains (λ g. g < length s.groups) xs z a.places c)) (λ z c. a.complete z (All-contains (λ g. g < length s.groups) ys z b.places c))
+    (λ z c. b.complete z (All-contains (λ g. g < length s.groups) xs z a.places c))
+    (λ z c. a.complete z (All-contains (λ g. g < length s.groups) ys z b.places c))
 
 -- whether a number is in a list can be told, and so whether none of a list is placed
 nat_cases : (a b : ℕ) → (a ≡ b) ⊎ (a ≢ b)
@@ -151,7 +153,8 @@ one_visit s plan g a b l h f = elim (kind_at s.groups g l) [
         let same : y.0 ≡ x.0 = one_member_order s g y.0 x.0 y.1 x.1 in
         one_until s plan x.0 a b x.2 (subst (λ (o : List ℕ). TriesUntilOne s plan o b) same y.2)
 
-one_visits : (s : Parts) (plan : List Placement) (gs : List ℕ) (a b : List Placement) → All (λ g. g < length s.groups) gs → VisitsEach s plan gs a → VisitsEach s plan gs b → a ≡ b
+one_visits : (s : Parts) (plan : List Placement) (gs : List ℕ) (a b : List Placement) → All (λ g. g < length s.groups) gs → VisitsEach s plan gs a
+    → VisitsEach s plan gs b → a ≡ b
 one_visits s plan [] a b l h f = h ∙ sym f
 one_visits s plan (g ∷ gs) a b l (x, e, h) (y, d, f) =
     let same : y ≡ x = one_visit s plan g y x (All-head (λ i. i < length s.groups) g gs l) d e in

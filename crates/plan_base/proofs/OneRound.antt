@@ -1,5 +1,6 @@
 -- One canonical use, one list of a round's prices, and one repaired plan for the same arguments.
-use Rattle.std.proofs.Common.{◌≡◌, ℕ, zero, suc, ◌+◌, ◌<◌, ◌≤◌, inl, inr, ℤ, List, [], ◌∷◌, ◌++◌, length, map, Option, Some, None, AllPairs, Contains, refl, sym, ◌∙◌, ap, subst, arith}
+use Rattle.std.proofs.Common.{◌≡◌, ℕ, zero, suc, ◌+◌, ◌<◌, ◌≤◌, inl, inr, ℤ, List, [], ◌∷◌, ◌++◌, length, map, Option, Some, None, AllPairs, Contains}
+use Rattle.std.proofs.Common.{refl, sym, ◌∙◌, ap, subst, arith}
 use Rattle.std.proofs.lemmas.List.{same_lists, get_or_default}
 use Rattle.std.proofs.lemmas.List.Sorted.{Contains-permutation, IsPermutation-sym}
 use Rattle.std.specs.List.{flat_map}
@@ -19,7 +20,8 @@ use Rattle.plan_base.proofs.OneFill.{same_placement, one_filled}
 abbrev pub HasSizes : Parts → Type 0
 HasSizes s = (p : Placement) → IsPossibleStart s p → 0 < size_of s p.request.0
 
-no_busy_before : (s : Parts) (prices : List ℤ) (t k j : ℕ) (p : Placement) → IsIdleUpTo s prices t k j → StartsLowest s prices t p → k ≤ p.slice.0 → ¬ (p.slice.0 < j)
+no_busy_before : (s : Parts) (prices : List ℤ) (t k j : ℕ) (p : Placement) → IsIdleUpTo s prices t k j → StartsLowest s prices t p
+    → k ≤ p.slice.0 → ¬ (p.slice.0 < j)
 no_busy_before s prices t k j p idle starts from below = starts.busy (idle p.slice.0 from below)
 
 within_horizon : (s : Parts) (prices : List ℤ) (t : ℕ) (p : Placement) → HasSizes s → StartsLowest s prices t p → p.slice.0 < s.first.0 + s.slices
@@ -41,16 +43,21 @@ same_start s prices t k p q hp hq ip iq sp sq =
     let above : q.request.0 ≤ p.request.0 = sq.lowest p sp.possible (sym telescope_numbers) (sym slice_numbers) sp.tight in
     same_placement p q (omega arith) telescopes slices
 
-pub one_use_from : (s : Parts) (prices : List ℤ) (t k : ℕ) (xs ys : List Placement) → HasSizes s → IsCanonicalFrom s prices t k xs → IsCanonicalFrom s prices t k ys → xs ≡ ys
+pub one_use_from : (s : Parts) (prices : List ℤ) (t k : ℕ) (xs ys : List Placement) → HasSizes s → IsCanonicalFrom s prices t k xs
+    → IsCanonicalFrom s prices t k ys → xs ≡ ys
 one_use_from s prices t k [] [] sizes a b = refl
-one_use_from s prices t k [] (q ∷ qs) sizes a (from, idle, starts, rest) = absurd (no_busy_before s prices t k (s.first.0 + s.slices) q a starts from (within_horizon s prices t q sizes starts))
-one_use_from s prices t k (p ∷ ps) [] sizes (from, idle, starts, rest) b = absurd (no_busy_before s prices t k (s.first.0 + s.slices) p b starts from (within_horizon s prices t p sizes starts))
+one_use_from s prices t k [] (q ∷ qs) sizes a (from, idle, starts, rest) =
+    absurd (no_busy_before s prices t k (s.first.0 + s.slices) q a starts from (within_horizon s prices t q sizes starts))
+one_use_from s prices t k (p ∷ ps) [] sizes (from, idle, starts, rest) b =
+    absurd (no_busy_before s prices t k (s.first.0 + s.slices) p b starts from (within_horizon s prices t p sizes starts))
 one_use_from s prices t k (p ∷ ps) (q ∷ qs) sizes (hp, ip, sp, rp) (hq, iq, sq, rq) =
     let heads : q ≡ p = same_start s prices t k q p hq hp iq ip sq sp in
-    let rest : ps ≡ qs = one_use_from s prices t (p.slice.0 + size_of s p.request.0) ps qs sizes rp (subst (λ (x : Placement). IsCanonicalFrom s prices t (x.slice.0 + size_of s x.request.0) qs) heads rq) in
+    let rest : ps ≡ qs = one_use_from s prices t (p.slice.0 + size_of s p.request.0) ps qs sizes rp
+    (subst (λ (x : Placement). IsCanonicalFrom s prices t (x.slice.0 + size_of s x.request.0) qs) heads rq) in
     λ i. sym heads i ∷ rest i
 
-pub one_use : (s : Parts) (prices : List ℤ) (t : ℕ) (xs ys : List Placement) → HasSizes s → IsCanonicalUse s prices t xs → IsCanonicalUse s prices t ys → xs ≡ ys
+pub one_use : (s : Parts) (prices : List ℤ) (t : ℕ) (xs ys : List Placement) → HasSizes s → IsCanonicalUse s prices t xs
+    → IsCanonicalUse s prices t ys → xs ≡ ys
 one_use s prices t xs ys sizes a b = one_use_from s prices t s.first.0 xs ys sizes a b
 
 pub one_starts : (s : Parts) (prices : List ℤ) (xs ys : List Placement) → HasSizes s → IsCanonicalStarts s prices xs → IsCanonicalStarts s prices ys → xs ≡ ys
@@ -67,10 +74,14 @@ SamePrices prices quota_prices others quota_others = (prices ≡ others) × (quo
 one_step : (s : Parts) (step : ℕ) (prices : List ℤ) (quota_prices : List ℕ) (a : List ℤ) (u : List ℕ) (b : List ℤ) (v : List ℕ) → HasSizes s
     → IsNextRound s step prices quota_prices a u → IsNextRound s step prices quota_prices b v → SamePrices a u b v
 one_step s step prices quota_prices a u b v sizes h g =
-    let starts : h.starts ≡ g.starts = one_starts s prices h.starts g.starts sizes h.canonical g.canonical in
-    (h.moved ∙ ap (λ (xs : List Placement). next_prices s step prices (net_price s prices quota_prices) xs) starts ∙ sym g.moved, h.moved_quota ∙ sym g.moved_quota)
+    let starts : h.starts ≡ g.starts = one_starts s prices h.starts g.starts sizes h.canonical g.canonical in (
+      h.moved ∙ ap (λ (xs : List Placement). next_prices s step prices (net_price s prices quota_prices) xs) starts
+          ∙ sym g.moved,
+      h.moved_quota ∙ sym g.moved_quota,
+    )
 
-pub one_round : (s : Parts) (lane round : ℕ) (a : List ℤ) (u : List ℕ) (b : List ℤ) (v : List ℕ) → HasSizes s → IsRoundPrices s lane round a u → IsRoundPrices s lane round b v → SamePrices a u b v
+pub one_round : (s : Parts) (lane round : ℕ) (a : List ℤ) (u : List ℕ) (b : List ℤ) (v : List ℕ) → HasSizes s → IsRoundPrices s lane round a u
+    → IsRoundPrices s lane round b v → SamePrices a u b v
 one_round s lane zero a u b v sizes (h, k) (g, j) = (h ∙ sym g, k ∙ sym j)
 one_round s lane (suc round) a u b v sizes (c, w, h, k) (d, x, g, j) =
     let before : SamePrices d x c w = one_round s lane round d x c w sizes g h in
@@ -91,10 +102,12 @@ somes {X} (x ∷ xs) (y ∷ ys) e =
     let rest : xs ≡ ys = somes xs ys (ap tail e) in
     λ i. heads i ∷ rest i
 
-one_firsts : (s : Parts) (starts plan : List Placement) (g : ℕ) (xs ys : List Placement) → CanAddWhole s starts plan g xs → CanAddWhole s starts plan g ys → xs ≡ ys
+one_firsts : (s : Parts) (starts plan : List Placement) (g : ℕ) (xs ys : List Placement) → CanAddWhole s starts plan g xs
+    → CanAddWhole s starts plan g ys → xs ≡ ys
 one_firsts s starts plan g xs ys a b = somes xs ys (a.each_first ∙ sym b.each_first)
 
-one_wholes : (s : Parts) (starts plan : List Placement) (gs : List ℕ) (a b : List Placement) → AddsWholes s starts plan gs a → AddsWholes s starts plan gs b → a ≡ b
+one_wholes : (s : Parts) (starts plan : List Placement) (gs : List ℕ) (a b : List Placement) → AddsWholes s starts plan gs a
+    → AddsWholes s starts plan gs b → a ≡ b
 one_wholes s starts plan [] a b h k = h ∙ sym k
 one_wholes s starts plan (g ∷ gs) a b (inl (x, e, h)) (inl (y, d, k)) =
     let same : y ≡ x = one_firsts s starts plan g y x d e in
@@ -137,11 +150,14 @@ tried_asymmetric s p q (inr (e, inr (c, h))) (inr (d, inr (b, k))) = listed_asym
 through : {X : Type 0} (xs ys zs : List X) → IsPermutation xs ys → IsPermutation xs zs → (z : X) → Contains ys z → Contains zs z
 through xs ys zs p q z c = Contains-permutation xs zs z q (Contains-permutation ys xs z (IsPermutation-sym xs ys p) c)
 
-one_trying_order : (s : Parts) (starts xs ys : List Placement) → IsPermutation starts xs → IsPermutation starts ys → AllPairs (IsTriedBefore s) xs → AllPairs (IsTriedBefore s) ys → xs ≡ ys
-one_trying_order s starts xs ys p q a b = one_order (IsTriedBefore s) (tried_irreflexive s) (tried_asymmetric s) xs ys a b (through starts xs ys p q) (through starts ys xs q p)
+one_trying_order : (s : Parts) (starts xs ys : List Placement) → IsPermutation starts xs → IsPermutation starts ys → AllPairs (IsTriedBefore s) xs
+    → AllPairs (IsTriedBefore s) ys → xs ≡ ys
+one_trying_order s starts xs ys p q a b = one_order (IsTriedBefore s) (tried_irreflexive s) (tried_asymmetric s) xs ys a b (through starts xs ys p q)
+    (through starts ys xs q p)
 
 pub one_listing : (plan xs ys : List Placement) → IsListing plan xs → IsListing plan ys → xs ≡ ys
-one_listing plan xs ys a b = one_order IsListedBefore listed_irreflexive listed_asymmetric xs ys a.rising b.rising (through plan xs ys a.same b.same) (through plan ys xs b.same a.same)
+one_listing plan xs ys a b = one_order IsListedBefore listed_irreflexive listed_asymmetric xs ys a.rising b.rising (through plan xs ys a.same b.same)
+    (through plan ys xs b.same a.same)
 
 pub one_repaired_from : (s : Parts) (starts a b : List Placement) → IsRepairedFrom s starts a → IsRepairedFrom s starts b → a ≡ b
 one_repaired_from s starts a b h k =

@@ -21,7 +21,8 @@ below_or_not : (i j : ℕ) → (i < j) ⊎ (j ≤ i)
 below_or_not i j = grind arith
 
 -- of two spans with a gap between them the second after one isn't in the other
-never_after : (spans : List Span) (i j : ℕ) (v w : Span) → IsSortedApart spans → i < length spans → j < length spans → slice_index_or spans i v ≡ v → slice_index_or spans j w ≡ w
+never_after : (spans : List Span) (i j : ℕ) (v w : Span) → IsSortedApart spans → i < length spans → j < length spans → slice_index_or spans i v ≡ v
+    → slice_index_or spans j w ≡ w
     → (a : ℕ) → HasSecond v a → ¬ (HasSecond w v.to.0)
 never_after spans i j v w apart l m at_i at_j a (v_from, v_to) (w_from, w_to) = elim (below_same_above i j) [
   | inl (inl below) ↦
@@ -46,6 +47,7 @@ all_from_each spans a b apart h each =
     let span : Span = first.1 in
     let has : HasSecond span a = first.4 in
     elim (below_or_not span.to.0 b) [
-      | inl below ↦ let next = each span.to.0 (omega (arith, has.1)) below in absurd (never_after spans first.0 next.0 span next.1 apart first.2 next.2 first.3 next.3 a has next.4)
+      | inl below ↦ let next = each span.to.0 (omega (arith, has.1)) below in
+          absurd (never_after spans first.0 next.0 span next.1 apart first.2 next.2 first.3 next.3 a has next.4)
       | inr not_below ↦ (first.0, span, first.2, first.3, (has.0, not_below))
     ]

@@ -1,5 +1,6 @@
 -- One verdict for the same claim.
-use Rattle.std.proofs.Common.{◌≡◌, ◌≢◌, ℕ, zero, suc, ◌<◌, ◌≤◌, ◌⊎◌, inl, inr, pos, List, [], ◌∷◌, length, slice_get, slice_index_or, Option, Some, None, All, AllPairs, refl, sym, ◌∙◌, ap, subst, arith}
+use Rattle.std.proofs.Common.{◌≡◌, ◌≢◌, ℕ, zero, suc, ◌<◌, ◌≤◌, ◌⊎◌, inl, inr, pos, List, [], ◌∷◌, length, slice_get, slice_index_or, Option, Some}
+use Rattle.std.proofs.Common.{None, All, AllPairs, refl, sym, ◌∙◌, ap, subst, arith}
 use Rattle.std.proofs.lemmas.Int.{ints}
 use Rattle.std.proofs.lemmas.List.{get_or_past}
 use Rattle.std.proofs.lemmas.Option.{get_or_from_slice_get}
@@ -9,7 +10,8 @@ use Rattle.plan_base.specs.declared.parts.Op.TheVariants.{Single}
 use Rattle.plan_base.specs.declared.claim.Placement.{Placement}
 use Rattle.plan_base.specs.declared.claim.Claim.{Claim}
 use Rattle.plan_base.specs.declared.verdict.Reason.{Reason}
-use Rattle.plan_base.specs.declared.verdict.Reason.TheVariants.{UnknownRequest, PlacedTwice, NotPossible, Overlap, OneofTwice, AndPartial, QuotaOver, PriceCount, PriceRange, QuotaPriceCount, QuotaPriceRange, ValueDiffers, BoundDiffers}
+use Rattle.plan_base.specs.declared.verdict.Reason.TheVariants.{UnknownRequest, PlacedTwice, NotPossible, Overlap, OneofTwice, AndPartial, QuotaOver}
+use Rattle.plan_base.specs.declared.verdict.Reason.TheVariants.{PriceCount, PriceRange, QuotaPriceCount, QuotaPriceRange, ValueDiffers, BoundDiffers}
 use Rattle.plan_base.specs.declared.verdict.Verdict.{Verdict}
 use Rattle.plan_base.specs.Feasible.{requests_of, quota_seconds, quota_at, AreOfOneOneOf}
 use Rattle.plan_base.specs.Starts.{IsPossibleStart, ShareSlice}
@@ -25,7 +27,8 @@ read_below (y ∷ xs) (suc i) x e = let rest : i < length xs = read_below xs i x
 holds_at_read : {X : Type 0} (P : X → Type 0) (xs : List X) (i : ℕ) (x : X) → All P xs → slice_get xs i ≡ Some x → P x
 holds_at_read P xs i x a e = subst P (get_or_from_slice_get xs i x x e) (a i x (read_below xs i x e))
 
-holds_of_pair : {X : Type 0} (R : X → X → Type 0) (xs : List X) (i j : ℕ) (x y : X) → AllPairs R xs → i < j → slice_get xs i ≡ Some x → slice_get xs j ≡ Some y → R x y
+holds_of_pair : {X : Type 0} (R : X → X → Type 0) (xs : List X) (i j : ℕ) (x y : X) → AllPairs R xs → i < j → slice_get xs i ≡ Some x
+    → slice_get xs j ≡ Some y → R x y
 holds_of_pair R xs i j x y a l e f =
     let pair : R (slice_index_or xs i x) (slice_index_or xs j x) = a i j x l (read_below xs j y f) in
     let left : R x (slice_index_or xs j x) = subst (λ (z : _). R z (slice_index_or xs j x)) (get_or_from_slice_get xs i x x e) pair in
@@ -54,9 +57,11 @@ within_all (u ∷ us) j m a h = by_place (place_cases j (length (u ∷ us)))
 pub certified_has_no_reason : (s : Parts) (claim : Claim) (reason : Reason) → IsCertified s claim → IsReason s claim reason → ⊥
 certified_has_no_reason s claim (UnknownRequest i) c ((p, e, n), first) = n (holds_at_read (IsPossibleStart s) claim.placements i p c.feasible.possible e).known
 certified_has_no_reason s claim (PlacedTwice i) c ((j, p, q, l, e, f, same), first) =
-    holds_of_pair (λ a b. a ≢ b) (requests_of claim.placements) j i p.request.0 q.request.0 c.feasible.once l (read_request claim.placements j p e) (read_request claim.placements i q f) (ap (λ r. r.0) same)
+    holds_of_pair (λ a b. a ≢ b) (requests_of claim.placements) j i p.request.0 q.request.0 c.feasible.once l (read_request claim.placements j p e)
+    (read_request claim.placements i q f) (ap (λ r. r.0) same)
 certified_has_no_reason s claim (NotPossible i) c ((p, e, n), first) = n (holds_at_read (IsPossibleStart s) claim.placements i p c.feasible.possible e)
-certified_has_no_reason s claim (Overlap i) c ((j, p, q, l, e, f, share), first) = holds_of_pair (λ a b. ¬ (ShareSlice s a b)) claim.placements j i p q c.feasible.disjoint l e f share
+certified_has_no_reason s claim (Overlap i) c ((j, p, q, l, e, f, share), first) =
+    holds_of_pair (λ a b. ¬ (ShareSlice s a b)) claim.placements j i p q c.feasible.disjoint l e f share
 certified_has_no_reason s claim (OneofTwice group) c (g, ((kind, i, j, a, b, l, e, f, of_a, of_b), first), named) =
     holds_of_pair (λ x y. ¬ (AreOfOneOneOf s x y)) (requests_of claim.placements) i j a b c.feasible.oneof_once l e f (g, kind, of_a, of_b)
 certified_has_no_reason s claim (AndPartial group) c (g, ((kind, a, b, of_a, of_b, placed, missing), first), named) = elim (c.feasible.and_whole g kind) [
@@ -69,7 +74,8 @@ certified_has_no_reason s claim (PriceRange i) c ((l, n), first) = n (c.price_ra
 certified_has_no_reason s claim (QuotaPriceCount given wanted) c (e, f, n) = n c.quota_price_count
 certified_has_no_reason s claim (QuotaPriceRange i) c (over, first) = within_all claim.quota_prices.0 i 200000 c.quota_price_range over
 certified_has_no_reason s claim (ValueDiffers claimed found) c (e, f, n) = n (e ∙ c.value ∙ sym f)
-certified_has_no_reason s claim (BoundDiffers claimed found) c (e, f, n) = n (e ∙ pos_same claim.bound found (one_bound s claim.prices.0 claim.quota_prices.0 (pos claim.bound) (pos found) c.bound f))
+certified_has_no_reason s claim (BoundDiffers claimed found) c (e, f, n) =
+    n (e ∙ pos_same claim.bound found (one_bound s claim.prices.0 claim.quota_prices.0 (pos claim.bound) (pos found) c.bound f))
 
 below_same_above : (a b : ℕ) → ((a < b) ⊎ (b < a)) ⊎ (a ≡ b)
 below_same_above a b = grind arith
@@ -100,11 +106,14 @@ same_reason s claim (QuotaOver q x y) (QuotaOver r v w) e (h, hx, hy) (g, gv, gw
     let seconds : x ≡ v = hx ∙ ap (λ (k : ℕ). quota_seconds s k (requests_of claim.placements)) same ∙ sym gv in
     let most : y ≡ w = hy ∙ ap (λ (k : ℕ). quota_at s k) same ∙ sym gw in
     λ i. QuotaOver (same i) (seconds i) (most i)
-same_reason s claim (PriceCount x y) (PriceCount v w) e (a, b, n) (c, d, m) = let given : x ≡ v = a ∙ sym c in let wanted : y ≡ w = b ∙ sym d in λ i. PriceCount (given i) (wanted i)
+same_reason s claim (PriceCount x y) (PriceCount v w) e (a, b, n) (c, d, m) = let given : x ≡ v = a ∙ sym c in let wanted : y ≡ w = b ∙ sym d in
+    λ i. PriceCount (given i) (wanted i)
 same_reason s claim (PriceRange i) (PriceRange j) e h g = ap (λ (k : ℕ). PriceRange k) (one_first _ i j h g)
-same_reason s claim (QuotaPriceCount x y) (QuotaPriceCount v w) e (a, b, n) (c, d, m) = let given : x ≡ v = a ∙ sym c in let wanted : y ≡ w = b ∙ sym d in λ i. QuotaPriceCount (given i) (wanted i)
+same_reason s claim (QuotaPriceCount x y) (QuotaPriceCount v w) e (a, b, n) (c, d, m) = let given : x ≡ v = a ∙ sym c in
+    let wanted : y ≡ w = b ∙ sym d in λ i. QuotaPriceCount (given i) (wanted i)
 same_reason s claim (QuotaPriceRange i) (QuotaPriceRange j) e h g = ap (λ (k : ℕ). QuotaPriceRange k) (one_first _ i j h g)
-same_reason s claim (ValueDiffers x y) (ValueDiffers v w) e (a, b, n) (c, d, m) = let claimed : x ≡ v = a ∙ sym c in let found : y ≡ w = b ∙ sym d in λ i. ValueDiffers (claimed i) (found i)
+same_reason s claim (ValueDiffers x y) (ValueDiffers v w) e (a, b, n) (c, d, m) = let claimed : x ≡ v = a ∙ sym c in let found : y ≡ w = b ∙ sym d in
+    λ i. ValueDiffers (claimed i) (found i)
 same_reason s claim (BoundDiffers x y) (BoundDiffers v w) e (a, b, n) (c, d, m) =
     let claimed : x ≡ v = a ∙ sym c in
     let found : y ≡ w = pos_same y w (one_bound s claim.prices.0 claim.quota_prices.0 (pos y) (pos w) b d) in

@@ -34,7 +34,8 @@ module _ {X : Type 0} (R : X → X → Type 0) (irreflexive : (x : X) → ¬ (R 
     | inr cz ↦ cz
   ]
 
-  pub one_order : (xs ys : List X) → AllPairs R xs → AllPairs R ys → ((z : X) → Contains xs z → Contains ys z) → ((z : X) → Contains ys z → Contains xs z) → xs ≡ ys
+  pub one_order : (xs ys : List X) → AllPairs R xs → AllPairs R ys → ((z : X) → Contains xs z → Contains ys z)
+      → ((z : X) → Contains ys z → Contains xs z) → xs ≡ ys
   one_order [] [] a b f g = refl
   one_order [] (y ∷ ys) a b f g = absurd (omega (arith, (g y (contains_first y ys)).1))
   one_order (x ∷ xs) [] a b f g = absurd (omega (arith, (f x (contains_first x xs)).1))
@@ -42,5 +43,6 @@ module _ {X : Type 0} (R : X → X → Type 0) (irreflexive : (x : X) → ¬ (R 
       let heads : x ≡ y = same_heads x y xs ys (pairs_head R x xs a) (pairs_head R y ys b) (f x (contains_first x xs)) (g y (contains_first y ys)) in
       let f' : (z : X) → Contains (x ∷ xs) z → Contains (x ∷ ys) z = subst (λ (w : X). (z : X) → Contains (x ∷ xs) z → Contains (w ∷ ys) z) (sym heads) f in
       let g' : (z : X) → Contains (y ∷ ys) z → Contains (y ∷ xs) z = subst (λ (w : X). (z : X) → Contains (y ∷ ys) z → Contains (w ∷ xs) z) heads g in
-      let rest : xs ≡ ys = one_order xs ys (pairs_tail R x xs a) (pairs_tail R y ys b) (rest_within x xs ys (pairs_head R x xs a) f') (rest_within y ys xs (pairs_head R y ys b) g') in
+      let rest : xs ≡ ys = one_order xs ys (pairs_tail R x xs a) (pairs_tail R y ys b) (rest_within x xs ys (pairs_head R x xs a) f')
+      (rest_within y ys xs (pairs_head R y ys b) g') in
       λ i. heads i ∷ rest i

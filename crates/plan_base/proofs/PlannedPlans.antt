@@ -14,4 +14,5 @@ shown_saturated s settings claim orderly (greedy, filled, inl (worth, listing)) 
     saturated_permuted s greedy claim.placements listing.same (filled_saturated s orderly [] greedy filled.0 filled.1)
 shown_saturated s settings claim orderly (greedy, filled, inr (less, shown)) =
     let (starts, canonical, repaired) = shown.gives.repaired in
-    saturated_permuted s shown.plan claim.placements shown.listing.same (filled_saturated s orderly repaired.added shown.plan repaired.filled.0 repaired.filled.1)
+    saturated_permuted s shown.plan claim.placements shown.listing.same
+    (filled_saturated s orderly repaired.added shown.plan repaired.filled.0 repaired.filled.1)

@@ -61,7 +61,8 @@ pub record HasHorizon (s : Parts) : Type 0 where
 decides_horizon : (s : Parts) → Decides (has_horizon s) (HasHorizon s)
 decides_horizon s = (
   λ e.
-      let last = and_parts (nat_le s.version 524288 && (nat_le 60 s.len && nat_le s.len 3600) && nat_le s.first.0 4223371680) (nat_le 1 s.slices && nat_le s.slices 1440) e in
+      let last = and_parts (nat_le s.version 524288 && (nat_le 60 s.len && nat_le s.len 3600) && nat_le s.first.0 4223371680)
+      (nat_le 1 s.slices && nat_le s.slices 1440) e in
       let third = and_parts (nat_le s.version 524288 && (nat_le 60 s.len && nat_le s.len 3600)) (nat_le s.first.0 4223371680) last.0 in
       let second = and_parts (nat_le s.version 524288) (nat_le 60 s.len && nat_le s.len 3600) third.0 in
       let len = and_parts _ _ second.1 in

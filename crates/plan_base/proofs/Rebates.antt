@@ -1,5 +1,6 @@
 -- What the rebate of a group of each kind is.
-use Rattle.std.proofs.Common.{◌≡◌, ◌≢◌, ℕ, ◌≤◌, ◌⊎◌, inl, inr, Bool, true, false, cond, not, ◌==◌, ℤ, pos, ◌+ℤ◌, ◌≤ℤ◌, int_lt, List, [], ◌∷◌, length, slice_index_or, filter, None, All, AllPairs, Contains, refl, sym, ◌∙◌, ap, subst, arith}
+use Rattle.std.proofs.Common.{◌≡◌, ◌≢◌, ℕ, ◌≤◌, ◌⊎◌, inl, inr, Bool, true, false, cond, not, ◌==◌, ℤ, pos, ◌+ℤ◌, ◌≤ℤ◌, int_lt, List, [], ◌∷◌, length}
+use Rattle.std.proofs.Common.{slice_index_or, filter, None, All, AllPairs, Contains, refl, sym, ◌∙◌, ap, subst, arith}
 use Rattle.std.proofs.lemmas.Int.{ints}
 use Rattle.std.proofs.lemmas.List.Elements.{All-head, All-tail, All-filter, All-contains, All-nil, All-cons, filter_passes}
 use Rattle.std.proofs.lemmas.List.Kept.{AllPairs-filter}
@@ -68,7 +69,8 @@ any_choice c (m ∷ ms) xs a once =
     let split : total c xs ≡ total c same +ℤ total c others = total_split c (λ x. x == m) xs in
     let all_same : All (λ x. x ≡ m) same = λ i d l. equal_from_test _ m (filter_passes (λ x. x == m) xs i d l) in
     let here : total c same ≤ℤ positive (c m) = at_most_once c m same all_same (AllPairs-filter (λ a b. a ≢ b) (λ x. x == m) xs once) in
-    let rest : total c others ≤ℤ total (λ r. positive (c r)) ms = any_choice c ms others (others_within m ms xs a) (AllPairs-filter (λ a b. a ≢ b) (λ x. not (x == m)) xs once) in
+    let rest : total c others ≤ℤ total (λ r. positive (c r)) ms =
+    any_choice c ms others (others_within m ms xs a) (AllPairs-filter (λ a b. a ≢ b) (λ x. not (x == m)) xs once) in
     omega (arith, ints)
 
 takes_step : (c : ℕ → ℤ) (b : Bool) (m : ℕ) (xs : List ℕ) (t : ℤ) → total c xs ≡ t → total c (cond b (m ∷ xs) xs) ≡ cond b (c m) (pos 0) +ℤ t
@@ -86,7 +88,8 @@ one_kind s g j k h e =
     sym (h some) ∙ e some
 
 -- for a SINGLE or a MANY: the sum of the positive prices
-pub rebate_of_any : (s : Parts) (c : ℕ → ℤ) (g : ℕ) (ms : List ℕ) → AreMembers s g ms → IsKind s Single g ⊎ IsKind s Many g → IsRebate s c g (total (λ r. positive (c r)) ms)
+pub rebate_of_any : (s : Parts) (c : ℕ → ℤ) (g : ℕ) (ms : List ℕ) → AreMembers s g ms → IsKind s Single g ⊎ IsKind s Many g
+    → IsRebate s c g (total (λ r. positive (c r)) ms)
 rebate_of_any s c g ms are kind = record {
   reached = (
     filter (λ r. int_lt (pos 0) (c r)) ms,
@@ -137,7 +140,16 @@ rebate_of_one s c g ms b are kind greatest = record {
     other k = let bad : And ≡ OneOf = one_kind s g And OneOf k kind in cc
 
     by_case : (b ≡ pos 0) ⊎ ((r : ℕ) × Contains ms r × (b ≡ c r)) → (choice : List ℕ) × IsAllowedChoice s g choice × (total c choice ≡ b)
-    by_case (inl e) = ([], record { members = All-nil (IsOf s g); once = λ i j d l m. absurd (omega arith); one_of = λ k. omega arith; whole = λ k. absurd (other k) }, sym e)
+    by_case (inl e) = (
+      [],
+      record {
+        members = All-nil (IsOf s g);
+        once = λ i j d l m. absurd (omega arith);
+        one_of = λ k. omega arith;
+        whole = λ k. absurd (other k);
+      },
+      sym e,
+    )
     by_case (inr (r, has, e)) = (
       r ∷ [],
       record {
@@ -164,7 +176,8 @@ exactly_once c m (x ∷ y ∷ xs) a once has =
     absurd (once 0 1 x (omega arith) (omega arith) (first ∙ sym second))
 
 -- lists of the same numbers, each once, have the same sum
-whole_choice : (c : ℕ → ℤ) (ms xs : List ℕ) → AllPairs (λ a b. a ≢ b) ms → All (Contains ms) xs → AllPairs (λ a b. a ≢ b) xs → ((r : ℕ) → Contains ms r → Contains xs r) → total c xs ≡ total c ms
+whole_choice : (c : ℕ → ℤ) (ms xs : List ℕ) → AllPairs (λ a b. a ≢ b) ms → All (Contains ms) xs → AllPairs (λ a b. a ≢ b) xs
+    → ((r : ℕ) → Contains ms r → Contains xs r) → total c xs ≡ total c ms
 whole_choice c [] [] distinct a once has = refl
 whole_choice c [] (x ∷ xs) distinct a once has = absurd (omega (arith, (All-head (Contains []) x xs a).1))
 whole_choice c (m ∷ ms) xs distinct a once has =
@@ -173,8 +186,10 @@ whole_choice c (m ∷ ms) xs distinct a once has =
     let split : total c xs ≡ total c same +ℤ total c others = total_split c (λ x. x == m) xs in
     let all_same : All (λ x. x ≡ m) same = λ i d l. equal_from_test _ m (filter_passes (λ x. x == m) xs i d l) in
     let itself : (m == m) ≡ true = grind (arith, nat_tests) in
-    let here : total c same ≡ c m = exactly_once c m same all_same (AllPairs-filter (λ a b. a ≢ b) (λ x. x == m) xs once) (contains_filter (λ x. x == m) xs m (has m (contains_first m ms)) itself) in
-    let rest : total c others ≡ total c ms = whole_choice c ms others (pairs_tail (λ a b. a ≢ b) m ms distinct) (others_within m ms xs a) (AllPairs-filter (λ a b. a ≢ b) (λ x. not (x == m)) xs once)
+    let here : total c same ≡ c m = exactly_once c m same all_same (AllPairs-filter (λ a b. a ≢ b) (λ x. x == m) xs once)
+    (contains_filter (λ x. x == m) xs m (has m (contains_first m ms)) itself) in
+    let rest : total c others ≡ total c ms = whole_choice c ms others (pairs_tail (λ a b. a ≢ b) m ms distinct) (others_within m ms xs a)
+    (AllPairs-filter (λ a b. a ≢ b) (λ x. not (x == m)) xs once)
     (λ r in_rest.
     let differs : r ≢ m = λ e. All-contains (λ y. m ≢ y) ms r (pairs_head (λ a b. a ≢ b) m ms distinct) in_rest (sym e) in
     contains_filter (λ x. not (x == m)) xs r (has r (contains_rest m r ms in_rest)) (test_from_differ r m differs)) in
@@ -186,7 +201,8 @@ rebate_of_and s c g ms are kind = record {
   reached = by_test (int_lt (pos 0) (total c ms)) refl;
   bound = λ choice allowed. elim (allowed.whole kind) [
     | inl all ↦
-        let same : total c choice ≡ total c ms = whole_choice c ms choice are.once (λ i d l. are.complete _ (allowed.members i d l)) allowed.once (λ r has. all r (All-contains (IsOf s g) ms r are.members has)) in
+        let same : total c choice ≡ total c ms = whole_choice c ms choice are.once (λ i d l. are.complete _ (allowed.members i d l)) allowed.once
+        (λ r has. all r (All-contains (IsOf s g) ms r are.members has)) in
         let most : total c ms ≤ℤ positive (total c ms) = (positive_bounds (total c ms)).1 in
         omega (arith, ints)
     | inr none ↦
@@ -202,7 +218,12 @@ rebate_of_and s c g ms are kind = record {
     all_of_it = record { members = are.members; once = are.once; one_of = λ k. absurd (other k); whole = λ k. inl are.complete }
 
     none_of_it : IsAllowedChoice s g []
-    none_of_it = record { members = All-nil (IsOf s g); once = λ i j d l m. absurd (omega arith); one_of = λ k. omega arith; whole = λ k. inr (λ r o has. omega (arith, has.1)) }
+    none_of_it = record {
+      members = All-nil (IsOf s g);
+      once = λ i j d l m. absurd (omega arith);
+      one_of = λ k. omega arith;
+      whole = λ k. inr (λ r o has. omega (arith, has.1));
+    }
 
     by_test : (b : Bool) → int_lt (pos 0) (total c ms) ≡ b → (choice : List ℕ) × IsAllowedChoice s g choice × (total c choice ≡ positive (total c ms))
     by_test true e = (ms, all_of_it, ap (λ (t : Bool). cond t (total c ms) (pos 0)) (sym e))

@@ -9,7 +9,8 @@ use Rattle.plan_base.specs.Repaired.{AddsWholes, AddsEach, group_places, IsRepai
 use Rattle.plan_base.proofs.Empty.{empty_feasible}
 use Rattle.plan_base.proofs.Filled.{filled_feasible}
 
-wholes_feasible : (s : Parts) (starts plan : List Placement) (gs : List ℕ) (after : List Placement) → IsFeasible s plan → AddsWholes s starts plan gs after → IsFeasible s after
+wholes_feasible : (s : Parts) (starts plan : List Placement) (gs : List ℕ) (after : List Placement) → IsFeasible s plan
+    → AddsWholes s starts plan gs after → IsFeasible s after
 wholes_feasible s starts plan [] after feasible is = subst (IsFeasible s) (sym is) feasible
 wholes_feasible s starts plan (g ∷ gs) after feasible (inl (firsts, can, rest)) = wholes_feasible s starts (plan ++ firsts) gs after can.feasible rest
 wholes_feasible s starts plan (g ∷ gs) after feasible (inr (cannot, rest)) = wholes_feasible s starts plan gs after feasible rest

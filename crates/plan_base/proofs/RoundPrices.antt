@@ -1,5 +1,6 @@
 -- The prices of a lane's rounds: how many there are, and how far they are from 0.
-use Rattle.std.proofs.Common.{◌≡◌, ℕ, zero, suc, ◌+◌, ◌*◌, ◌/◌, ◌^◌, ◌<◌, ◌≤◌, ◌⊎◌, inl, inr, min, max, ◌-◌, Bool, true, false, cond, if◌then◌else◌, nat_lt, ℤ, pos, neg_ℤ, ◌+ℤ◌, ◌-ℤ◌, ◌≤ℤ◌, List, [], ◌∷◌, length, map, slice_index_or, All, sym, ◌∙◌, ap, subst, arith}
+use Rattle.std.proofs.Common.{◌≡◌, ℕ, zero, suc, ◌+◌, ◌*◌, ◌/◌, ◌^◌, ◌<◌, ◌≤◌, ◌⊎◌, inl, inr, min, max, ◌-◌, Bool, true, false, cond, if◌then◌else◌}
+use Rattle.std.proofs.Common.{nat_lt, ℤ, pos, neg_ℤ, ◌+ℤ◌, ◌-ℤ◌, ◌≤ℤ◌, List, [], ◌∷◌, length, map, slice_index_or, All, sym, ◌∙◌, ap, subst, arith}
 use Rattle.std.specs.List.{fold, enumerate_from}
 use Rattle.std.proofs.Math.Nat.{div-le_self}
 use Rattle.std.proofs.lemmas.Int.{ints}
@@ -49,7 +50,8 @@ greatest_of m a (v ∷ vs) few all =
 
 -- no request of a snapshot is worth more
 greatest_most : (s : Parts) → IsOrderly s → greatest_value s ≤ 288000000
-greatest_most s o = greatest_of 288000000 0 (map (λ x. x.request.value) (listed s)) (omega arith) (All-map (λ v. v ≤ 288000000) (λ x. x.request.value) (listed s) (λ i d l. (o.ranges.values i d l).1))
+greatest_most s o = greatest_of 288000000 0 (map (λ x. x.request.value) (listed s)) (omega arith)
+    (All-map (λ v. v ≤ 288000000) (λ x. x.request.value) (listed s) (λ i d l. (o.ranges.values i d l).1))
 
 -- no step is longer than the greatest value
 pub step_most : (s : Parts) (lane round : ℕ) → IsOrderly s → step_of lane round (greatest_value s) ≤ 288000000
@@ -61,7 +63,8 @@ step_most s lane round o =
 -- in each round a price moves by no more than the greatest value of a request
 pub round_up_to : (s : Parts) (lane round : ℕ) (prices : List ℤ) (quota_prices : List ℕ) → IsOrderly s → IsRoundPrices s lane round prices quota_prices
     → All (IsUpTo (round * 288000000)) prices
-round_up_to s lane zero prices quota_prices o (first, quotas) = subst (All (IsUpTo 0)) (sym first) (All-map (IsUpTo 0) (λ x. pos 0) (listed s) (λ i d l. (omega (arith, ints), omega (arith, ints))))
+round_up_to s lane zero prices quota_prices o (first, quotas) =
+    subst (All (IsUpTo 0)) (sym first) (All-map (IsUpTo 0) (λ x. pos 0) (listed s) (λ i d l. (omega (arith, ints), omega (arith, ints))))
 round_up_to s lane (suc round) prices quota_prices o (before, before_quota, is_round, next) =
     let c : ℕ → ℤ = net_price s before before_quota in
     let step : ℕ = step_of lane round (greatest_value s) in
@@ -70,7 +73,8 @@ round_up_to s lane (suc round) prices quota_prices o (before, before_quota, is_r
     subst (λ (n : ℕ). All (IsUpTo n) prices) longer
     (subst (All (IsUpTo (round * 288000000 + 288000000))) (sym next.moved)
     (All-map (IsUpTo (round * 288000000 + 288000000))
-    (λ x. moved_price step (price s before x.request.request.0) (uses_of next.starts x.request.request.0) (is_taken s c x.request.request.0)) (listed s) (λ i d l.
+    (λ x. moved_price step (price s before x.request.request.0) (uses_of next.starts x.request.request.0) (is_taken s c x.request.request.0))
+    (listed s) (λ i d l.
     let r : ℕ = (slice_index_or (listed s) i d).request.request.0 in
     moved_up_to (round * 288000000) 288000000 step (price s before r) (uses_of next.starts r) (is_taken s c r) (step_most s lane round o)
     (up_to_at (round * 288000000) before (place_of s r) earlier))))
@@ -93,8 +97,10 @@ moved_quota_most step u demand most few = by_tests (nat_lt most demand) (nat_lt 
     by_tests false false = few
 
 -- quota prices stay in their range
-pub round_quota_in_range : (s : Parts) (lane round : ℕ) (prices : List ℤ) (quota_prices : List ℕ) → IsRoundPrices s lane round prices quota_prices → All (λ u. u ≤ 200000) quota_prices
-round_quota_in_range s lane zero prices quota_prices (first, quotas) = subst (All (λ u. u ≤ 200000)) (sym quotas) (All-map (λ u. u ≤ 200000) (λ q. 0) s.quotas (λ i d l. omega arith))
+pub round_quota_in_range : (s : Parts) (lane round : ℕ) (prices : List ℤ) (quota_prices : List ℕ) → IsRoundPrices s lane round prices quota_prices
+    → All (λ u. u ≤ 200000) quota_prices
+round_quota_in_range s lane zero prices quota_prices (first, quotas) =
+    subst (All (λ u. u ≤ 200000)) (sym quotas) (All-map (λ u. u ≤ 200000) (λ q. 0) s.quotas (λ i d l. omega arith))
 round_quota_in_range s lane (suc round) prices quota_prices (before, before_quota, is_round, next) =
     let c : ℕ → ℤ = net_price s before before_quota in
     let step : ℕ = step_of lane round (greatest_value s) in
@@ -105,18 +111,22 @@ round_quota_in_range s lane (suc round) prices quota_prices (before, before_quot
     moved_quota_most step (slice_index_or before_quota q.0 0) (demand_of s c q.0) q.1 (quota_price_at_most before_quota q.0 earlier)))
 
 -- there is a price for each request
-pub round_count : (s : Parts) (lane round : ℕ) (prices : List ℤ) (quota_prices : List ℕ) → IsRoundPrices s lane round prices quota_prices → length prices ≡ length (listed s)
+pub round_count : (s : Parts) (lane round : ℕ) (prices : List ℤ) (quota_prices : List ℕ) → IsRoundPrices s lane round prices quota_prices
+    → length prices ≡ length (listed s)
 round_count s lane zero prices quota_prices (first, quotas) = ap length first ∙ length-map (listed s) (λ x. pos 0)
 round_count s lane (suc round) prices quota_prices (before, before_quota, is_round, next) =
     let c : ℕ → ℤ = net_price s before before_quota in
     ap length next.moved
-    ∙ length-map (listed s) (λ x. moved_price (step_of lane round (greatest_value s)) (price s before x.request.request.0) (uses_of next.starts x.request.request.0) (is_taken s c x.request.request.0))
+    ∙ length-map (listed s) (λ x. moved_price (step_of lane round (greatest_value s)) (price s before x.request.request.0)
+    (uses_of next.starts x.request.request.0) (is_taken s c x.request.request.0))
 
 -- and a quota price for each quota
-pub round_quota_count : (s : Parts) (lane round : ℕ) (prices : List ℤ) (quota_prices : List ℕ) → IsRoundPrices s lane round prices quota_prices → length quota_prices ≡ length s.quotas
+pub round_quota_count : (s : Parts) (lane round : ℕ) (prices : List ℤ) (quota_prices : List ℕ) → IsRoundPrices s lane round prices quota_prices
+    → length quota_prices ≡ length s.quotas
 round_quota_count s lane zero prices quota_prices (first, quotas) = ap length quotas ∙ length-map s.quotas (λ q. 0)
 round_quota_count s lane (suc round) prices quota_prices (before, before_quota, is_round, next) =
     let c : ℕ → ℤ = net_price s before before_quota in
     ap length next.moved_quota
-    ∙ length-map (enumerate_from 0 s.quotas) (λ q. moved_quota_price (step_of lane round (greatest_value s)) (slice_index_or before_quota q.0 0) (demand_of s c q.0) q.1)
+    ∙ length-map (enumerate_from 0 s.quotas)
+    (λ q. moved_quota_price (step_of lane round (greatest_value s)) (slice_index_or before_quota q.0 0) (demand_of s c q.0) q.1)
     ∙ length-enumerate_from 0 s.quotas

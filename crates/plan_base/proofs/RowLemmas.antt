@@ -1,5 +1,6 @@
 -- The rows lead to the requests as they are listed.
-use Rattle.std.proofs.Common.{◌≡◌, ℕ, suc, zero, ◌<◌, ◌≤◌, ◌==◌, false, List, [], ◌∷◌, ◌++◌, length, map, drop, get_or, refl, sym, ap, ◌∙◌, subst, arith, Some, inl, inr}
+use Rattle.std.proofs.Common.{◌≡◌, ℕ, suc, zero, ◌<◌, ◌≤◌, ◌==◌, false, List, [], ◌∷◌, ◌++◌, length, map, drop, get_or, refl, sym, ap, ◌∙◌, subst}
+use Rattle.std.proofs.Common.{arith, Some, inl, inr}
 use Rattle.std.specs.List.{slice_get, AllZip}
 use Rattle.std.specs.List.Sorted.{IsBinarySearchResult, IsSearchInRange, IsNonDecreasingBy}
 use Rattle.std.specs.Option.{SomeIff}
@@ -39,13 +40,15 @@ first_of_rest [] (suc i) y ys e = absurd (cc)
 first_of_rest (x ∷ xs) zero y ys e = (cc, cc)
 first_of_rest (x ∷ xs) (suc i) y ys e = first_of_rest xs i y ys e
 
-AllZip-append : {X Y : Type 0} (R : X → Y → Type 0) (xs : List X) (ys : List Y) (us : List X) (vs : List Y) → AllZip R xs ys → AllZip R us vs → AllZip R (xs ++ us) (ys ++ vs)
+AllZip-append : {X Y : Type 0} (R : X → Y → Type 0) (xs : List X) (ys : List Y) (us : List X) (vs : List Y) → AllZip R xs ys → AllZip R us vs
+    → AllZip R (xs ++ us) (ys ++ vs)
 AllZip-append R [] [] us vs a b = b
 AllZip-append R [] (y ∷ ys) us vs a b = absurd a
 AllZip-append R (x ∷ xs) [] us vs a b = absurd a
 AllZip-append R (x ∷ xs) (y ∷ ys) us vs a b = (a.0, AllZip-append R xs ys us vs a.1 b)
 
-partner : {X Y : Type 0} (R : X → Y → Type 0) (xs : List X) (ys : List Y) → AllZip R xs ys → (k : ℕ) (d : X) → k < length xs → (y : Y) × (slice_get ys k ≡ Some y) × R (get_or xs k d) y
+partner : {X Y : Type 0} (R : X → Y → Type 0) (xs : List X) (ys : List Y) → AllZip R xs ys → (k : ℕ) (d : X) → k < length xs
+    → (y : Y) × (slice_get ys k ≡ Some y) × R (get_or xs k d) y
 partner R [] ys a k d h = absurd (omega arith)
 partner R (x ∷ xs) [] a k d h = absurd a
 partner R (x ∷ xs) (y ∷ ys) a zero d h = (y, refl, a.0)
@@ -53,7 +56,8 @@ partner R (x ∷ xs) (y ∷ ys) a (suc k) d h = partner R xs ys a.1 k d (omega a
 
 -- ---- rows
 
-rows_within_match : (groups : List GroupPart) (g : ℕ) (part : GroupPart) → slice_get groups g ≡ Some part → (i : ℕ) (qs : List RequestPart) → drop i part.requests ≡ qs → AllZip (IsRowOf groups) (rows_within g i qs) (map (λ q. record { group = g; quota = part.quota; request = q }) qs)
+rows_within_match : (groups : List GroupPart) (g : ℕ) (part : GroupPart) → slice_get groups g ≡ Some part → (i : ℕ) (qs : List RequestPart)
+    → drop i part.requests ≡ qs → AllZip (IsRowOf groups) (rows_within g i qs) (map (λ q. record { group = g; quota = part.quota; request = q }) qs)
 rows_within_match groups g part e i [] rest = tt
 rows_within_match groups g part e i (q ∷ qs) rest =
     let at = first_of_rest part.requests i q qs rest in (
@@ -65,7 +69,8 @@ rows_match : (groups : List GroupPart) (g : ℕ) (xs : List GroupPart) → drop 
 rows_match groups g [] rest = tt
 rows_match groups g (x ∷ xs) rest =
     let at = first_of_rest groups g x xs rest in
-    AllZip-append (IsRowOf groups) (rows_within g 0 x.requests) (map (λ q. record { group = g; quota = x.quota; request = q }) x.requests) (rows_from (suc g) xs) (listed_from (suc g) xs)
+    AllZip-append (IsRowOf groups) (rows_within g 0 x.requests) (map (λ q. record { group = g; quota = x.quota; request = q }) x.requests)
+    (rows_from (suc g) xs) (listed_from (suc g) xs)
     (rows_within_match groups g x at.0 0 x.requests refl) (rows_match groups (suc g) xs at.1)
 
 -- there is a row for each request
@@ -73,7 +78,8 @@ pub length-rows : (s : Parts) (rows : List Row) → rows ≡ rows_from 0 s.group
 length-rows s rows e = ap length e ∙ sym (AllZip-long (IsRowOf s.groups) (rows_from 0 s.groups) (listed s) (rows_match s.groups 0 s.groups refl))
 
 -- the row at a place is that of the request which is listed there
-pub row_at : (s : Parts) (rows : List Row) → rows ≡ rows_from 0 s.groups → (k : ℕ) (row : Row) → k < length (listed s) → row ≡ get_or rows k row → (x : Listed) × (slice_get (listed s) k ≡ Some x) × IsRowOf s.groups row x
+pub row_at : (s : Parts) (rows : List Row) → rows ≡ rows_from 0 s.groups → (k : ℕ) (row : Row) → k < length (listed s) → row ≡ get_or rows k row
+    → (x : Listed) × (slice_get (listed s) k ≡ Some x) × IsRowOf s.groups row x
 row_at s rows e k row h is =
     let matched : AllZip (IsRowOf s.groups) rows (listed s) = rw e (rows_match s.groups 0 s.groups refl) in
     let found = partner (IsRowOf s.groups) rows (listed s) matched k row (omega (arith, length-rows s rows e)) in
@@ -91,11 +97,13 @@ place_of_listed s o i x e =
     let here : get_or (listed s) i x ≡ x = get_or_from_slice_get (listed s) i x x e in
     let number : (get_or (listed s) i x).request.request.0 ≡ x.request.request.0 = ap (λ y. y.request.request.0) here in
     position_or_len_is (λ y. y.request.request.0 == x.request.request.0) (listed s) i x (omega arith)
-    (λ k l. let rise : (get_or (listed s) k x).request.request.0 < (get_or (listed s) i x).request.request.0 = o.requests_rise k i x l within in unequal _ _ (omega arith))
+    (λ k l. let rise : (get_or (listed s) k x).request.request.0 < (get_or (listed s) i x).request.request.0 = o.requests_rise k i x l within in
+    unequal _ _ (omega arith))
     (λ _. eq-eqb _ _ number)
 
 -- the row at a place has the number of the request that is listed there
-row_number : (s : Parts) (rows : List Row) → rows ≡ rows_from 0 s.groups → (k : ℕ) (d : Row) (x : Listed) → k < length (listed s) → (get_or rows k d).request.0 ≡ (get_or (listed s) k x).request.request.0
+row_number : (s : Parts) (rows : List Row) → rows ≡ rows_from 0 s.groups → (k : ℕ) (d : Row) (x : Listed) → k < length (listed s)
+    → (get_or rows k d).request.0 ≡ (get_or (listed s) k x).request.request.0
 row_number s rows e k d x h =
     let row = get_or rows k d in
     let within : k < length rows = omega (arith, length-rows s rows e) in
@@ -106,7 +114,8 @@ below_index : (a b r : ℕ) → a ≤ b → ordering_index (nat_cmp a r) ≤ ord
 below_index a b r h = grind (arith, nat_tests)
 
 -- against a number, the rows don't fall
-rows_rise : (s : Parts) (rows : List Row) → rows ≡ rows_from 0 s.groups → IsOrderly s → (r : ℕ) → IsNonDecreasingBy (λ y. ordering_index (nat_cmp y.request.0 r)) rows
+rows_rise : (s : Parts) (rows : List Row) → rows ≡ rows_from 0 s.groups → IsOrderly s → (r : ℕ)
+    → IsNonDecreasingBy (λ y. ordering_index (nat_cmp y.request.0 r)) rows
 rows_rise s rows e o r i j d h l =
     let within : j < length (listed s) = omega (arith, length-rows s rows e) in
     let found = row_at s rows e j (get_or rows j d) within (get_or_default rows j d (get_or rows j d) l) in
@@ -115,8 +124,10 @@ rows_rise s rows e o r i j d h l =
     let at_j : (get_or rows j d).request.0 ≡ (get_or (listed s) j x).request.request.0 = row_number s rows e j d x within in
     let rise : (get_or (listed s) i x).request.request.0 ≤ (get_or (listed s) j x).request.request.0
     = elim (cases_eq i j) [
-      | inl same ↦ let e : (get_or (listed s) i x).request.request.0 ≡ (get_or (listed s) j x).request.request.0 = ap (λ k. (get_or (listed s) k x).request.request.0) same in omega arith
-      | inr other ↦ let rise : (get_or (listed s) i x).request.request.0 < (get_or (listed s) j x).request.request.0 = o.requests_rise i j x (omega arith) within in omega arith
+      | inl same ↦ let e : (get_or (listed s) i x).request.request.0 ≡ (get_or (listed s) j x).request.request.0 =
+          ap (λ k. (get_or (listed s) k x).request.request.0) same in omega arith
+      | inr other ↦ let rise : (get_or (listed s) i x).request.request.0 < (get_or (listed s) j x).request.request.0 =
+          o.requests_rise i j x (omega arith) within in omega arith
     ]
     in below_index _ _ r (omega arith)
 
@@ -130,7 +141,9 @@ greater_number : (a b : ℕ) → nat_cmp a b ≡ Greater → b < a
 greater_number a b e = grind (arith, nat_tests)
 
 -- what a search by halves of the rows says of the request with number r
-pub search_rows : (s : Parts) (rows : List Row) → rows ≡ rows_from 0 s.groups → IsOrderly s → (r : ℕ) (found : Result ℕ ℕ) → IsSearchInRange found (length rows) → IsBinarySearchResult (λ y. nat_cmp y.request.0 r) rows found → SomeIff (result_ok found) (IsKnown s r) (place_of s r)
+pub search_rows : (s : Parts) (rows : List Row) → rows ≡ rows_from 0 s.groups → IsOrderly s → (r : ℕ) (found : Result ℕ ℕ)
+    → IsSearchInRange found (length rows) → IsBinarySearchResult (λ y. nat_cmp y.request.0 r) rows found
+    → SomeIff (result_ok found) (IsKnown s r) (place_of s r)
 search_rows s rows e o r (Ok i) within equal =
     let row : Row = record { request = record { 0 = r }; group = 0; place = 0 } in
     let listed_within : i < length (listed s) = omega (arith, length-rows s rows e) in

@@ -9,7 +9,8 @@ use Rattle.plan_base.specs.Tables.{slice_after, horizon_end, IsTable, entry, gai
 use Rattle.plan_base.proofs.Sizes.{start_size_above}
 use Rattle.plan_base.proofs.Tables.{table_best}
 
-module _ {X : Type 0} (s : Parts) (prices : List ℤ) (t : ℕ) (weighs : X → ℤ) (ends : X → ℕ) (rows : List (List X)) (table : List ℤ) (orderly : IsOrderly s) (starts : AreStartRows s prices t weighs ends rows) (is_table : IsRowTable weighs ends rows table) where
+module _ {X : Type 0} (s : Parts) (prices : List ℤ) (t : ℕ) (weighs : X → ℤ) (ends : X → ℕ) (rows : List (List X)) (table : List ℤ)
+    (orderly : IsOrderly s) (starts : AreStartRows s prices t weighs ends rows) (is_table : IsRowTable weighs ends rows table) where
   -- the number from slice k on
   abbrev pub from_slice : ℕ → ℤ
   from_slice k = entry table (k - s.first.0)
@@ -24,7 +25,8 @@ module _ {X : Type 0} (s : Parts) (prices : List ℤ) (t : ℕ) (weighs : X → 
   after_same p x told = let after : s.first.0 + ends x ≡ p.slice.0 + size_of s p.request.0 = told.ends_so in ap (entry table) (omega arith)
 
   -- what a start gives, by its row
-  pub gain_is : (p : Placement) (x : X) → IsRowStart s prices weighs ends p x → gain_from weighs ends table x ≡ weight s prices p +ℤ entry table (slice_after s p - s.first.0)
+  pub gain_is : (p : Placement) (x : X) → IsRowStart s prices weighs ends p x
+      → gain_from weighs ends table x ≡ weight s prices p +ℤ entry table (slice_after s p - s.first.0)
   gain_is p x told = ap (λ (w : ℤ). w +ℤ entry table (ends x)) told.weighs_so ∙ ap (λ (b : ℤ). weight s prices p +ℤ b) (sym (after_same p x told))
 
   pub rows_table : IsTable s prices t from_slice
@@ -37,7 +39,8 @@ module _ {X : Type 0} (s : Parts) (prices : List ℤ) (t : ℕ) (weighs : X → 
         let x = starts.complete p start in
         let some : 0 < size_of s p.request.0 = start_size_above s orderly p start.possible in
         let last : p.slice.0 + size_of s p.request.0 ≤ s.first.0 + s.slices = start.possible.ends in
-        let most : gain_from weighs ends table x.0 ≤ℤ entry table (p.slice.0 - s.first.0) = (here p.slice.0 start.possible.begins (omega arith)).above x.0 x.1 in
+        let most : gain_from weighs ends table x.0 ≤ℤ entry table (p.slice.0 - s.first.0) =
+        (here p.slice.0 start.possible.begins (omega arith)).above x.0 x.1 in
         subst (λ (b : ℤ). b ≤ℤ entry table (p.slice.0 - s.first.0)) (gain_is p x.0 x.2) most;
     reached = λ k from below. elim ((here k from below).reached) [
       | inl e ↦ inl (e ∙ sym (next_same k from))
@@ -50,4 +53,5 @@ module _ {X : Type 0} (s : Parts) (prices : List ℤ) (t : ℕ) (weighs : X → 
 
   -- the first entry is the best from the first slice on
   pub first_entry_best : IsBest s prices t s.first.0 (entry table 0)
-  first_entry_best = subst (λ (k : ℕ). IsBest s prices t s.first.0 (entry table k)) (omega arith) (table_best s prices t orderly from_slice rows_table s.first.0 (omega arith) (omega arith))
+  first_entry_best = subst (λ (k : ℕ). IsBest s prices t s.first.0 (entry table k)) (omega arith)
+      (table_best s prices t orderly from_slice rows_table s.first.0 (omega arith) (omega arith))

@@ -32,9 +32,12 @@ one_sum n P a b one ha hb =
 
 pub one_bound : (s : Parts) (prices : List ℤ) (quota_prices : List ℕ) (a b : ℤ) → IsBound s prices quota_prices a → IsBound s prices quota_prices b → a ≡ b
 one_bound s prices quota_prices a b ha hb =
-    let bests : ha.bests ≡ hb.bests = one_sum (length s.telescopes) (λ t. IsBest s prices t s.first.0) ha.bests hb.bests (λ t x y. one_best s prices t s.first.0 x y) ha.best hb.best in
-    let rebates : ha.rebates ≡ hb.rebates = one_sum (length s.groups) (IsRebate s (net_price s prices quota_prices)) ha.rebates hb.rebates (λ g x y. one_rebate s (net_price s prices quota_prices) g x y) ha.rebate hb.rebate in
-    let quotas : ha.quotas ≡ hb.quotas = one_sum (length s.quotas) (IsQuotaPart s quota_prices) ha.quotas hb.quotas (λ q x y e f. e ∙ sym f) ha.quota hb.quota in
+    let bests : ha.bests ≡ hb.bests = one_sum (length s.telescopes) (λ t. IsBest s prices t s.first.0) ha.bests hb.bests
+    (λ t x y. one_best s prices t s.first.0 x y) ha.best hb.best in
+    let rebates : ha.rebates ≡ hb.rebates = one_sum (length s.groups) (IsRebate s (net_price s prices quota_prices)) ha.rebates hb.rebates
+    (λ g x y. one_rebate s (net_price s prices quota_prices) g x y) ha.rebate hb.rebate in
+    let quotas : ha.quotas ≡ hb.quotas = one_sum (length s.quotas) (IsQuotaPart s quota_prices) ha.quotas hb.quotas
+    (λ q x y e f. e ∙ sym f) ha.quota hb.quota in
     let left : a ≡ ha.bests +ℤ ha.rebates +ℤ ha.quotas = ha.whole in
     let right : b ≡ hb.bests +ℤ hb.rebates +ℤ hb.quotas = hb.whole in
     omega (arith, ints)

@@ -18,7 +18,8 @@ one_slice : (len d : ℕ) → 0 < len → 1 ≤ d → 1 ≤ slices_for len d
 one_slice len d h g = le-div 1 (d + len - 1) len h (omega arith)
 
 pub size_above : (s : Parts) (r : ℕ) → IsOrderly s → IsKnown s r → 0 < size_of s r
-size_above s r o known = let least : 60 ≤ s.len = o.ranges.len_least in let one : 1 ≤ size_of s r = one_slice s.len (seconds_of s r) (omega arith) (known_seconds s r o known) in omega arith
+size_above s r o known = let least : 60 ≤ s.len = o.ranges.len_least in
+    let one : 1 ≤ size_of s r = one_slice s.len (seconds_of s r) (omega arith) (known_seconds s r o known) in omega arith
 
 -- the size of a possible start is above 0
 pub start_size_above : (s : Parts) → IsOrderly s → (p : Placement) → IsPossibleStart s p → 0 < size_of s p.request.0

@@ -1,5 +1,6 @@
 -- A start is possible exactly where it is so by spans.
-use Rattle.std.proofs.Common.{◌≡◌, ℕ, zero, suc, ◌<◌, ◌≤◌, ◌⊎◌, inl, inr, List, [], ◌∷◌, length, map, slice_index_or, All, AllPairs, Contains, sym, ◌∙◌, ap, subst, arith}
+use Rattle.std.proofs.Common.{◌≡◌, ℕ, zero, suc, ◌<◌, ◌≤◌, ◌⊎◌, inl, inr, List, [], ◌∷◌, length, map, slice_index_or, All, AllPairs, Contains, sym}
+use Rattle.std.proofs.Common.{◌∙◌, ap, subst, arith}
 use Rattle.std.specs.Prelude.{Any}
 use Rattle.std.proofs.lemmas.List.{get_or_default}
 use Rattle.std.proofs.lemmas.List.Elements.{All-nil, All-head, All-tail, All-contains}
@@ -35,7 +36,8 @@ not_below : (y z : Sky) → StandsBelow y z → y.target.0 ≡ z.target.0 → y.
 not_below y z (inl h) target site = omega arith
 not_below y z (inr (e, h)) target site = omega arith
 
-pair_at : (R : Sky → Sky → Type 0) (xs : List Sky) (i j : ℕ) (y z : Sky) → AllPairs R xs → i < j → j < length xs → slice_index_or xs i y ≡ y → slice_index_or xs j z ≡ z → R y z
+pair_at : (R : Sky → Sky → Type 0) (xs : List Sky) (i j : ℕ) (y z : Sky) → AllPairs R xs → i < j → j < length xs → slice_index_or xs i y ≡ y
+    → slice_index_or xs j z ≡ z → R y z
 pair_at R xs i j y z pairs below l e d =
     let pair : R (slice_index_or xs i y) (slice_index_or xs j y) = pairs i j y below l in
     subst (R y) (get_or_default xs j y z l ∙ d) (subst (λ (x : Sky). R x (slice_index_or xs j y)) e pair)
@@ -48,7 +50,8 @@ one_sky s y z o (i, l, e) (j, m, d) target site = elim (below_same_above i j) [
   | inr at ↦ sym e ∙ ap (λ (k : ℕ). slice_index_or s.skies k y) at ∙ get_or_default s.skies j y z m ∙ d
 ]
 
-pub visible_through : (s : Parts) (target site a b : ℕ) → IsOrderly s → a < b → ((x : ℕ) → a ≤ x → x < b → IsVisible s target site x) → IsVisibleThrough s target site a b
+pub visible_through : (s : Parts) (target site a b : ℕ) → IsOrderly s → a < b → ((x : ℕ) → a ≤ x → x < b → IsVisible s target site x)
+    → IsVisibleThrough s target site a b
 visible_through s target site a b o h each =
     let first = each a (omega arith) h in
     let sky : Sky = first.1 in
@@ -70,7 +73,8 @@ by_spans_from_possible s p o h =
       begins = h.begins;
       ends = h.ends;
       window = h.window;
-      usable = all_from_each (usable_of s p.telescope.0) (start_second s p) (end_second s p) (usable_apart s p.telescope.0 o) some (λ x from to. h.usable x (from, to));
+      usable = all_from_each (usable_of s p.telescope.0) (start_second s p) (end_second s p) (usable_apart s p.telescope.0 o) some
+          (λ x from to. h.usable x (from, to));
       visible = λ i d l. visible_through s _ (site_of s p.telescope.0) (start_second s p) (end_second s p) o some (λ x from to. h.visible i d l x (from, to));
     }
 

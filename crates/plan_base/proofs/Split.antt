@@ -1,5 +1,6 @@
 -- A sum over a list is split by classes, of which each element has one.
-use Rattle.std.proofs.Common.{◌≡◌, ◌≢◌, ℕ, suc, ◌+◌, ◌≤◌, ◌<◌, ◌⊎◌, inl, inr, Bool, true, false, cond, not, ◌==◌, ℤ, pos, ◌+ℤ◌, ◌≤ℤ◌, List, [], ◌∷◌, ◌*◌, length, slice_index_or, filter, All, refl, sym, subst, arith}
+use Rattle.std.proofs.Common.{◌≡◌, ◌≢◌, ℕ, suc, ◌+◌, ◌≤◌, ◌<◌, ◌⊎◌, inl, inr, Bool, true, false, cond, not, ◌==◌, ℤ, pos, ◌+ℤ◌, ◌≤ℤ◌, List, [], ◌∷◌}
+use Rattle.std.proofs.Common.{◌*◌, length, slice_index_or, filter, All, refl, sym, subst, arith}
 use Rattle.std.proofs.lemmas.Int.{ints}
 use Rattle.std.proofs.lemmas.List.Elements.{All-filter, All-from_get_or, filter_passes}
 use Rattle.std.proofs.lemmas.Bool.Decides.{nat_tests}
@@ -42,7 +43,9 @@ split_from {X} f class k (b ∷ bs) xs a h =
       | inl e ↦ inl e
       | inr r ↦ let ne : class (slice_index_or others i d) ≢ k = not_same _ k (passed i d l) in inr (omega arith, omega arith)
     ])
-    (λ i j e l. subst (λ (ys : List X). total f ys ≤ℤ slice_index_or bs i (pos 0)) (sym (filter_within (λ x. not (class x == k)) (λ x. class x == j) xs (λ x g. later_is_not (class x) j k (omega arith) g))) (h (suc i) j (omega arith) (omega arith))) in
+    (λ i j e l. subst (λ (ys : List X). total f ys ≤ℤ slice_index_or bs i (pos 0))
+    (sym (filter_within (λ x. not (class x == k)) (λ x. class x == j) xs (λ x g. later_is_not (class x) j k (omega arith) g)))
+    (h (suc i) j (omega arith) (omega arith))) in
     omega (arith, ints)
 
 -- where the elements of each class i sum up to no more than part i, all sum up to no more than the parts
@@ -58,7 +61,8 @@ split {X} f class xs n P b s a h =
     (λ i j e l.
     let same : i ≡ j = omega arith in
     let below : i < n = omega arith in
-    subst (λ (k : ℕ). total f (filter (λ x. class x == k) xs) ≤ℤ slice_index_or s.parts i (pos 0)) same (h i (slice_index_or s.parts i (pos 0)) below (s.each i below))) in
+    subst (λ (k : ℕ). total f (filter (λ x. class x == k) xs) ≤ℤ slice_index_or s.parts i (pos 0)) same
+    (h i (slice_index_or s.parts i (pos 0)) below (s.each i below))) in
     subst (λ (c : ℤ). total f xs ≤ℤ c) s.sum all
 
 gather_from : {X : Type 0} (f : X → ℤ) (class : X → ℕ) (k : ℕ) (bs : List ℤ) (xs : List X)
@@ -72,7 +76,9 @@ gather_from {X} f class k (b ∷ bs) xs a h =
     let here : b ≤ℤ total f (filter (λ x. class x == k) xs) = h 0 k (omega arith) (omega arith) in
     let rest : total (λ c. c) bs ≤ℤ total f others = gather_from f class (suc k) bs others
     (All-filter (λ x. not (class x == k)) (λ x. pos 0 ≤ℤ f x) xs a)
-    (λ i j e l. subst (λ (ys : List X). slice_index_or bs i (pos 0) ≤ℤ total f ys) (sym (filter_within (λ x. not (class x == k)) (λ x. class x == j) xs (λ x g. later_is_not (class x) j k (omega arith) g))) (h (suc i) j (omega arith) (omega arith))) in
+    (λ i j e l. subst (λ (ys : List X). slice_index_or bs i (pos 0) ≤ℤ total f ys)
+    (sym (filter_within (λ x. not (class x == k)) (λ x. class x == j) xs (λ x g. later_is_not (class x) j k (omega arith) g)))
+    (h (suc i) j (omega arith) (omega arith))) in
     omega (arith, ints)
 
 -- where no part i is more than what the elements of class i sum up to, and no number is negative, the parts sum up to no more than all
@@ -87,7 +93,8 @@ gather {X} f class xs n P b s a h =
     (λ i j e l.
     let same : i ≡ j = omega arith in
     let below : i < n = omega arith in
-    subst (λ (k : ℕ). slice_index_or s.parts i (pos 0) ≤ℤ total f (filter (λ x. class x == k) xs)) same (h i (slice_index_or s.parts i (pos 0)) below (s.each i below))) in
+    subst (λ (k : ℕ). slice_index_or s.parts i (pos 0) ≤ℤ total f (filter (λ x. class x == k) xs)) same
+    (h i (slice_index_or s.parts i (pos 0)) below (s.each i below))) in
     subst (λ (c : ℤ). c ≤ℤ total f xs) s.sum all
 
 -- what holds of part i holds of the i-th of the numbers
@@ -104,5 +111,8 @@ pub sum_between : (n m : ℕ) (P : ℕ → ℤ → Type 0) (b : ℤ)
     → ((i : ℕ) (y : ℤ) → i < n → P i y → (pos 0 ≤ℤ y) × (y ≤ℤ pos m))
     → (pos 0 ≤ℤ b) × (b ≤ℤ pos (n * m))
 sum_between n m P b s h =
-    let most : total (λ y. y) s.parts ≤ℤ pos (length s.parts * m) = total_at_most (λ y. y) m s.parts (part_has n P b (λ y. y ≤ℤ pos m) s (λ i y l p. (h i y l p).1)) in
-    (sum_not_negative n P b s (λ i y l p. (h i y l p).0), subst (λ (k : ℕ). b ≤ℤ pos (k * m)) s.count (subst (λ (c : ℤ). c ≤ℤ pos (length s.parts * m)) s.sum most))
+    let most : total (λ y. y) s.parts ≤ℤ pos (length s.parts * m) =
+    total_at_most (λ y. y) m s.parts (part_has n P b (λ y. y ≤ℤ pos m) s (λ i y l p. (h i y l p).1)) in (
+      sum_not_negative n P b s (λ i y l p. (h i y l p).0),
+      subst (λ (k : ℕ). b ≤ℤ pos (k * m)) s.count (subst (λ (c : ℤ). c ≤ℤ pos (length s.parts * m)) s.sum most),
+    )

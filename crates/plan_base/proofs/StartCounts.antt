@@ -16,10 +16,14 @@ abbrev alike : Placement → Placement → Bool
 alike p q = (p.request.0 == q.request.0) && ((p.telescope.0 == q.telescope.0) && (p.slice.0 == q.slice.0))
 
 alike_equiv : IsEquivalence alike
-alike_equiv = and_equiv (on_equiv (λ p. p.request.0) nat_eq_equiv) (and_equiv (on_equiv (λ p. p.telescope.0) nat_eq_equiv) (on_equiv (λ p. p.slice.0) nat_eq_equiv))
+alike_equiv = and_equiv (on_equiv (λ p. p.request.0) nat_eq_equiv)
+    (and_equiv (on_equiv (λ p. p.telescope.0) nat_eq_equiv) (on_equiv (λ p. p.slice.0) nat_eq_equiv))
 
 both_true : (a b : Bool) → (a && b) ≡ true → (a ≡ true) × (b ≡ true)
-both_true a b h = (elim a as (λ v. (v && b) ≡ true → v ≡ true) [ true ↦ λ g. refl | false ↦ λ g. g ] h, elim a as (λ v. (v && b) ≡ true → b ≡ true) [ true ↦ λ g. g | false ↦ λ g. cc ] h)
+both_true a b h = (
+  elim a as (λ v. (v && b) ≡ true → v ≡ true) [ true ↦ λ g. refl | false ↦ λ g. g ] h,
+  elim a as (λ v. (v && b) ≡ true → b ≡ true) [ true ↦ λ g. g | false ↦ λ g. cc ] h,
+)
 
 same_test : (n : ℕ) → (n == n) ≡ true
 same_test n = (Decides-eqb n n).1 refl

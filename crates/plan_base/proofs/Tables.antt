@@ -1,5 +1,6 @@
 -- A table of numbers, one a slice, that meets the recursion of the best has the bests.
-use Rattle.std.proofs.Common.{◌≡◌, ◌≢◌, ℕ, zero, suc, ◌+◌, ◌<◌, ◌≤◌, ◌⊎◌, inl, inr, Bool, true, not, ◌==◌, ℤ, pos, ◌+ℤ◌, ◌≤ℤ◌, List, [], ◌∷◌, slice_index_or, filter, All, AllPairs, Contains, refl, sym, ◌∙◌, ap, subst, arith}
+use Rattle.std.proofs.Common.{◌≡◌, ◌≢◌, ℕ, zero, suc, ◌+◌, ◌<◌, ◌≤◌, ◌⊎◌, inl, inr, Bool, true, not, ◌==◌, ℤ, pos, ◌+ℤ◌, ◌≤ℤ◌, List, [], ◌∷◌}
+use Rattle.std.proofs.Common.{slice_index_or, filter, All, AllPairs, Contains, refl, sym, ◌∙◌, ap, subst, arith}
 use Rattle.std.proofs.lemmas.Int.{ints}
 use Rattle.std.proofs.lemmas.List.{get_or_default}
 use Rattle.std.proofs.lemmas.List.Elements.{All-nil, All-head, All-cons, All-filter, All-contains, All-weaker, All-contains_itself, filter_passes}
@@ -29,11 +30,17 @@ pub share_symmetric : (s : Parts) (p q : Placement) → ShareSlice s p q → Sha
 share_symmetric s p q (e, k, a, b) = (sym e, k, b, a)
 
 -- of two starts of one list at different slices neither occupies a slice of the other
-pub apart_in : (s : Parts) (starts : List Placement) (p q : Placement) → AllPairs (λ a b. ¬ (ShareSlice s a b)) starts → Contains starts p → Contains starts q → p.slice.0 ≢ q.slice.0 → ¬ (ShareSlice s p q)
+pub apart_in : (s : Parts) (starts : List Placement) (p q : Placement) → AllPairs (λ a b. ¬ (ShareSlice s a b)) starts → Contains starts p
+    → Contains starts q → p.slice.0 ≢ q.slice.0 → ¬ (ShareSlice s p q)
 apart_in s starts p q disjoint (i, l, e) (j, m, d) differ share = elim (below_same_above i j) [
-  | inl (inl below) ↦ disjoint i j p below m (subst (λ (x : Placement). ShareSlice s x (slice_index_or starts j p)) (sym e) (subst (ShareSlice s p) (sym (get_or_default starts j p q m ∙ d)) share))
-  | inl (inr above) ↦ disjoint j i p above l (subst (λ (x : Placement). ShareSlice s x (slice_index_or starts i p)) (sym (get_or_default starts j p q m ∙ d)) (subst (ShareSlice s q) (sym e) (share_symmetric s p q share)))
-  | inr at ↦ let same : p ≡ q = sym e ∙ ap (λ (k : ℕ). slice_index_or starts k p) at ∙ get_or_default starts j p q m ∙ d in differ (ap (λ (x : Placement). x.slice.0) same)
+  | inl (inl below) ↦ disjoint i j p below m
+      (subst (λ (x : Placement). ShareSlice s x (slice_index_or starts j p)) (sym e)
+      (subst (ShareSlice s p) (sym (get_or_default starts j p q m ∙ d)) share))
+  | inl (inr above) ↦ disjoint j i p above l
+      (subst (λ (x : Placement). ShareSlice s x (slice_index_or starts i p)) (sym (get_or_default starts j p q m ∙ d))
+      (subst (ShareSlice s q) (sym e) (share_symmetric s p q share)))
+  | inr at ↦ let same : p ≡ q = sym e ∙ ap (λ (k : ℕ). slice_index_or starts k p) at ∙ get_or_default starts j p q m ∙ d in
+      differ (ap (λ (x : Placement). x.slice.0) same)
 ]
   where
     below_same_above : (a b : ℕ) → ((a < b) ⊎ (b < a)) ⊎ (a ≡ b)
@@ -46,21 +53,30 @@ module _ (s : Parts) (prices : List ℤ) (t : ℕ) (orderly : IsOrderly s) where
   -- a start of a start list
   start_in : (k : ℕ) (starts : List Placement) (p : Placement) → IsStartList s t k starts → Contains starts p → IsStartOn s t p × (k ≤ p.slice.0)
   start_in k starts p list has = (
-    record { possible = All-contains (IsPossibleStart s) starts p list.possible has; same_telescope = All-contains (λ q. q.telescope.0 ≡ t) starts p list.same_telescope has },
+    record {
+      possible = All-contains (IsPossibleStart s) starts p list.possible has;
+      same_telescope = All-contains (λ q. q.telescope.0 ≡ t) starts p list.same_telescope has;
+    },
     All-contains (λ q. k ≤ q.slice.0) starts p list.later has,
   )
 
   -- a start at slice j or later, which shares no slice with one that begins at k before it, begins after it
   begins_after : (p q : Placement) → IsStartOn s t p → IsStartOn s t q → p.slice.0 ≤ q.slice.0 → ¬ (ShareSlice s p q) → slice_after s p ≤ q.slice.0
   begins_after p q hp hq later apart = elim (below_or_not q.slice.0 (slice_after s p)) [
-    | inl below ↦ absurd (apart (same_number p q (hp.same_telescope ∙ sym hq.same_telescope), q.slice.0, (later, below), (omega arith, omega (arith, start_size q hq.possible))))
+    | inl below ↦ absurd (apart (
+      same_number p q (hp.same_telescope ∙ sym hq.same_telescope),
+      q.slice.0,
+      (later, below),
+      (omega arith, omega (arith, start_size q hq.possible)),
+    ))
     | inr not_below ↦ not_below
   ]
     where
       below_or_not : (a b : ℕ) → (a < b) ⊎ (b ≤ a)
       below_or_not a b = grind arith
 
-  filtered_list : (k j : ℕ) (test : Placement → Bool) (starts : List Placement) → IsStartList s t k starts → All (λ p. j ≤ p.slice.0) (filter test starts) → IsStartList s t j (filter test starts)
+  filtered_list : (k j : ℕ) (test : Placement → Bool) (starts : List Placement) → IsStartList s t k starts
+      → All (λ p. j ≤ p.slice.0) (filter test starts) → IsStartList s t j (filter test starts)
   filtered_list k j test starts list later = record {
     possible = All-filter test (IsPossibleStart s) starts list.possible;
     same_telescope = All-filter test (λ p. p.telescope.0 ≡ t) starts list.same_telescope;
@@ -73,8 +89,10 @@ module _ (s : Parts) (prices : List ℤ) (t : ℕ) (orderly : IsOrderly s) where
   longer_list p starts hp list = record {
     possible = All-cons (IsPossibleStart s) p starts hp.possible list.possible;
     same_telescope = All-cons (λ q. q.telescope.0 ≡ t) p starts hp.same_telescope list.same_telescope;
-    later = All-cons (λ q. p.slice.0 ≤ q.slice.0) p starts (omega arith) (All-weaker (λ q. slice_after s p ≤ q.slice.0) (λ q. p.slice.0 ≤ q.slice.0) (λ q h. omega arith) starts list.later);
-    disjoint = AllPairs-cons (λ a b. ¬ (ShareSlice s a b)) p starts (All-weaker (λ q. slice_after s p ≤ q.slice.0) (λ q. ¬ (ShareSlice s p q)) (λ q h share. not_both q h share) starts list.later) list.disjoint;
+    later = All-cons (λ q. p.slice.0 ≤ q.slice.0) p starts (omega arith)
+        (All-weaker (λ q. slice_after s p ≤ q.slice.0) (λ q. p.slice.0 ≤ q.slice.0) (λ q h. omega arith) starts list.later);
+    disjoint = AllPairs-cons (λ a b. ¬ (ShareSlice s a b)) p starts
+        (All-weaker (λ q. slice_after s p ≤ q.slice.0) (λ q. ¬ (ShareSlice s p q)) (λ q h share. not_both q h share) starts list.later) list.disjoint;
   }
     where
       not_both : (q : Placement) → slice_after s p ≤ q.slice.0 → ShareSlice s p q → ⊥
@@ -123,7 +141,8 @@ module _ (s : Parts) (prices : List ℤ) (t : ℕ) (orderly : IsOrderly s) where
     reaches (suc n) k from to near = elim (end_or_below k to) [
       | inl e ↦ reaches_end k e
       | inr below ↦ elim (is_table.reached k from below) [
-        | inl same ↦ let rest = reaches n (suc k) (omega arith) (omega arith) (omega arith) in (rest.0, earlier_list k (suc k) rest.0 (omega arith) rest.1, rest.2 ∙ sym same)
+        | inl same ↦ let rest = reaches n (suc k) (omega arith) (omega arith) (omega arith) in
+            (rest.0, earlier_list k (suc k) rest.0 (omega arith) rest.1, rest.2 ∙ sym same)
         | inr (p, hp, at, e) ↦
             let within = after_within p hp in
             let rest = reaches n (slice_after s p) within.2 within.0 (omega (arith, within.1)) in
@@ -138,22 +157,29 @@ module _ (s : Parts) (prices : List ℤ) (t : ℕ) (orderly : IsOrderly s) where
     none_at_end : (k : ℕ) (starts : List Placement) → k ≡ horizon_end s → IsStartList s t k starts → surplus s prices starts ≤ℤ table k
     none_at_end k [] e list = let none : table k ≡ pos 0 = ap table e ∙ is_table.at_end in omega (arith, ints)
     none_at_end k (p ∷ starts) e list =
-        let first : IsStartOn s t p = record { possible = All-head (IsPossibleStart s) p starts list.possible; same_telescope = All-head (λ q. q.telescope.0 ≡ t) p starts list.same_telescope } in
+        let first : IsStartOn s t p = record {
+          possible = All-head (IsPossibleStart s) p starts list.possible;
+          same_telescope = All-head (λ q. q.telescope.0 ≡ t) p starts list.same_telescope;
+        } in
         let within = after_within p first in
         let later : k ≤ p.slice.0 = All-head (λ q. k ≤ q.slice.0) p starts list.later in
         absurd (omega (arith, within.0, within.1))
 
     -- with what begins at slice k apart from the rest
-    by_first : (k : ℕ) (starts here : List Placement) → s.first.0 ≤ k → k < horizon_end s → IsStartList s t k starts → here ≡ filter (λ p. p.slice.0 == k) starts
+    by_first : (k : ℕ) (starts here : List Placement) → s.first.0 ≤ k → k < horizon_end s → IsStartList s t k starts
+        → here ≡ filter (λ p. p.slice.0 == k) starts
         → ((j : ℕ) → k < j → j ≤ horizon_end s → IsAbove j) → surplus s prices starts ≤ℤ table k
     by_first k starts [] from below list e rest =
         let others : List Placement = filter (λ p. not (p.slice.0 == k)) starts in
-        let split : surplus s prices starts ≡ surplus s prices [] +ℤ surplus s prices others = subst (λ (xs : List Placement). surplus s prices starts ≡ surplus s prices xs +ℤ surplus s prices others) (sym e) (total_split (weight s prices) (λ p. p.slice.0 == k) starts) in
+        let split : surplus s prices starts ≡ surplus s prices [] +ℤ surplus s prices others =
+        subst (λ (xs : List Placement). surplus s prices starts ≡ surplus s prices xs +ℤ surplus s prices others) (sym e)
+        (total_split (weight s prices) (λ p. p.slice.0 == k) starts) in
         let later : All (λ p. suc k ≤ p.slice.0) others = λ i d l.
         let kept : k ≤ (slice_index_or others i d).slice.0 = All-filter (λ p. not (p.slice.0 == k)) (λ p. k ≤ p.slice.0) starts list.later i d l in
         let differs : (slice_index_or others i d).slice.0 ≢ k = differ_from_test _ k (filter_passes (λ p. not (p.slice.0 == k)) starts i d l) in
         above_not_same k _ kept differs in
-        let most : surplus s prices others ≤ℤ table (suc k) = rest (suc k) (omega arith) (omega arith) others (filtered_list k (suc k) (λ p. not (p.slice.0 == k)) starts list later) in
+        let most : surplus s prices others ≤ℤ table (suc k) =
+        rest (suc k) (omega arith) (omega arith) others (filtered_list k (suc k) (λ p. not (p.slice.0 == k)) starts list later) in
         let falls : table (suc k) ≤ℤ table k = is_table.falling k from below in
         omega (arith, ints)
       where
@@ -161,26 +187,40 @@ module _ (s : Parts) (prices : List ℤ) (t : ℕ) (orderly : IsOrderly s) where
         above_not_same a b h n = grind arith
     by_first k starts (p ∷ []) from below list e rest =
         let others : List Placement = filter (λ q. not (q.slice.0 == k)) starts in
-        let split : surplus s prices starts ≡ surplus s prices (p ∷ []) +ℤ surplus s prices others = subst (λ (xs : List Placement). surplus s prices starts ≡ surplus s prices xs +ℤ surplus s prices others) (sym e) (total_split (weight s prices) (λ q. q.slice.0 == k) starts) in
-        let all_here : All (λ q. q.slice.0 ≡ k) (p ∷ []) = subst (All (λ q. q.slice.0 ≡ k)) (sym e) (λ i d l. equal_from_test _ k (filter_passes (λ q. q.slice.0 == k) starts i d l)) in
-        let all_in : All (Contains starts) (p ∷ []) = subst (All (Contains starts)) (sym e) (All-filter (λ q. q.slice.0 == k) (Contains starts) starts (All-contains_itself starts)) in
+        let split : surplus s prices starts ≡ surplus s prices (p ∷ []) +ℤ surplus s prices others =
+        subst (λ (xs : List Placement). surplus s prices starts ≡ surplus s prices xs +ℤ surplus s prices others) (sym e)
+        (total_split (weight s prices) (λ q. q.slice.0 == k) starts) in
+        let all_here : All (λ q. q.slice.0 ≡ k) (p ∷ []) =
+        subst (All (λ q. q.slice.0 ≡ k)) (sym e) (λ i d l. equal_from_test _ k (filter_passes (λ q. q.slice.0 == k) starts i d l)) in
+        let all_in : All (Contains starts) (p ∷ []) =
+        subst (All (Contains starts)) (sym e) (All-filter (λ q. q.slice.0 == k) (Contains starts) starts (All-contains_itself starts)) in
         let at : p.slice.0 ≡ k = All-head (λ q. q.slice.0 ≡ k) p [] all_here in
         let in_list : Contains starts p = All-head (Contains starts) p [] all_in in
         let hp : IsStartOn s t p = (start_in k starts p list in_list).0 in
         let within = after_within p hp in
         let later : All (λ q. slice_after s p ≤ q.slice.0) others = λ i d l.
-        let kept : Contains starts (slice_index_or others i d) = All-filter (λ q. not (q.slice.0 == k)) (Contains starts) starts (All-contains_itself starts) i d l in
+        let kept : Contains starts (slice_index_or others i d) =
+        All-filter (λ q. not (q.slice.0 == k)) (Contains starts) starts (All-contains_itself starts) i d l in
         let differs : (slice_index_or others i d).slice.0 ≢ k = differ_from_test _ k (filter_passes (λ q. not (q.slice.0 == k)) starts i d l) in
         let hq = start_in k starts _ list kept in
-        begins_after p _ hp hq.0 (subst (λ (j : ℕ). j ≤ (slice_index_or others i d).slice.0) (sym at) hq.1) (apart_in s starts p _ list.disjoint in_list kept (λ same. differs (sym same ∙ at))) in
-        let most : surplus s prices others ≤ℤ table (slice_after s p) = rest (slice_after s p) (omega (arith, at, within.1)) within.0 others (filtered_list k (slice_after s p) (λ q. not (q.slice.0 == k)) starts list later) in
-        let here : (weight s prices p +ℤ table (slice_after s p)) ≤ℤ table k = subst (λ (j : ℕ). (weight s prices p +ℤ table (slice_after s p)) ≤ℤ table j) at (is_table.above p hp) in
+        begins_after p _ hp hq.0 (subst (λ (j : ℕ). j ≤ (slice_index_or others i d).slice.0) (sym at) hq.1)
+        (apart_in s starts p _ list.disjoint in_list kept (λ same. differs (sym same ∙ at))) in
+        let most : surplus s prices others ≤ℤ table (slice_after s p) =
+        rest (slice_after s p) (omega (arith, at, within.1)) within.0 others
+        (filtered_list k (slice_after s p) (λ q. not (q.slice.0 == k)) starts list later) in
+        let here : (weight s prices p +ℤ table (slice_after s p)) ≤ℤ table k =
+        subst (λ (j : ℕ). (weight s prices p +ℤ table (slice_after s p)) ≤ℤ table j) at (is_table.above p hp) in
         omega (arith, ints)
     by_first k starts (p ∷ q ∷ more) from below list e rest =
-        let all_here : All (λ x. x.slice.0 ≡ k) (p ∷ q ∷ more) = subst (All (λ x. x.slice.0 ≡ k)) (sym e) (λ i d l. equal_from_test _ k (filter_passes (λ x. x.slice.0 == k) starts i d l)) in
-        let all_on : All (λ x. x.telescope.0 ≡ t) (p ∷ q ∷ more) = subst (All (λ x. x.telescope.0 ≡ t)) (sym e) (All-filter (λ x. x.slice.0 == k) (λ x. x.telescope.0 ≡ t) starts list.same_telescope) in
-        let all_possible : All (IsPossibleStart s) (p ∷ q ∷ more) = subst (All (IsPossibleStart s)) (sym e) (All-filter (λ x. x.slice.0 == k) (IsPossibleStart s) starts list.possible) in
-        let apart : AllPairs (λ a b. ¬ (ShareSlice s a b)) (p ∷ q ∷ more) = subst (AllPairs (λ a b. ¬ (ShareSlice s a b))) (sym e) (AllPairs-filter (λ a b. ¬ (ShareSlice s a b)) (λ x. x.slice.0 == k) starts list.disjoint) in
+        let all_here : All (λ x. x.slice.0 ≡ k) (p ∷ q ∷ more) =
+        subst (All (λ x. x.slice.0 ≡ k)) (sym e) (λ i d l. equal_from_test _ k (filter_passes (λ x. x.slice.0 == k) starts i d l)) in
+        let all_on : All (λ x. x.telescope.0 ≡ t) (p ∷ q ∷ more) =
+        subst (All (λ x. x.telescope.0 ≡ t)) (sym e) (All-filter (λ x. x.slice.0 == k) (λ x. x.telescope.0 ≡ t) starts list.same_telescope) in
+        let all_possible : All (IsPossibleStart s) (p ∷ q ∷ more) =
+        subst (All (IsPossibleStart s)) (sym e) (All-filter (λ x. x.slice.0 == k) (IsPossibleStart s) starts list.possible) in
+        let apart : AllPairs (λ a b. ¬ (ShareSlice s a b)) (p ∷ q ∷ more) =
+        subst (AllPairs (λ a b. ¬ (ShareSlice s a b))) (sym e)
+        (AllPairs-filter (λ a b. ¬ (ShareSlice s a b)) (λ x. x.slice.0 == k) starts list.disjoint) in
         let p_at : p.slice.0 ≡ k = all_here 0 p (omega arith) in
         let q_at : q.slice.0 ≡ k = all_here 1 p (omega arith) in
         let p_size : 1 ≤ size_of s p.request.0 = start_size p (all_possible 0 p (omega arith)) in
@@ -192,7 +232,8 @@ module _ (s : Parts) (prices : List ℤ) (t : ℕ) (orderly : IsOrderly s) where
     is_above zero k from to near starts list = none_at_end k starts (omega arith) list
     is_above (suc n) k from to near starts list = elim (end_or_below k to) [
       | inl e ↦ none_at_end k starts e list
-      | inr below ↦ by_first k starts (filter (λ p. p.slice.0 == k) starts) from below list refl (λ j later within. is_above n j (omega arith) within (omega arith))
+      | inr below ↦ by_first k starts (filter (λ p. p.slice.0 == k) starts) from below list refl
+          (λ j later within. is_above n j (omega arith) within (omega arith))
     ]
 
     -- the table has the bests
@@ -201,10 +242,12 @@ module _ (s : Parts) (prices : List ℤ) (t : ℕ) (orderly : IsOrderly s) where
 
     -- a slice is idle exactly where the table doesn't change
     pub idle_from_table : (k : ℕ) → s.first.0 ≤ k → k < horizon_end s → table k ≡ table (suc k) → IsIdle s prices t k
-    idle_from_table k from below e = (table k, table_best k from (omega arith), subst (IsBest s prices t (suc k)) (sym e) (table_best (suc k) (omega arith) (omega arith)))
+    idle_from_table k from below e =
+        (table k, table_best k from (omega arith), subst (IsBest s prices t (suc k)) (sym e) (table_best (suc k) (omega arith) (omega arith)))
 
     pub table_from_idle : (k : ℕ) → s.first.0 ≤ k → k < horizon_end s → IsIdle s prices t k → table k ≡ table (suc k)
-    table_from_idle k from below (b, here, next) = one_best s prices t k (table k) b (table_best k from (omega arith)) here ∙ one_best s prices t (suc k) b (table (suc k)) next (table_best (suc k) (omega arith) (omega arith))
+    table_from_idle k from below (b, here, next) = one_best s prices t k (table k) b (table_best k from (omega arith)) here
+        ∙ one_best s prices t (suc k) b (table (suc k)) next (table_best (suc k) (omega arith) (omega arith))
 
     -- a start is tight exactly where its weight and the table after it are the table at its slice
     pub tight_from_table : (p : Placement) → IsStartOn s t p → table p.slice.0 ≡ weight s prices p +ℤ table (slice_after s p) → IsTight s prices t p
@@ -218,5 +261,7 @@ module _ (s : Parts) (prices : List ℤ) (t : ℕ) (orderly : IsOrderly s) where
     pub table_from_tight : (p : Placement) → IsStartOn s t p → IsTight s prices t p → table p.slice.0 ≡ weight s prices p +ℤ table (slice_after s p)
     table_from_tight p h (after, next, here) =
         let within = after_within p h in
-        one_best s prices t p.slice.0 (table p.slice.0) (weight s prices p +ℤ after) (table_best p.slice.0 h.possible.begins (omega (arith, within.0, within.1))) here
-        ∙ ap (λ (b : ℤ). weight s prices p +ℤ b) (one_best s prices t (slice_after s p) after (table (slice_after s p)) next (table_best (slice_after s p) within.2 within.0))
+        one_best s prices t p.slice.0 (table p.slice.0) (weight s prices p +ℤ after)
+        (table_best p.slice.0 h.possible.begins (omega (arith, within.0, within.1))) here
+        ∙ ap (λ (b : ℤ). weight s prices p +ℤ b)
+        (one_best s prices t (slice_after s p) after (table (slice_after s p)) next (table_best (slice_after s p) within.2 within.0))

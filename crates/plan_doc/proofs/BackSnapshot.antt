@@ -21,7 +21,8 @@ use Rattle.plan_json.specs.Whole.{number_in}
 use Rattle.plan_json.specs.Values.{whole, list_of, given, given_if, in_byte_order, those_there}
 use Rattle.plan_json.proofs.Back.{number_back}
 use Rattle.plan_doc.specs.Snapshot.{most_items, span_in, telescope_number_in, target_number_in, telescope_in, sky_in, request_in, group_in, parts_of}
-use Rattle.plan_doc.specs.Written.{span_data, telescope_number_data, target_number_data, telescope_data, sky_data, request_data, group_data, snapshot_members, snapshot_data, snapshot_of_bytes, claim_data, claim_of_bytes}
+use Rattle.plan_doc.specs.Written.{span_data, telescope_number_data, target_number_data, telescope_data, sky_data, request_data, group_data}
+use Rattle.plan_doc.specs.Written.{snapshot_members, snapshot_data, snapshot_of_bytes, claim_data, claim_of_bytes}
 use Rattle.plan_doc.specs.Ranges.{IsClaim, HasMoments, IsTelescope, IsSky, IsRequest, IsGroup, AreParts}
 use Rattle.plan_doc.specs.Laws.{SnapshotsAreReadBack, PublicationsAreReadBack}
 use Rattle.plan_base.specs.Snapshot.{IsSnapshot}
@@ -51,7 +52,8 @@ telescope_back m t h =
 
 sky_back : (m : Member) (y : Sky) → IsSky y → sky_in m (sky_data y) ≡ Ok y
 sky_back m y h =
-    let ms = those_there (in_byte_order (given key.Target (whole y.target.0) ∷ given key.Site (whole y.site.0) ∷ given key.Spans (list_of span_data y.spans) ∷ [])) in
+    let ms = those_there (in_byte_order
+    (given key.Target (whole y.target.0) ∷ given key.Site (whole y.site.0) ∷ given key.Spans (list_of span_data y.spans) ∷ [])) in
     rw (
       number_back 0 65535 key.Target y.target.0 (up_to 65535 y.target.0 h.target),
       number_back 0 65535 key.Site y.site.0 (up_to 65535 y.site.0 h.site),
@@ -99,9 +101,11 @@ request_back m q h =
       number_back 1 most_seconds key.Seconds q.seconds h.seconds,
       found.value,
       number_back 1 most_value key.Value q.value h.value,
-      list_of_back (λ (t : TelescopeNo). t.0 ≤ 65535) telescope_number_data telescope_number_in telescope_number_back 0 most_items ms key.Telescopes q.telescopes found.telescopes
+      list_of_back (λ (t : TelescopeNo). t.0 ≤ 65535) telescope_number_data telescope_number_in telescope_number_back 0 most_items ms key.Telescopes
+          q.telescopes found.telescopes
           (omega arith) h.telescopes,
-      list_of_back (λ (t : TargetNo). t.0 ≤ 65535) target_number_data target_number_in target_number_back 0 most_items ms key.Targets q.targets found.targets (omega arith) h.targets,
+      list_of_back (λ (t : TargetNo). t.0 ≤ 65535) target_number_data target_number_in target_number_back 0 most_items ms key.Targets q.targets
+          found.targets (omega arith) h.targets,
       list_of_back HasMoments span_data span_in span_back 0 most_items ms key.Windows q.windows found.windows (omega arith) h.windows,
       fade_back ms q.fade above refl found.fade h.fade,
     ) refl
@@ -119,14 +123,18 @@ group_made n op qs quota = record { group = record { 0 = n }; op = op; requests 
 group_back_by : (m : Member) (n : ℕ) (op : Op) (qs : List RequestPart) (quota : Option ℕ) → IsGroup (group_made n op qs quota)
     → group_in m (group_data (group_made n op qs quota)) ≡ Ok (group_made n op qs quota)
 group_back_by m n op qs None h =
-    let ms = those_there (in_byte_order (given key.Group (whole n) ∷ given key.Operator (string (operator_name op)) ∷ given key.Requests (list_of request_data qs) ∷ given_if key.Quota None ∷ [])) in
+    let ms = those_there (in_byte_order
+    (given key.Group (whole n) ∷ given key.Operator (string (operator_name op)) ∷ given key.Requests (list_of request_data qs)
+    ∷ given_if key.Quota None ∷ [])) in
     rw (
       number_back 0 4294967295 key.Group n (up_to 4294967295 n h.group),
       operator_back key.Operator op,
       list_of_back IsRequest request_data request_in request_back 0 most_items ms key.Requests qs refl (omega arith) h.requests,
     ) refl
 group_back_by m n op qs (Some place) h =
-    let ms = those_there (in_byte_order (given key.Group (whole n) ∷ given key.Operator (string (operator_name op)) ∷ given key.Requests (list_of request_data qs) ∷ given_if key.Quota (Some (whole place)) ∷ [])) in
+    let ms = those_there (in_byte_order
+    (given key.Group (whole n) ∷ given key.Operator (string (operator_name op)) ∷ given key.Requests (list_of request_data qs)
+    ∷ given_if key.Quota (Some (whole place)) ∷ [])) in
     rw (
       number_back 0 4294967295 key.Group n (up_to 4294967295 n h.group),
       operator_back key.Operator op,
@@ -144,7 +152,8 @@ quota_back m q h = number_back 0 (10 ^ 12) m q (up_to (10 ^ 12) q h)
 abbrev with_quotas : Parts → List ℕ → Parts
 with_quotas s us = record s { quotas = us }
 
-parts_back_by : (s : Parts) (us : List ℕ) → AreParts (with_quotas s us) → parts_of (those_there (in_byte_order (snapshot_members (with_quotas s us)))) ≡ Ok (with_quotas s us)
+parts_back_by : (s : Parts) (us : List ℕ) → AreParts (with_quotas s us)
+    → parts_of (those_there (in_byte_order (snapshot_members (with_quotas s us)))) ≡ Ok (with_quotas s us)
 parts_back_by s [] h =
     let ms = those_there (in_byte_order (snapshot_members (with_quotas s []))) in
     rw (

@@ -1,5 +1,6 @@
 -- A claim that is certified lies in the ranges, and so its document is read, and judged with Yes.
-use Rattle.std.proofs.Common.{◌≡◌, ◌^◌, ℕ, suc, ◌+◌, ◌≤◌, ◌<◌, inl, inr, pos, ◌≤ℤ◌, ◌<ℤ◌, ℤ, List, [], ◌∷◌, length, map, All, Contains, None, refl, subst, arith}
+use Rattle.std.proofs.Common.{◌≡◌, ◌^◌, ℕ, suc, ◌+◌, ◌≤◌, ◌<◌, inl, inr, pos, ◌≤ℤ◌, ◌<ℤ◌, ℤ, List, [], ◌∷◌, length, map, All, Contains, None, refl}
+use Rattle.std.proofs.Common.{subst, arith}
 use Rattle.std.proofs.lemmas.Int.{ints}
 use Rattle.std.proofs.lemmas.List.Elements.{All-nil, All-head, All-tail, All-map, All-append, All-weaker}
 use Rattle.plan_base.specs.declared.claim.Placement.{Placement}
@@ -22,7 +23,8 @@ all_listed : (g : ℕ) (xs : List GroupPart) → All IsGroup xs → All (λ (x :
 all_listed g [] all = All-nil (λ (x : Listed). IsRequest x.request)
 all_listed g (x ∷ xs) all =
     All-append (λ (y : Listed). IsRequest y.request) (map (λ q. record { group = g; quota = x.quota; request = q }) x.requests) (listed_from (suc g) xs)
-    (All-map (λ (y : Listed). IsRequest y.request) (λ q. record { group = g; quota = x.quota; request = q }) x.requests (All-head IsGroup x xs all).requests.each)
+    (All-map (λ (y : Listed). IsRequest y.request) (λ q. record { group = g; quota = x.quota; request = q }) x.requests
+    (All-head IsGroup x xs all).requests.each)
     (all_listed (suc g) xs (All-tail IsGroup x xs all))
 
 element : {X : Type 0} (P : X → Type 0) (xs : List X) (x : X) → All P xs → Contains xs x → P x
@@ -31,7 +33,8 @@ element P xs x all h = subst P h.2 (all h.0 x h.1)
 placement_in_range : (s : Parts) → IsOrderly s → AreParts s → (p : Placement) → IsPossibleStart s p → IsPlacement p
 placement_in_range s o are p possible =
     let known = known_as s p.request.0 possible.known in
-    let asked : IsRequest known.0.request = element (λ (x : Listed). IsRequest x.request) (listed s) known.0 (all_listed 0 s.groups are.groups.each) known.1.in_list in
+    let asked : IsRequest known.0.request =
+    element (λ (x : Listed). IsRequest x.request) (listed s) known.0 (all_listed 0 s.groups are.groups.each) known.1.in_list in
     let number : known.0.request.request.0 ≡ p.request.0 = known.1.number in
     let request : known.0.request.request.0 ≤ 4294967295 = asked.request in
     let one : p.telescope.0 < length s.telescopes = telescope_known s p o possible in

@@ -27,7 +27,8 @@ use Rattle.plan_json.specs.Whole.{number_in}
 use Rattle.plan_json.proofs.Ranges.{Gives, any, weaker, either, after, made, number_between, number_member, number_member_or, list_member, each}
 use Rattle.plan_doc.specs.Elements.{item, each_of}
 use Rattle.plan_doc.specs.Claim.{placement_of, placement_in, price_in, quota_price_in, quota_prices_of, claim_of}
-use Rattle.plan_doc.specs.Snapshot.{most_items, span_of, span_in, telescope_number_in, target_number_in, telescope_of, telescope_in, sky_of, sky_in, request_of, request_in, group_of, group_in, quotas_of, parts_of}
+use Rattle.plan_doc.specs.Snapshot.{most_items, span_of, span_in, telescope_number_in, target_number_in, telescope_of, telescope_in, sky_of, sky_in}
+use Rattle.plan_doc.specs.Snapshot.{request_of, request_in, group_of, group_in, quotas_of, parts_of}
 use Rattle.plan_doc.specs.Ranges.{IsPlacement, IsPrice, AreUpTo, IsClaim, HasMoments, IsTelescope, IsSky, IsRequest, IsGroup, AreParts}
 use Rattle.plan_doc.specs.Laws.{ClaimsAreInRange, SnapshotsAreInRange}
 use Rattle.plan_doc.proofs.Numbers.{price_between}
@@ -122,7 +123,8 @@ request_there ms =
     after _ (number_member 0 4294967295 ms key.Request) (λ request is_request.
     after _ (number_member 1 most_seconds ms key.Seconds) (λ seconds is_seconds.
     after _ (number_member 1 most_value ms key.Value) (λ value is_value.
-    after _ (each_there (λ (t : TelescopeNo). t.0 ≤ 65535) telescope_number_in telescope_number_found 0 most_items ms key.Telescopes) (λ telescopes are_telescopes.
+    after _ (each_there (λ (t : TelescopeNo). t.0 ≤ 65535) telescope_number_in telescope_number_found 0 most_items ms key.Telescopes)
+    (λ telescopes are_telescopes.
     after _ (each_there (λ (t : TargetNo). t.0 ≤ 65535) target_number_in target_number_found 0 most_items ms key.Targets) (λ targets are_targets.
     after _ (each_there HasMoments span_in span_found 0 most_items ms key.Windows) (λ windows are_windows.
     after _ (number_member_or 0 1000 0 ms key.Fade (record { low = omega arith; high = omega arith })) (λ fade is_fade.
@@ -158,7 +160,8 @@ group_found : (m : Member) (d : Data) → Gives (group_in m d) IsGroup
 group_found m d = after group_of (any (object_in m d)) (λ ms _. group_there ms)
 
 pub groups_are_in_range : (least most : ℕ) (ms : Members) (xs : List GroupPart) → each_of group_in least most ms key.Groups ≡ Ok xs → AreUpTo most IsGroup xs
-groups_are_in_range least most ms xs read = subst (λ r. IfOk r (AreUpTo most IsGroup)) read (each_there IsGroup group_in group_found least most ms key.Groups).ok
+groups_are_in_range least most ms xs read =
+    subst (λ r. IfOk r (AreUpTo most IsGroup)) read (each_there IsGroup group_in group_found least most ms key.Groups).ok
 
 quota_found : (m : Member) (d : Data) → Gives (number_in 0 (10 ^ 12) m d) (λ q. q ≤ 10 ^ 12)
 quota_found m d = weaker (number_between 0 (10 ^ 12) m d) (λ q is. is.high)
@@ -199,7 +202,8 @@ passes P p h [] all = refl
 passes P p h (x ∷ xs) all = and_from _ _ (h x (All-head P x xs all)) (passes P p h xs (All-tail P x xs all))
 
 -- and each of those that each element gives
-passes_within : {S T : Type 0} (P : S → Type 0) (f : S → List T) (p : T → Bool) → ((x : S) → P x → list_all p (f x) ≡ true) → (xs : List S) → All P xs → list_all p (flat_map f xs) ≡ true
+passes_within : {S T : Type 0} (P : S → Type 0) (f : S → List T) (p : T → Bool) → ((x : S) → P x → list_all p (f x) ≡ true) → (xs : List S) → All P xs
+    → list_all p (flat_map f xs) ≡ true
 passes_within P f p h [] all = refl
 passes_within P f p h (x ∷ xs) all =
     rw (list_all-append p (f x) (flat_map f xs)) (and_from _ _ (h x (All-head P x xs all)) (passes_within P f p h xs (All-tail P x xs all)))
@@ -217,7 +221,8 @@ request_passes q h =
 
 horizon_passes : (s : Parts) → AreParts s → has_horizon s ≡ true
 horizon_passes s h =
-    and_from _ _ (and_from _ _ (and_from _ _ (le-leb s.version 524288 h.version) (and_from _ _ (le-leb 60 s.len h.len.low) (le-leb s.len 3600 h.len.high))) (le-leb s.first.0 4223371680 h.first))
+    and_from _ _ (and_from _ _ (and_from _ _ (le-leb s.version 524288 h.version)
+    (and_from _ _ (le-leb 60 s.len h.len.low) (le-leb s.len 3600 h.len.high))) (le-leb s.first.0 4223371680 h.first))
     (and_from _ _ (le-leb 1 s.slices h.slices.low) (le-leb s.slices most_slices h.slices.high))
 
 requests_pass : (xs : List GroupPart) → All IsGroup xs → list_all has_ranges (all_requests xs) ≡ true

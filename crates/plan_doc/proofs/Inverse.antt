@@ -1,5 +1,6 @@
 -- Claims and snapshots from their documents, whatever the numbers: so a document has no second claim or snapshot.
-use Rattle.std.proofs.Common.{◌≡◌, ℕ, ℤ, pos, negsuc, List, [], ◌∷◌, map, Bool, true, false, cond, nat_lt, Option, Some, None, option_map, unwrap_or, option_and_then, get_or, refl, sym, ap, ap₂, ◌∙◌, arith}
+use Rattle.std.proofs.Common.{◌≡◌, ℕ, ℤ, pos, negsuc, List, [], ◌∷◌, map, Bool, true, false, cond, nat_lt, Option, Some, None, option_map, unwrap_or}
+use Rattle.std.proofs.Common.{option_and_then, get_or, refl, sym, ap, ap₂, ◌∙◌, arith}
 use Rattle.std.proofs.lemmas.Bool.{ltb-false}
 use Rattle.serde_json.specs.Data.{Data, string, Items, no_items, item}
 use Rattle.serde_json.specs.Find.{get, as_number, as_u64, as_integer, as_str, as_array}
@@ -21,7 +22,8 @@ use Rattle.plan_json.specs.declared.member.Member.TheVariants as key
 use Rattle.plan_json.specs.Member.{name_of}
 use Rattle.plan_json.specs.Operator.{operator_name, operator_named}
 use Rattle.plan_json.specs.Values.{whole, integer, list_of, given, given_if, object_of}
-use Rattle.plan_doc.specs.Written.{placement_data, claim_data, span_data, telescope_number_data, target_number_data, telescope_data, sky_data, request_data, group_data, snapshot_data}
+use Rattle.plan_doc.specs.Written.{placement_data, claim_data, span_data, telescope_number_data, target_number_data, telescope_data, sky_data}
+use Rattle.plan_doc.specs.Written.{request_data, group_data, snapshot_data}
 
 -- ---- values
 
@@ -79,7 +81,8 @@ claim_made ps zs us v b = record { placements = ps; prices = record { 0 = zs }; 
 
 claim_inverse_by : (ps : List Placement) (zs : List ℤ) (us : List ℕ) (v b : ℕ) → claim_in (claim_data (claim_made ps zs us v b)) ≡ claim_made ps zs us v b
 claim_inverse_by ps zs [] v b =
-    ap₂ (λ (xs : List Placement) (ys : List ℤ). claim_made xs ys [] v b) (each_inverse placement_in placement_data placement_inverse ps) (each_inverse integer_in integer price_inverse zs)
+    ap₂ (λ (xs : List Placement) (ys : List ℤ). claim_made xs ys [] v b) (each_inverse placement_in placement_data placement_inverse ps)
+    (each_inverse integer_in integer price_inverse zs)
 claim_inverse_by ps zs (u ∷ us) v b =
     ap₂ (λ (xs : List Placement) (ys : List ℤ). claim_made xs ys (u ∷ each_in number_in (items_of (map whole us))) v b)
     (each_inverse placement_in placement_data placement_inverse ps) (each_inverse integer_in integer price_inverse zs)
@@ -233,7 +236,8 @@ parts_inverse s us =
 snapshot_inverse_by : (s : Parts) (us : List ℕ) → snapshot_in (snapshot_data (record s { quotas = us })) ≡ record s { quotas = us }
 snapshot_inverse_by s [] = parts_inverse s []
 snapshot_inverse_by s (u ∷ us) =
-    parts_inverse s (u ∷ each_in number_in (items_of (map whole us))) ∙ ap (λ (ws : List ℕ). record s { quotas = u ∷ ws }) (each_inverse number_in whole number_inverse us)
+    parts_inverse s (u ∷ each_in number_in (items_of (map whole us)))
+    ∙ ap (λ (ws : List ℕ). record s { quotas = u ∷ ws }) (each_inverse number_in whole number_inverse us)
 
 pub snapshot_inverse : (s : Parts) → snapshot_in (snapshot_data s) ≡ s
 snapshot_inverse s = snapshot_inverse_by s s.quotas

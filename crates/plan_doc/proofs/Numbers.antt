@@ -18,7 +18,8 @@ mapped f g (Ok x) = refl
 mapped f g (Err e) = refl
 
 -- a member's number, by its reading with a sign
-pub member_number : (least most : ℕ) (ms : Members) (m : Member) → member_of (number_in least most) ms m ≡ result_map unsigned_abs (member_of (λ k. whole_in k (pos least) (pos most)) ms m)
+pub member_number : (least most : ℕ) (ms : Members) (m : Member)
+    → member_of (number_in least most) ms m ≡ result_map unsigned_abs (member_of (λ k. whole_in k (pos least) (pos most)) ms m)
 member_number least most ms m = mapped unsigned_abs (whole_in m (pos least) (pos most)) (ok_or (value_of ms m) (Missing m))
 
 -- ---- prices
@@ -26,10 +27,12 @@ member_number least most ms m = mapped unsigned_abs (whole_in m (pos least) (pos
 within_prices : (m : Member) (z : ℤ) → Gives (within m (neg_ℤ highest_price) highest_price z) IsPrice
 within_prices m (pos n) =
     if_test IsPrice (int_le (neg_ℤ highest_price) (pos n) && int_le (pos n) highest_price) (pos n) (OutOfRange m)
-    (λ h. let both = and_parts (int_le (neg_ℤ highest_price) (pos n)) (int_le (pos n) highest_price) h in record { low = grind (arith, ints); high = grind (arith, ints) })
+    (λ h. let both = and_parts (int_le (neg_ℤ highest_price) (pos n)) (int_le (pos n) highest_price) h in
+    record { low = grind (arith, ints); high = grind (arith, ints) })
 within_prices m (negsuc n) =
     if_test IsPrice (int_le (neg_ℤ highest_price) (negsuc n) && int_le (negsuc n) highest_price) (negsuc n) (OutOfRange m)
-    (λ h. let both = and_parts (int_le (neg_ℤ highest_price) (negsuc n)) (int_le (negsuc n) highest_price) h in record { low = grind (arith, ints); high = grind (arith, ints) })
+    (λ h. let both = and_parts (int_le (neg_ℤ highest_price) (negsuc n)) (int_le (negsuc n) highest_price) h in
+    record { low = grind (arith, ints); high = grind (arith, ints) })
 
 num_price : (m : Member) (n : Num) → Gives (whole_number m (neg_ℤ highest_price) highest_price n) IsPrice
 num_price m (unsigned n) = within_prices m (pos n)

@@ -11,7 +11,8 @@ moved xs ys zs n is h =
     sym (take-append-drop n xs) ∙ ap (λ (q : List ℕ). q ++ drop n xs) (sym (front ∙ is))
 
 -- the items from a start on are those that were copied to the front of a room, and then those after them
-pub given_front : (items s room ys zs : List ℕ) (start n : ℕ) → s ≡ items → n ≡ min (length room) (length (take (length s - start) (drop start s))) → ys ≡ take n (take (length s - start) (drop start s))
+pub given_front : (items s room ys zs : List ℕ) (start n : ℕ) → s ≡ items → n ≡ min (length room) (length (take (length s - start) (drop start s)))
+    → ys ≡ take n (take (length s - start) (drop start s))
     → drop start items ≡ take n (ys ++ zs) ++ drop (start + n) items
 given_front items s room ys zs start n same count is =
     let rest : take (length s - start) (drop start s) ≡ drop start items = take_rest s start ∙ ap (drop start) same in

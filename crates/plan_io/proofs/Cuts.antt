@@ -1,5 +1,7 @@
 -- Where bytes are cut into lines.
-use Rattle.std.proofs.Common.{◌≡◌, ◌≢◌, ℕ, zero, suc, ◌+◌, ◌-◌, ◌≤◌, ◌<◌, List, [], ◌∷◌, ◌++◌, length, take, drop, get_or, refl, sym, ◌∙◌, ap, subst, arith, append_assoc, append-nil, length-append, Bool, true, false, cond, nat_eq, nat_le, nat_lt, IsTrue, ◌↔◌, inl, inr, length-drop, length-take, get_or-drop, get_or-take}
+use Rattle.std.proofs.Common.{◌≡◌, ◌≢◌, ℕ, zero, suc, ◌+◌, ◌-◌, ◌≤◌, ◌<◌, List, [], ◌∷◌, ◌++◌, length, take, drop, get_or, refl, sym, ◌∙◌, ap, subst}
+use Rattle.std.proofs.Common.{arith, append_assoc, append-nil, length-append, Bool, true, false, cond, nat_eq, nat_le, nat_lt, IsTrue, ◌↔◌, inl, inr}
+use Rattle.std.proofs.Common.{length-drop, length-take, get_or-drop, get_or-take}
 use Rattle.std.proofs.lemmas.List.{drop_more}
 use Rattle.std.proofs.lemmas.Bool.{cond-false, ne_eqb, le-leb, true≢false}
 use Rattle.std.proofs.lemmas.Bool.Decides.{leb_tells}
@@ -22,7 +24,8 @@ pub last_line : (piece : List ℕ) → NoNewline piece → lines_of piece ≡ la
 last_line piece h = ap lines_of (sym (append-nil piece)) ∙ lines_from_more [] piece [] h
 
 pub line_long : (p : List ℕ) → 1048576 < length p → line_of p ≡ TooLong
-line_long p h = cond-false (nat_le (length p) 1048576) (Bytes p) TooLong (elim (leb_tells (length p) 1048576) [ inl t ↦ absurd (omega (arith, t.1, h)) | inr t ↦ t.0 ])
+line_long p h = cond-false (nat_le (length p) 1048576) (Bytes p) TooLong
+    (elim (leb_tells (length p) 1048576) [ inl t ↦ absurd (omega (arith, t.1, h)) | inr t ↦ t.0 ])
 
 pub line_short : (p : List ℕ) → length p ≤ 1048576 → line_of p ≡ Bytes p
 line_short p h = ap (λ (t : Bool). cond t (Bytes p) TooLong) (le-leb (length p) 1048576 h)
@@ -56,7 +59,8 @@ none_at items start h =
     let size : length (drop start items) ≡ length items - start = length-drop start items in
     h (start + k) (omega arith) (omega (arith, lt, size)) (sym (get_or-drop start items k 0) ∙ e))
 
-pub ends_at : (items : List ℕ) (start at n : ℕ) → start + n ≡ at → at < length items → ((k : ℕ) → start ≤ k → k < at → get_or items k 0 ≢ 10) → get_or items at 0 ≡ 10 → EndsAt (drop start items) n
+pub ends_at : (items : List ℕ) (start at n : ℕ) → start + n ≡ at → at < length items → ((k : ℕ) → start ≤ k → k < at → get_or items k 0 ≢ 10)
+    → get_or items at 0 ≡ 10 → EndsAt (drop start items) n
 ends_at items start at n is lt h ten =
     let size : length (drop start items) ≡ length items - start = length-drop start items in
     let inside : n < length (drop start items) = omega (arith, is, lt, size) in
@@ -71,7 +75,8 @@ ends_at items start at n is lt h ten =
     }
 
 -- what was looked at before, and now
-pub both_clear : (items xs : List ℕ) (start scanned at : ℕ) → xs ≡ items → ((k : ℕ) → start ≤ k → k < scanned → get_or items k 0 ≢ 10) → ((k : ℕ) → scanned ≤ k → k < at → get_or xs k 0 ≢ 10)
+pub both_clear : (items xs : List ℕ) (start scanned at : ℕ) → xs ≡ items → ((k : ℕ) → start ≤ k → k < scanned → get_or items k 0 ≢ 10)
+    → ((k : ℕ) → scanned ≤ k → k < at → get_or xs k 0 ≢ 10)
     → (k : ℕ) → start ≤ k → k < at → get_or items k 0 ≢ 10
 both_clear items xs start scanned at same h g k low high =
     elim (leb_tells scanned k) [
@@ -84,7 +89,8 @@ get_after : (xs ys : List ℕ) (start k : ℕ) → ys ≡ drop start xs → get_
 get_after xs ys start k is = ap (λ (zs : List ℕ). get_or zs k 0) is ∙ get_or-drop start xs k 0
 
 -- no newline from a start on, where none was found after it
-pub none_from : (xs ys : List ℕ) (start n : ℕ) → ys ≡ drop start xs → ((k : ℕ) → k < n → get_or ys k 0 ≢ 10) → (k : ℕ) → start ≤ k → k < start + n → get_or xs k 0 ≢ 10
+pub none_from : (xs ys : List ℕ) (start n : ℕ) → ys ≡ drop start xs → ((k : ℕ) → k < n → get_or ys k 0 ≢ 10) → (k : ℕ) → start ≤ k
+    → k < start + n → get_or xs k 0 ≢ 10
 none_from xs ys start n is none k low high e =
     let under : k - start < n = omega (arith, low, high) in
     let at : start + (k - start) ≡ k = omega (arith, low) in

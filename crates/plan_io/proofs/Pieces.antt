@@ -7,7 +7,8 @@ use Rattle.std.proofs.Math.Seq.{take-add}
 use Rattle.plan_io.specs.Sink.{Adds}
 
 -- the first d bytes of a piece were written, and then n of the rest
-pub adds_more : (a b c : Option (List ℕ)) (xs : List ℕ) (d n : ℕ) → Adds a b (take d xs) → Adds b c (take n (take (length xs - d) (drop d xs))) → Adds a c (take (d + n) xs)
+pub adds_more : (a b c : Option (List ℕ)) (xs : List ℕ) (d n : ℕ) → Adds a b (take d xs) → Adds b c (take n (take (length xs - d) (drop d xs)))
+    → Adds a c (take (d + n) xs)
 adds_more None None None xs d n h g = tt
 adds_more None None (Some r) xs d n h g = g
 adds_more None (Some q) c xs d n h g = absurd h

@@ -1,5 +1,6 @@
 -- What a reader's steps make of the lines that are left.
-use Rattle.std.proofs.Common.{◌≡◌, ℕ, ◌+◌, ◌<◌, List, [], ◌∷◌, ◌++◌, length, take, drop, refl, sym, ◌∙◌, ap, subst, arith, append_assoc, append-nil, take-append-drop, length-append, Bool, true, false, cond, take_all}
+use Rattle.std.proofs.Common.{◌≡◌, ℕ, ◌+◌, ◌<◌, List, [], ◌∷◌, ◌++◌, length, take, drop, refl, sym, ◌∙◌, ap, subst, arith, append_assoc, append-nil}
+use Rattle.std.proofs.Common.{take-append-drop, length-append, Bool, true, false, cond, take_all}
 use Rattle.std.proofs.KnownBytes.{Consumes-trans}
 use Rattle.std.specs.declared.option.Option.{Option}
 use Rattle.std.proofs.lemmas.Bool.{true≢false}
@@ -11,13 +12,15 @@ use Rattle.plan_io.specs.LinesSeen.{LinesSeen}
 use Rattle.plan_io.specs.Next.{line_at, Cuts, Advances, ReadsOn}
 use Rattle.plan_io.proofs.Cuts.{lines_from_more, cuts_line, last_line, lines_long, after_more}
 
-left_cut : (long : Bool) (held xs : List ℕ) (n : ℕ) → EndsAt held n → lines_left long (held ++ xs) ≡ cond long TooLong (line_of (take n held)) ∷ lines_of (drop (n + 1) held ++ xs)
+left_cut : (long : Bool) (held xs : List ℕ) (n : ℕ) → EndsAt held n → lines_left long (held ++ xs) ≡ cond long TooLong (line_of (take n held))
+    ∷ lines_of (drop (n + 1) held ++ xs)
 left_cut long held xs n e =
     let r = drop (n + 1) held ++ xs in
     let parts : held ≡ take n held ++ 10 ∷ drop (n + 1) held = sym (take-append-drop n held) ∙ ap (λ (ys : List ℕ). take n held ++ ys) e.newline in
     let split : held ++ xs ≡ take n held ++ 10 ∷ r = ap (λ (ys : List ℕ). ys ++ xs) parts ∙ append_assoc (take n held) (10 ∷ drop (n + 1) held) xs in
     elim long as (λ t. lines_left t (held ++ xs) ≡ cond t TooLong (line_of (take n held)) ∷ lines_of r) [
-      | true ↦ ap (λ (ys : List ℕ). TooLong ∷ lines_of (after_newline ys)) split ∙ ap (λ (ys : List ℕ). TooLong ∷ lines_of ys) (after_more (take n held) (10 ∷ r) e.clear)
+      | true ↦ ap (λ (ys : List ℕ). TooLong ∷ lines_of (after_newline ys)) split
+          ∙ ap (λ (ys : List ℕ). TooLong ∷ lines_of ys) (after_more (take n held) (10 ∷ r) e.clear)
       | false ↦ ap lines_of split ∙ cuts_line (take n held) r e.clear
     ]
 
@@ -50,7 +53,8 @@ last_piece s n clear is some =
     ∙ ap (λ (ys : List ℕ). cond s.long TooLong (line_of ys) ∷ []) whole
 
 -- the line up to the first newline is cut off
-pub cuts_first : (s t : LinesSeen) (n : ℕ) (l : ScriptLine) → EndsAt s.held n → t.held ≡ drop (n + 1) s.held → t.long ≡ false → l ≡ line_at s n → Cuts s [] (l ∷ []) t
+pub cuts_first : (s t : LinesSeen) (n : ℕ) (l : ScriptLine) → EndsAt s.held n → t.held ≡ drop (n + 1) s.held → t.long ≡ false
+    → l ≡ line_at s n → Cuts s [] (l ∷ []) t
 cuts_first s t n l e held long is later =
     ap (λ (xs : List ℕ). lines_left s.long (xs ++ later)) (append-nil s.held)
     ∙ left_cut s.long s.held later n e

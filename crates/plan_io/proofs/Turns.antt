@@ -1,5 +1,6 @@
 -- What the parts of one call do to a reader.
-use Rattle.std.proofs.Common.{◌≡◌, ℕ, ◌+◌, ◌-◌, ◌≤◌, ◌<◌, max, List, [], ◌∷◌, ◌++◌, length, take, drop, refl, sym, ◌∙◌, ap, subst, arith, append_assoc, append-nil, length-append, Bool, true, false, inl, inr}
+use Rattle.std.proofs.Common.{◌≡◌, ℕ, ◌+◌, ◌-◌, ◌≤◌, ◌<◌, max, List, [], ◌∷◌, ◌++◌, length, take, drop, refl, sym, ◌∙◌, ap, subst, arith, append_assoc}
+use Rattle.std.proofs.Common.{append-nil, length-append, Bool, true, false, inl, inr}
 use Rattle.std.proofs.KnownBytes.{Consumes-nil, Consumes-trans, Consumes-kept}
 use Rattle.std.specs.declared.option.Option.{Option}
 use Rattle.std.specs.declared.option.Option.TheVariants.{Some, None}
@@ -57,7 +58,8 @@ some_held : (xs : List ℕ) → (xs ≡ [] → ⊥) → 0 < length xs
 some_held [] h = absurd (h refl)
 some_held (x ∷ xs) h = omega arith
 
-pub last_line_is : (s : LinesSeen) (h : List ℕ) (n : ℕ) (l : ScriptLine) → IsWithin s → NoNewline s.held → (IsFresh s → ⊥) → n ≡ length s.held → h ≡ [] → l ≡ line_at s n
+pub last_line_is : (s : LinesSeen) (h : List ℕ) (n : ℕ) (l : ScriptLine) → IsWithin s → NoNewline s.held → (IsFresh s → ⊥) → n ≡ length s.held
+    → h ≡ [] → l ≡ line_at s n
     → IsLast s (record s { held = h; long = false; answered = s.answered + 1 }) (Line l)
 last_line_is s h n l within clear begun size held is =
     let some : s.long ≡ false → 0 < n = λ e. omega (arith, size, some_held s.held (λ none. begun (record { held = none; long = e }))) in (
@@ -75,7 +77,8 @@ last_line_is s h n l within clear begun size held is =
     )
 
 -- a read that asks for a byte beyond the limit, and gets it
-pub read_over : (s : LinesSeen) (h block : List ℕ) (n size : ℕ) (a b : Option (List ℕ)) → IsWithin s → NoNewline s.held → s.failed ≡ false → s.ended ≡ false → h ≡ s.held → n ≤ size → size ≤ max 1 (s.most_bytes - s.taken)
+pub read_over : (s : LinesSeen) (h block : List ℕ) (n size : ℕ) (a b : Option (List ℕ)) → IsWithin s → NoNewline s.held → s.failed ≡ false
+    → s.ended ≡ false → h ≡ s.held → n ≤ size → size ≤ max 1 (s.most_bytes - s.taken)
     → s.most_bytes - s.taken < n → n ≤ length block → Consumes a b (take n block) → IsTurn s a (record s { held = h; taken = s.taken + n }) b turn.Over
 read_over s h block n size a b within clear steady opened held most room over given came =
     let t : LinesSeen = record s { held = h; taken = s.taken + n } in
@@ -103,7 +106,11 @@ read_over s h block n size a b within clear steady opened held most room over gi
 
 -- nothing read, and nothing answered
 pub reads_none : (s : LinesSeen) (a : Option (List ℕ)) → ReadsOn s a [] s a
-reads_none s a = ([], Consumes-nil a, record { cuts = cuts_same s s refl refl; taken = omega arith; answered = omega arith; most_bytes = refl; most_lines = refl })
+reads_none s a = (
+  [],
+  Consumes-nil a,
+  record { cuts = cuts_same s s refl refl; taken = omega arith; answered = omega arith; most_bytes = refl; most_lines = refl },
+)
 
 begins_too_many : (s : LinesSeen) → (IsWithin s → ⊥) → s.answered ≤ s.most_lines → s.taken ≤ s.most_bytes → BeginsTooMany s
 begins_too_many s over few small =
@@ -115,7 +122,8 @@ begins_too_many s over few small =
     record { bytes = small; lines = most; begun = λ f. over (record { bytes = small; lines = few; last = λ e. f }) }
 
 -- a reader beyond its limits answers InputOver again
-pub over_again : (s : LinesSeen) (a : Option (List ℕ)) → (IsWithin s → ⊥) → s.answered ≤ s.most_lines → s.taken ≤ s.most_bytes + 1 → (s.most_bytes < s.taken → NoNewline s.held) → s.failed ≡ false → s.ended ≡ false
+pub over_again : (s : LinesSeen) (a : Option (List ℕ)) → (IsWithin s → ⊥) → s.answered ≤ s.most_lines → s.taken ≤ s.most_bytes + 1
+    → (s.most_bytes < s.taken → NoNewline s.held) → s.failed ≡ false → s.ended ≡ false
     → IsNext s a s a InputOver
 over_again s a over few most clear steady opened =
     elim (leb_tells s.taken s.most_bytes) [
@@ -233,7 +241,8 @@ next_after s t u a b InputOver cut next = (
   next.3,
 )
 
-pub cause_after : (s t : LinesSeen) (before now : ℕ) (answer : LineAnswer) → t.failed ≡ s.failed → IsNextCause t before now answer → IsNextCause s before now answer
+pub cause_after : (s t : LinesSeen) (before now : ℕ) (answer : LineAnswer) → t.failed ≡ s.failed → IsNextCause t before now answer
+    → IsNextCause s before now answer
 cause_after s t before now (Line l) same h = h
 cause_after s t before now End same h = h
 cause_after s t before now ReadFault same h = (h.0, λ e. h.1 (same ∙ e))
@@ -244,14 +253,16 @@ pub stops_after : (s t u : LinesSeen) (a b : Option (List ℕ)) → IsCut s t No
 stops_after s t u a b cut h = reads_after s t u a b [] cut.0 h
 
 -- a block was added, and a line cut off
-pub line_now : (s t u w : LinesSeen) (a b c : Option (List ℕ)) (l : ScriptLine) → ReadsOn s a [] t b → IsTurn t b u c turn.More → IsCut u w (Some l) → IsNext s a w c (Line l)
+pub line_now : (s t u w : LinesSeen) (a b c : Option (List ℕ)) (l : ScriptLine) → ReadsOn s a [] t b → IsTurn t b u c turn.More → IsCut u w (Some l)
+    → IsNext s a w c (Line l)
 line_now s t u w a b c l h more cut =
     let reads = reads_then s u w a c (l ∷ []) (reads_more s t u a b c h more.0) cut.0 in
     let small : w.taken ≤ w.most_bytes = omega (arith, cut.0.taken, cut.0.most_bytes, more.2.bytes) in
     (inl (reads, cut.3 ∙ more.4), small, cut.1, cut.2 ∙ more.3)
 
 -- the source came to its end, and what was held was answered
-pub last_now : (s t u : LinesSeen) (a b c : Option (List ℕ)) (answer : LineAnswer) → ReadsOn s a [] t b → IsWithin t → t.failed ≡ false → Keeps b c → IsAtEnd c → IsLast (record t { ended = true }) u answer → IsNext s a u c answer
+pub last_now : (s t u : LinesSeen) (a b c : Option (List ℕ)) (answer : LineAnswer) → ReadsOn s a [] t b → IsWithin t → t.failed ≡ false → Keeps b c
+    → IsAtEnd c → IsLast (record t { ended = true }) u answer → IsNext s a u c answer
 last_now s t u a b c (Line l) h within steady kept end last =
     let came : Consumes a c h.0 = Consumes-kept a b c h.0 h.1 kept in
     let ends : EndsIn s h.0 l u = record {

@@ -1,5 +1,6 @@
 -- What all calls of a reader give of the bytes that it took.
-use Rattle.std.proofs.Common.{◌≡◌, ℕ, suc, ◌+◌, ◌≤◌, ◌<◌, List, [], ◌∷◌, ◌++◌, length, take, refl, sym, ◌∙◌, ap, arith, append-nil, length-append, Bool, true, false, cond, nat_eq}
+use Rattle.std.proofs.Common.{◌≡◌, ℕ, suc, ◌+◌, ◌≤◌, ◌<◌, List, [], ◌∷◌, ◌++◌, length, take, refl, sym, ◌∙◌, ap, arith, append-nil, length-append}
+use Rattle.std.proofs.Common.{Bool, true, false, cond, nat_eq}
 use Rattle.std.proofs.lemmas.List.{take-append-le}
 use Rattle.std.proofs.Math.Seq.{take-append_seam, take-length}
 use Rattle.plan_io.specs.declared.lines.ScriptLine.{ScriptLine}
@@ -19,7 +20,9 @@ fresh_lines s xs later fresh =
 one_more : (piece bytes : List ℕ) → (line : ScriptLine) × (lines_from piece (bytes ++ 10 ∷ []) ≡ whole_lines_from piece bytes ++ line ∷ [])
 one_more piece [] = (line_of piece, refl)
 one_more piece (b ∷ bs) =
-    elim (nat_eq b 10) as (λ t. (line : ScriptLine) × (cond t (line_of piece ∷ lines_from [] (bs ++ 10 ∷ [])) (lines_from (piece ++ b ∷ []) (bs ++ 10 ∷ [])) ≡ cond t (line_of piece ∷ whole_lines_from [] bs) (whole_lines_from (piece ++ b ∷ []) bs) ++ line ∷ [])) [
+    elim (nat_eq b 10) as (λ t. (line : ScriptLine)
+    × (cond t (line_of piece ∷ lines_from [] (bs ++ 10 ∷ [])) (lines_from (piece ++ b ∷ []) (bs ++ 10 ∷ []))
+    ≡ cond t (line_of piece ∷ whole_lines_from [] bs) (whole_lines_from (piece ++ b ∷ []) bs) ++ line ∷ [])) [
       | true ↦ let rest = one_more [] bs in (rest.0, ap (λ (ls : List ScriptLine). line_of piece ∷ ls) rest.1)
       | false ↦ one_more (piece ++ b ∷ []) bs
     ]
@@ -31,7 +34,8 @@ front_of ws ls ys x is some =
     sym (take-append_seam ls ys) ∙ ap (take (length ls)) (sym is) ∙ take-append-le (length ls) ws (x ∷ []) small
 
 -- the lines that were answered, and those that a newline would end
-pub answered_and_left : (s t : LinesSeen) (bytes : List ℕ) (ls : List ScriptLine) → IsFresh s → Cuts s bytes ls t → (line : ScriptLine) × (whole_lines_of bytes ++ line ∷ [] ≡ ls ++ lines_left t.long (t.held ++ 10 ∷ []))
+pub answered_and_left : (s t : LinesSeen) (bytes : List ℕ) (ls : List ScriptLine) → IsFresh s → Cuts s bytes ls t
+    → (line : ScriptLine) × (whole_lines_of bytes ++ line ∷ [] ≡ ls ++ lines_left t.long (t.held ++ 10 ∷ []))
 answered_and_left s t bytes ls fresh cuts =
     let more = one_more [] bytes in
     (more.0, sym more.1 ∙ sym (fresh_lines s bytes (10 ∷ []) fresh) ∙ cuts (10 ∷ []))
@@ -71,6 +75,7 @@ all_lines s t bytes ls fresh cuts done =
     ∙ append-nil ls
 
 -- with the last line they are the lines of the bytes
-pub all_with_last : (s t u : LinesSeen) (bytes last : List ℕ) (ls : List ScriptLine) (line : ScriptLine) → IsFresh s → Cuts s bytes ls t → EndsIn t last line u → lines_of (bytes ++ last) ≡ ls ++ line ∷ []
+pub all_with_last : (s t u : LinesSeen) (bytes last : List ℕ) (ls : List ScriptLine) (line : ScriptLine) → IsFresh s → Cuts s bytes ls t
+    → EndsIn t last line u → lines_of (bytes ++ last) ≡ ls ++ line ∷ []
 all_with_last s t u bytes last ls line fresh cuts ends =
     sym (fresh_lines s bytes last fresh) ∙ cuts last ∙ ap (λ (ms : List ScriptLine). ls ++ ms) ends.last

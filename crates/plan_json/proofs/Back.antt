@@ -30,7 +30,8 @@ each_back P f reading h [] all = refl
 each_back P f reading h (x ∷ xs) all =
     rw (h x (All-head P x xs all), each_back P f reading h xs (All-tail P x xs all)) refl
 
-pub each_back_from : {X E : Type 0} (P : X → Type 0) (f : X → Data) (reading : ℕ → Data → Result X E) → ((i : ℕ) (x : X) → P x → reading i (f x) ≡ Ok x) → (i : ℕ) (xs : List X)
+pub each_back_from : {X E : Type 0} (P : X → Type 0) (f : X → Data) (reading : ℕ → Data → Result X E)
+    → ((i : ℕ) (x : X) → P x → reading i (f x) ≡ Ok x) → (i : ℕ) (xs : List X)
     → All P xs → read_from reading i (map f xs) ≡ Ok xs
 each_back_from P f reading h i [] all = refl
 each_back_from P f reading h i (x ∷ xs) all =
@@ -41,5 +42,6 @@ as_long f [] = refl
 as_long f (x ∷ xs) = ap suc (as_long f xs)
 
 -- a list with a count in the range
-pub list_back : {X : Type 0} (f : X → Data) (m : Member) (least most : ℕ) (xs : List X) → IsBetween least most (length xs) → list_in m least most (list_of f xs) ≡ Ok (map f xs)
+pub list_back : {X : Type 0} (f : X → Data) (m : Member) (least most : ℕ) (xs : List X) → IsBetween least most (length xs)
+    → list_in m least most (list_of f xs) ≡ Ok (map f xs)
 list_back f m least most xs h = rw (elements_of_items (map f xs), as_long f xs, le-leb least (length xs) h.low, le-leb (length xs) most h.high) refl

@@ -1,5 +1,6 @@
 -- A list that is written item by item.
-use Rattle.std.proofs.Common.{◌≡◌, ℕ, ◌+◌, ◌<◌, ◌≤◌, List, [], ◌∷◌, ◌++◌, Bool, false, true, length, get_or, take, drop, map, Result, Ok, Err, IsErr, refl, sym, ap, ◌∙◌, subst, append_assoc, append-nil, arith}
+use Rattle.std.proofs.Common.{◌≡◌, ℕ, ◌+◌, ◌<◌, ◌≤◌, List, [], ◌∷◌, ◌++◌, Bool, false, true, length, get_or, take, drop, map, Result, Ok, Err, IsErr}
+use Rattle.std.proofs.Common.{refl, sym, ap, ◌∙◌, subst, append_assoc, append-nil, arith}
 use Rattle.std.specs.List.{All}
 use Rattle.std.proofs.lemmas.List.{at_drop_all, at_drop_more, take_all}
 use Rattle.std.proofs.lemmas.List.Elements.{All-more, All-head, All-tail, All-same, All-nil}
@@ -35,7 +36,8 @@ pub more_wrote : {T : Type 0} (n : ℕ) (f : T → Data) (xs : List T) (old mid 
     → Wrote n f xs old mid k is_later → new ≡ mid ++ (comma_if is_later ++ text_of (f x)) → IsWritten n (f x) → Wrote n f xs old new (k + 1) true
 unfolding text_of
 more_wrote {T} n f xs old mid new k is_later x within is so_far added written =
-    let whole : (mid ++ (comma_if is_later ++ text_of (f x))) ++ left_text f xs (k + 1) true ≡ mid ++ items_text is_later (items_of (map f (x ∷ drop (k + 1) xs))) =
+    let whole : (mid ++ (comma_if is_later ++ text_of (f x))) ++ left_text f xs (k + 1) true ≡ mid
+    ++ items_text is_later (items_of (map f (x ∷ drop (k + 1) xs))) =
     simp append_assoc in
     let left : items_text is_later (items_of (map f (x ∷ drop (k + 1) xs))) ≡ left_text f xs k is_later =
     ap (λ (y : T). items_text is_later (items_of (map f (y ∷ drop (k + 1) xs)))) is

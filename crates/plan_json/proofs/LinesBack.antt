@@ -34,7 +34,8 @@ text_newline d h =
 -- ---- it is read as the data
 
 -- bytes that are read are UTF-8, and have a reading
-both_from : (b : Bool) (o : Option Data) (d : Data) → (let r : Result Data JsonFault = cond b (ok_or o NotJson) (Err NotJson) in r ≡ Ok d) → (b ≡ true) × (o ≡ Some d)
+both_from : (b : Bool) (o : Option Data) (d : Data) → (let r : Result Data JsonFault = cond b (ok_or o NotJson) (Err NotJson) in r ≡ Ok d)
+    → (b ≡ true) × (o ≡ Some d)
 both_from true (Some x) d e = (refl, cc)
 both_from true None d e = cc
 both_from false o d e = cc

@@ -1,5 +1,6 @@
 -- Names and words of the source.
-use Rattle.std.proofs.Common.{◌≡◌, ℕ, ◌≤◌, ◌<◌, List, [], ◌∷◌, ◌++◌, length, take, drop, length-drop, ◌-◌, true, false, Bool, IsUtf8, Result, Ok, Err, refl, sym, ap, ap₂, ◌∙◌, subst, append_assoc, lt-ltb, arith}
+use Rattle.std.proofs.Common.{◌≡◌, ℕ, ◌≤◌, ◌<◌, List, [], ◌∷◌, ◌++◌, length, take, drop, length-drop, ◌-◌, true, false, Bool, IsUtf8, Result, Ok, Err}
+use Rattle.std.proofs.Common.{refl, sym, ap, ap₂, ◌∙◌, subst, append_assoc, lt-ltb, arith}
 use Rattle.std.specs.List.{list_all}
 use Rattle.std.proofs.lemmas.Bool.{and_parts}
 use Rattle.std.proofs.lemmas.Bool.Decides.{nat_tests}
@@ -42,7 +43,8 @@ pub name_is : (text : List ℕ) → is_name text ≡ true → text ≡ 44 ∷ (q
 name_is text h =
     let both = and_parts _ _ h in
     let escaped : 34 ∷ (name_in text ++ 34 ∷ 58 ∷ []) ≡ quoted (name_in text) ++ 58 ∷ [] =
-    ap (λ (s : List ℕ). 34 ∷ (s ++ 34 ∷ 58 ∷ [])) (sym (escape-plain (name_in text) both.0)) ∙ ap (λ (s : List ℕ). 34 ∷ s) (sym (append_assoc (escape (name_in text)) (34 ∷ []) (58 ∷ []))) in
+    ap (λ (s : List ℕ). 34 ∷ (s ++ 34 ∷ 58 ∷ [])) (sym (escape-plain (name_in text) both.0))
+    ∙ ap (λ (s : List ℕ). 34 ∷ s) (sym (append_assoc (escape (name_in text)) (34 ∷ []) (58 ∷ []))) in
     (bytes_eq-Decides text _).0 both.1 ∙ ap (λ (s : List ℕ). 44 ∷ s) escaped
 
 pub name_utf8 : (text : List ℕ) → is_name text ≡ true → IsUtf8 (name_in text)
@@ -58,11 +60,13 @@ word_of_quoted (Ok u) old new s utf8 h = record { adds = h; holds = record { exa
 word_of_quoted (Err e) old new s utf8 h = record { adds = h; holds = tt }
 
 -- a word in quotes is added
-pub adds_word : {E : Type 0} (r : Result (Unit {0}) E) (old new s text : List ℕ) → is_word text ≡ true → s ≡ text → Adds r old new s → AddsNested r old new 0 (string (word_in text))
+pub adds_word : {E : Type 0} (r : Result (Unit {0}) E) (old new s text : List ℕ) → is_word text ≡ true → s ≡ text → Adds r old new s
+    → AddsNested r old new 0 (string (word_in text))
 adds_word r old new s text h same adds = word_of_quoted r old new (word_in text) (word_utf8 text h) (adds_same r old new s _ (same ∙ word_is text h) adds)
 
 -- a name with its comma, and one without
-pub later_name : (is_later : Bool) (s text : List ℕ) → is_name text ≡ true → is_later ≡ true → s ≡ text → s ≡ comma_if is_later ++ (quoted (name_in text) ++ 58 ∷ [])
+pub later_name : (is_later : Bool) (s text : List ℕ) → is_name text ≡ true → is_later ≡ true → s ≡ text
+    → s ≡ comma_if is_later ++ (quoted (name_in text) ++ 58 ∷ [])
 later_name is_later s text h later e = rw later (e ∙ name_is text h)
 
 pub first_name : (is_later : Bool) (s text : List ℕ) → is_name text ≡ true → is_later ≡ false → s ≡ text

@@ -1,5 +1,6 @@
 -- An object that is written member by member.
-use Rattle.std.proofs.Common.{◌≡◌, ℕ, max, List, [], ◌∷◌, ◌++◌, Bool, true, false, Option, Some, IsUtf8, Result, Ok, Err, Ordering, Less, Equal, Greater, refl, sym, ap, ◌∙◌, subst, append_assoc, arith}
+use Rattle.std.proofs.Common.{◌≡◌, ℕ, max, List, [], ◌∷◌, ◌++◌, Bool, true, false, Option, Some, IsUtf8, Result, Ok, Err, Ordering, Less, Equal}
+use Rattle.std.proofs.Common.{Greater, refl, sym, ap, ◌∙◌, subst, append_assoc, arith}
 use Rattle.std.specs.List.{list_all}
 use Rattle.std.specs.Ordering.{nat_cmp, match_ordering}
 use Rattle.std.specs.Cmp.Lexicographic.{slice_cmp}
@@ -22,7 +23,8 @@ less : (k l : List ℕ) → is_before k l ≡ true → slice_cmp nat_cmp k l ≡
 less k l h = less_by (slice_cmp nat_cmp k l) h
 
 -- a member was added, and after it the others
-pub there : {E : Type 0} (r : Result (Unit {0}) E) (old named valued new k : List ℕ) (v : Data) (ms : Members) (names : List (List ℕ)) (a b : ℕ) (is_later : Bool)
+pub there : {E : Type 0} (r : Result (Unit {0}) E) (old named valued new k : List ℕ) (v : Data) (ms : Members) (names : List (List ℕ))
+    (a b : ℕ) (is_later : Bool)
     → IsUtf8 k → list_all (is_before k) names ≡ true → named ≡ old ++ (comma_if is_later ++ (quoted k ++ 58 ∷ [])) → valued ≡ named ++ text_of v → IsWritten a v
     → AddsMembers r valued new true names b ms → AddsMembers r old new is_later (k ∷ names) (max a b) (member k v ms)
 unfolding text_of
@@ -46,8 +48,11 @@ there (Ok u) old named valued new k v ms names a b is_later utf8 ahead name valu
       };
     }
 
-pub if_there : {E : Type 0} (r : Result (Unit {0}) E) (old named valued new k : List ℕ) (v : Data) (o : Option Data) (ms : Members) (names : List (List ℕ)) (a b : ℕ) (is_later : Bool)
-    → o ≡ Some v → IsUtf8 k → list_all (is_before k) names ≡ true → named ≡ old ++ (comma_if is_later ++ (quoted k ++ 58 ∷ [])) → valued ≡ named ++ text_of v → IsWritten a v
+pub if_there : {E : Type 0} (r : Result (Unit {0}) E) (old named valued new k : List ℕ) (v : Data) (o : Option Data) (ms : Members)
+    (names : List (List ℕ)) (a b : ℕ) (is_later : Bool)
+    → o ≡ Some v → IsUtf8 k → list_all (is_before k) names ≡ true → named ≡ old ++ (comma_if is_later ++ (quoted k ++ 58 ∷ []))
+    → valued ≡ named ++ text_of v → IsWritten a v
     → AddsMembers r valued new true names b ms → AddsMembers r old new is_later (k ∷ names) (max a b) (if_has k o ms)
 if_there r old named valued new k v o ms names a b is_later some utf8 ahead name value written rest =
-    subst (λ d. AddsMembers r old new is_later (k ∷ names) (max a b) (if_has k d ms)) (sym some) (there r old named valued new k v ms names a b is_later utf8 ahead name value written rest)
+    subst (λ d. AddsMembers r old new is_later (k ∷ names) (max a b) (if_has k d ms)) (sym some)
+    (there r old named valued new k v ms names a b is_later utf8 ahead name value written rest)

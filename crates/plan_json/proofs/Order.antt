@@ -21,7 +21,8 @@ before_put : (l k : List ℕ) (d : Data) (ms : Members) → slice_cmp nat_cmp l 
 before_put l k d no_members new old = new
 before_put l k d (member m e ms) new old = before_put_at (slice_cmp nat_cmp k m) l k m d e ms new old
 
-put_rises_at : (o : Ordering) (k l : List ℕ) (d e : Data) (ms : Members) → slice_cmp nat_cmp k l ≡ o → IsInByteOrder d → RiseInByteOrder (member l e ms) → RiseInByteOrder (put k d ms)
+put_rises_at : (o : Ordering) (k l : List ℕ) (d e : Data) (ms : Members) → slice_cmp nat_cmp k l ≡ o → IsInByteOrder d
+    → RiseInByteOrder (member l e ms) → RiseInByteOrder (put k d ms)
     → RiseInByteOrder (match_ordering o (member k d (member l e ms)) (member l d ms) (member l e (put k d ms)))
 put_rises_at Less k l d e ms is inner rise later = (is, inner, rise)
 put_rises_at Equal k l d e ms is inner rise later = (rise.0, inner, rise.2)
@@ -37,7 +38,8 @@ if_map : {A B : Type 0} (P : A → Type 0) (Q : B → Type 0) (f : A → B) → 
 if_map P Q f h None p = tt
 if_map P Q f h (Some a) p = h a p
 
-if_and_then : {A B : Type 0} (P : A → Type 0) (Q : B → Type 0) (f : A → Option B) → ((a : A) → P a → IfSome (f a) Q) → (o : Option A) → IfSome o P → IfSome (option_and_then f o) Q
+if_and_then : {A B : Type 0} (P : A → Type 0) (Q : B → Type 0) (f : A → Option B) → ((a : A) → P a → IfSome (f a) Q) → (o : Option A) → IfSome o P
+    → IfSome (option_and_then f o) Q
 if_and_then P Q f h None p = tt
 if_and_then P Q f h (Some a) p = h a p
 
@@ -57,7 +59,8 @@ mutual
   items_rise : (js : json.Items) → IfSome (of_items js) AreInByteOrder
   items_rise json.no_items = tt
   items_rise (json.item j js) =
-      if_and_then IsInByteOrder AreInByteOrder _ (λ d p. if_map AreInByteOrder AreInByteOrder (item d) (λ ds q. (p, q)) (of_items js) (items_rise js)) (of_json j) (json_rises j)
+      if_and_then IsInByteOrder AreInByteOrder _ (λ d p. if_map AreInByteOrder AreInByteOrder (item d) (λ ds q. (p, q)) (of_items js) (items_rise js))
+      (of_json j) (json_rises j)
 
   members_rise : (ms : json.Members) (found : Members) → RiseInByteOrder found → IfSome (of_members ms found) RiseInByteOrder
   members_rise json.no_members found rise = rise

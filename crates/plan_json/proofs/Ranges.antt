@@ -1,5 +1,6 @@
 -- What was read lies in the range in which it is read.
-use Rattle.std.proofs.Common.{◌≡◌, ℕ, suc, ◌+◌, ◌≤◌, ◌≤ℤ◌, ℤ, pos, negsuc, unsigned_abs, List, [], ◌∷◌, length, Bool, true, false, ◌&&◌, cond, nat_le, int_le, is_some, Option, Some, None, option_map, ok_or, IfSome, Result, Ok, Err, IfOk, refl, ap, ◌∙◌, arith}
+use Rattle.std.proofs.Common.{◌≡◌, ℕ, suc, ◌+◌, ◌≤◌, ◌≤ℤ◌, ℤ, pos, negsuc, unsigned_abs, List, [], ◌∷◌, length, Bool, true, false, ◌&&◌, cond, nat_le}
+use Rattle.std.proofs.Common.{int_le, is_some, Option, Some, None, option_map, ok_or, IfSome, Result, Ok, Err, IfOk, refl, ap, ◌∙◌, arith}
 use Rattle.std.specs.Prelude.{⊤}
 use Rattle.std.specs.List.{All}
 use Rattle.std.proofs.lemmas.Bool.{leb-true, and_parts}
@@ -42,7 +43,8 @@ if_test P true x e h = record { ok = h refl }
 if_test P false x e h = record { ok = tt }
 
 -- a reading of what was read
-pub after : {A B E : Type 0} {P : A → Type 0} {Q : B → Type 0} {r : Result A E} (f : A → Result B E) → Gives r P → ((x : A) → P x → Gives (f x) Q) → Gives (r >>= f) Q
+pub after : {A B E : Type 0} {P : A → Type 0} {Q : B → Type 0} {r : Result A E} (f : A → Result B E) → Gives r P
+    → ((x : A) → P x → Gives (f x) Q) → Gives (r >>= f) Q
 after {r = Ok x} f p h = h x p.ok
 after {r = Err e} f p h = record { ok = tt }
 
@@ -117,7 +119,8 @@ of_member P reading ms m h = after (reading m) (any (ok_or (value_of ms m) (Miss
 pub number_member : (least most : ℕ) (ms : Members) (m : Member) → Gives (member_of (number_in least most) ms m) (IsBetween least most)
 number_member least most ms m = of_member (IsBetween least most) (number_in least most) ms m (number_between least most m)
 
-pub number_member_or : (least most n : ℕ) (ms : Members) (m : Member) → IsBetween least most n → Gives (or_default n (number_in least most) ms m) (IsBetween least most)
+pub number_member_or : (least most n : ℕ) (ms : Members) (m : Member) → IsBetween least most n
+    → Gives (or_default n (number_in least most) ms m) (IsBetween least most)
 number_member_or least most n ms m h = either (is_some (value_of ms m)) (number_member least most ms m) (record { ok = h })
 
 pub text_member : (ms : Members) (m : Member) → Gives (member_of text_in ms m) IsText

@@ -1,5 +1,6 @@
 -- The text of exact data is read as the data, and so says which it is.
-use Rattle.std.proofs.Common.{◌≡◌, ℕ, suc, ◌+◌, ◌≤◌, ◌<◌, max, pos, negsuc, Bool, true, false, lt-ltb, List, [], ◌∷◌, ◌++◌, IsUtf8, Option, Some, unwrap_or, option_and_then, Less, Greater, refl, sym, ap, ap₂, ◌∙◌, append-nil, arith}
+use Rattle.std.proofs.Common.{◌≡◌, ℕ, suc, ◌+◌, ◌≤◌, ◌<◌, max, pos, negsuc, Bool, true, false, lt-ltb, List, [], ◌∷◌, ◌++◌, IsUtf8, Option, Some}
+use Rattle.std.proofs.Common.{unwrap_or, option_and_then, Less, Greater, refl, sym, ap, ap₂, ◌∙◌, append-nil, arith}
 use Rattle.std.specs.Prelude.{⊤}
 use Rattle.std.specs.Ordering.{nat_cmp, ordering_reverse}
 use Rattle.std.specs.Cmp.Lexicographic.{slice_cmp}
@@ -10,12 +11,14 @@ use Rattle.json.specs.Json as json
 use Rattle.json.specs.Token.{Token}
 use Rattle.json.specs.Lex.{tokens}
 use Rattle.json.specs.Print.{IsNumber, quoted}
-use Rattle.json.specs.Tree.{json_tokens, HasNumbers, ItemsHaveNumbers, MembersHaveNumbers, depth as json_depth, items_depth as json_items_depth, members_depth as json_members_depth}
+use Rattle.json.specs.Tree.{json_tokens, HasNumbers, ItemsHaveNumbers, MembersHaveNumbers, depth as json_depth, items_depth as json_items_depth}
+use Rattle.json.specs.Tree.{members_depth as json_members_depth}
 use Rattle.json.proofs.Printed.Decimals.{IsNumber-decimal, IsNumber-signed_decimal}
 use Rattle.json.proofs.Printed.Tokens.{tokens-print}
 use Rattle.json.proofs.Printed.Trees.{value-json_tokens, ArePrintable-json_tokens}
 use Rattle.json.proofs.Printed.Utf8.{IsUtf8-are_ascii, IsUtf8-quoted, IsUtf8-boolean}
-use Rattle.serde_json.specs.Data.{Num, unsigned, negative, float, Data, null, boolean, number, string, array, object, Items, no_items, item, Members, no_members, member, put, depth, items_depth, members_depth}
+use Rattle.serde_json.specs.Data.{Num, unsigned, negative, float, Data, null, boolean, number, string, array, object, Items, no_items, item, Members}
+use Rattle.serde_json.specs.Data.{no_members, member, put, depth, items_depth, members_depth}
 use Rattle.serde_json.specs.Read.{number_of, of_json, of_items, of_members, max_depth, read}
 use Rattle.serde_json.specs.Written.{number_text, outline, items_outline, members_outline, comma_if, compact_text, items_text, members_text}
 use Rattle.serde_json.proofs.Numbers.{number_of-decimal, number_of-negative}
@@ -231,7 +234,8 @@ mutual
 json_tokens-injective : (j k : json.Json) → json_tokens j ≡ json_tokens k → j ≡ k
 json_tokens-injective j k e =
     let most = json_depth j + json_depth k in
-    let read = sym (value-json_tokens j most [] (omega arith)) ∙ ap (λ (ts : List Token). json.value most (ts ++ [])) e ∙ value-json_tokens k most [] (omega arith) in
+    let read = sym (value-json_tokens j most [] (omega arith)) ∙ ap (λ (ts : List Token). json.value most (ts ++ [])) e
+    ∙ value-json_tokens k most [] (omega arith) in
     ap (λ (found : Option (json.Json × List Token)). (unwrap_or found (j, [])).0) read
 
 pub texts_are_distinct : TextsAreDistinct

@@ -20,7 +20,8 @@ elements_of_items [] = refl
 elements_of_items (d ∷ ds) = ap (λ rest. d ∷ rest) (elements_of_items ds)
 
 -- a value that is no text is a moment where it is a whole number
-pub moment_of_number : (m : Member) (d : Data) → as_str d ≡ None → moment_in m d ≡ result_map (λ z. moment_at (unsigned_abs z)) (whole_in m (pos 0) (pos last_moment) d)
+pub moment_of_number : (m : Member) (d : Data) → as_str d ≡ None
+    → moment_in m d ≡ result_map (λ z. moment_at (unsigned_abs z)) (whole_in m (pos 0) (pos last_moment) d)
 moment_of_number m null h = refl
 moment_of_number m (boolean b) h = refl
 moment_of_number m (number n) h = refl
@@ -32,7 +33,8 @@ moment_of_number m (object ms) h = refl
 pub data_of_text : (bytes : List ℕ) (d : Data) → IsUtf8 bytes → read bytes ≡ Some d → data_of bytes ≡ Ok d
 data_of_text bytes d utf8 e = rw (is_utf8-from_IsUtf8 bytes utf8, e) refl
 
-no_data_by : (b : Bool) (bytes : List ℕ) → is_utf8 bytes ≡ b → (IsUtf8 bytes → read bytes ≡ None) → cond b (ok_or (read bytes) NotJson) (Err NotJson) ≡ Err NotJson
+no_data_by : (b : Bool) (bytes : List ℕ) → is_utf8 bytes ≡ b → (IsUtf8 bytes → read bytes ≡ None)
+    → cond b (ok_or (read bytes) NotJson) (Err NotJson) ≡ Err NotJson
 no_data_by true bytes e h = rw (h (IsUtf8-from_is_utf8 bytes e)) refl
 no_data_by false bytes e h = refl
 

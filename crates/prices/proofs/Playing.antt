@@ -1,5 +1,6 @@
 -- Rounds at small prices keep to all conditions.
-use Rattle.std.proofs.Common.{◌≡◌, ℕ, ◌*◌, ◌^◌, ◌≤◌, Bool, true, false, if◌then◌else◌, cond, nat_lt, ℤ, pos, unsigned_abs, neg_ℤ, ◌+ℤ◌, ◌-ℤ◌, ◌≤ℤ◌, List, length, slice_index_or, All, sym, subst, arith}
+use Rattle.std.proofs.Common.{◌≡◌, ℕ, ◌*◌, ◌^◌, ◌≤◌, Bool, true, false, if◌then◌else◌, cond, nat_lt, ℤ, pos, unsigned_abs, neg_ℤ, ◌+ℤ◌, ◌-ℤ◌, ◌≤ℤ◌}
+use Rattle.std.proofs.Common.{List, length, slice_index_or, All, sym, subst, arith}
 use Rattle.std.proofs.lemmas.Int.{ints}
 use Rattle.plan_base.specs.declared.parts.Parts.{Parts}
 use Rattle.plan_base.specs.Sums.{total}
@@ -42,7 +43,8 @@ moved_in_range step c uses taken few h = by_tests (nat_lt (cond taken 1 0) uses)
     by_tests false false = small_in_range c h
 
 -- small prices stay in their range where the step is small
-pub small_stay : (s : Parts) (step : ℤ) (prices : List ℤ) (c : ℕ → ℤ) (uses : List ℕ) → length prices ≡ length (listed s) → unsigned_abs step ≤ 100000 → All IsSmall prices → All IsPriceInRange (prices_after s step prices c uses)
+pub small_stay : (s : Parts) (step : ℤ) (prices : List ℤ) (c : ℕ → ℤ) (uses : List ℕ) → length prices ≡ length (listed s) → unsigned_abs step ≤ 100000
+    → All IsSmall prices → All IsPriceInRange (prices_after s step prices c uses)
 small_stay s step prices c uses count few a i d l =
     let size : length (prices_after s step prices c uses) ≡ length (listed s) = after_count s step prices c uses in
     subst IsPriceInRange (sym (after_at s step prices c uses i d (omega arith)))
@@ -57,7 +59,8 @@ part_total numbers few a =
     omega (arith, ints)
 
 -- three sums of few parts are at most what a bound may be
-pub parts_fit : (bests rebates quotas : List ℤ) → length bests ≤ 1000 → length rebates ≤ 1000 → length quotas ≤ 1000 → All IsPart bests → All IsPart rebates → All IsPart quotas
+pub parts_fit : (bests rebates quotas : List ℤ) → length bests ≤ 1000 → length rebates ≤ 1000 → length quotas ≤ 1000 → All IsPart bests
+    → All IsPart rebates → All IsPart quotas
     → (total (λ c. c) bests +ℤ total (λ c. c) rebates +ℤ total (λ c. c) quotas) ≤ℤ pos (10 ^ 17)
 parts_fit bests rebates quotas few_bests few_rebates few_quotas a b q =
     let one : total (λ c. c) bests ≤ℤ pos (10 ^ 15) = part_total bests few_bests a in

@@ -12,7 +12,8 @@ pub below_or_same : (i n : ℕ) → i < n + 1 → (i < n) ⊎ (i ≡ n)
 below_or_same i n l = grind arith
 
 -- one place more
-pub set_more : {X : Type 0} (d : X) (want : ℕ → X) (old now : List X) (n : ℕ) (y : X) → n < length now → y ≡ want n → IsSetUpTo d want old now n → IsSetUpTo d want old (slice_set now n y) (n + 1)
+pub set_more : {X : Type 0} (d : X) (want : ℕ → X) (old now : List X) (n : ℕ) (y : X) → n < length now → y ≡ want n → IsSetUpTo d want old now n
+    → IsSetUpTo d want old (slice_set now n y) (n + 1)
 set_more d want old now n y l e h = record {
   count = length-set now n y ∙ h.count;
   done = λ i k. elim (below_or_same i n k) [
@@ -29,14 +30,16 @@ pub record IsWrittenFrom {X : Type 0} (d : X) (want : ℕ → X) (old now : List
   pub done : (i : ℕ) → i < n → slice_index_or now (first + i) d ≡ want i
 
 -- one place more
-pub written_more : {X : Type 0} (d : X) (want : ℕ → X) (old now : List X) (first n : ℕ) (y : X) → first + n < length now → y ≡ want n → IsWrittenFrom d want old now first n
+pub written_more : {X : Type 0} (d : X) (want : ℕ → X) (old now : List X) (first n : ℕ) (y : X) → first + n < length now → y ≡ want n
+    → IsWrittenFrom d want old now first n
     → IsWrittenFrom d want old (slice_set now (first + n) y) first (n + 1)
 written_more d want old now first n y l e h = record {
   count = length-set now (first + n) y ∙ h.count;
   before = λ k m. get_or-set_other now (first + n) k y d (λ same. omega (arith, same)) ∙ h.before k m;
   done = λ i k. elim (below_or_same i n k) [
     | inl below ↦ get_or-set_other now (first + n) (first + i) y d (λ same. omega (arith, same)) ∙ h.done i below
-    | inr same ↦ ap (λ (j : ℕ). slice_index_or (slice_set now (first + n) y) (first + j) d) same ∙ get_or-set_same now (first + n) y d l ∙ e ∙ ap want (sym same)
+    | inr same ↦ ap (λ (j : ℕ). slice_index_or (slice_set now (first + n) y) (first + j) d) same
+        ∙ get_or-set_same now (first + n) y d l ∙ e ∙ ap want (sym same)
   ];
 }
 

@@ -1,5 +1,6 @@
 -- The groups of a snapshot, gone through one after another.
-use Rattle.std.proofs.Common.{◌≡◌, ℕ, zero, suc, ◌+◌, ◌-◌, ◌<◌, ◌≤◌, ◌⊎◌, inl, inr, Bool, false, ℤ, List, [], ◌∷◌, ◌++◌, length, map, slice_index_or, None, refl, sym, ◌∙◌, ap, subst, arith, length-append}
+use Rattle.std.proofs.Common.{◌≡◌, ℕ, zero, suc, ◌+◌, ◌-◌, ◌<◌, ◌≤◌, ◌⊎◌, inl, inr, Bool, false, ℤ, List, [], ◌∷◌, ◌++◌, length, map, slice_index_or}
+use Rattle.std.proofs.Common.{None, refl, sym, ◌∙◌, ap, subst, arith, length-append}
 use Rattle.std.proofs.lemmas.List.{length-map, get_or-map, get_or_append_left, get_or-append-add}
 use Rattle.plan_base.specs.declared.parts.Parts.{Parts}
 use Rattle.plan_base.specs.declared.parts.GroupPart.{GroupPart}
@@ -56,9 +57,12 @@ run_at n (x ∷ xs) zero l =
       within = omega arith;
       each = λ i d k.
           let at : 0 + i ≡ i = omega arith in
-          let left : slice_index_or (here ++ listed_from (suc n) xs) i d ≡ slice_index_or here i d = get_or_append_left here (listed_from (suc n) xs) d i (omega arith) in
-          let first : slice_index_or here i d ≡ _ = get_or-map (λ q. record { group = n; quota = x.quota; request = q }) x.requests i d.request d (omega arith) in
-          let second : slice_index_or (members_of x) i 0 ≡ (slice_index_or x.requests i d.request).request.0 = get_or-map (λ q. q.request.0) x.requests i d.request 0 (omega arith) in
+          let left : slice_index_or (here ++ listed_from (suc n) xs) i d ≡ slice_index_or here i d =
+          get_or_append_left here (listed_from (suc n) xs) d i (omega arith) in
+          let first : slice_index_or here i d ≡ _ =
+          get_or-map (λ q. record { group = n; quota = x.quota; request = q }) x.requests i d.request d (omega arith) in
+          let second : slice_index_or (members_of x) i 0 ≡ (slice_index_or x.requests i d.request).request.0 =
+          get_or-map (λ q. q.request.0) x.requests i d.request 0 (omega arith) in
           ap (λ (j : ℕ). number_of (slice_index_or (here ++ listed_from (suc n) xs) j d)) at ∙ ap number_of left ∙ ap number_of first ∙ sym second;
     }
 run_at n (x ∷ xs) (suc g) l =
@@ -70,7 +74,8 @@ run_at n (x ∷ xs) (suc g) l =
       within = let less = rest.within in omega arith;
       each = λ i d k.
           let at : length x.requests + offset xs g + i ≡ length here + (offset xs g + i) = omega arith in
-          ap (λ (j : ℕ). number_of (slice_index_or (here ++ listed_from (suc n) xs) j d)) at ∙ ap number_of (get_or-append-add here (listed_from (suc n) xs) (offset xs g + i) d) ∙ rest.each i d k;
+          ap (λ (j : ℕ). number_of (slice_index_or (here ++ listed_from (suc n) xs) j d)) at
+          ∙ ap number_of (get_or-append-add here (listed_from (suc n) xs) (offset xs g + i) d) ∙ rest.each i d k;
     }
 
 pub group_at : (s : Parts) (g : ℕ) → IsOrderly s → g < length s.groups → IsGroupRun s g (offset s.groups g)
@@ -80,7 +85,8 @@ group_at s g o l =
     record { within = within; each = λ i k. ap (place_of s) (sym (run.each i nothing k)) ∙ place_at s (offset s.groups g + i) nothing o (omega arith) }
 
 -- the number of a group's request
-pub number_here : (s : Parts) (g i : ℕ) → g < length s.groups → i < length (members s g) → number_at s (offset s.groups g + i) ≡ slice_index_or (members s g) i 0
+pub number_here : (s : Parts) (g i : ℕ) → g < length s.groups → i < length (members s g)
+    → number_at s (offset s.groups g + i) ≡ slice_index_or (members s g) i 0
 number_here s g i l k =
     let run : IsRun 0 s.groups g (offset s.groups g) = run_at 0 s.groups g l in
     let within : offset s.groups g + length (members s g) ≤ length (listed s) = run.within in
@@ -99,7 +105,8 @@ pub walked_none : (s : Parts) (net : List ℤ) (flags : List Bool) → IsWalked 
 walked_none s net flags = record { begins = sym (offset_first s.groups); count = refl; taken = λ k m. absurd (omega arith) }
 
 -- where a group's requests begin, and where they end
-pub group_within : (s : Parts) (net : List ℤ) (old flags : List Bool) (first g : ℕ) → IsOrderly s → g < length s.groups → IsWalked s net old flags first g → IsGroupRun s g first
+pub group_within : (s : Parts) (net : List ℤ) (old flags : List Bool) (first g : ℕ) → IsOrderly s → g < length s.groups
+    → IsWalked s net old flags first g → IsGroupRun s g first
 group_within s net old flags first g o l h = subst (λ (a : ℕ). IsGroupRun s g a) (sym h.begins) (group_at s g o l)
 
 pub few_requests : (s : Parts) → IsOrderly s → length (listed s) ≤ 1024
@@ -108,12 +115,16 @@ few_requests s o = o.within Requests 0 0 (omega arith)
 pub few_quotas : (s : Parts) → IsOrderly s → length s.quotas ≤ 1024
 few_quotas s o = o.within Quotas 0 0 (omega arith)
 
-pub walked_more : (s : Parts) (net : List ℤ) (old flags more : List Bool) (first g n : ℕ) → g < length s.groups → n ≡ length (members s g) → length more ≡ length flags
+pub walked_more : (s : Parts) (net : List ℤ) (old flags more : List Bool) (first g n : ℕ) → g < length s.groups → n ≡ length (members s g)
+    → length more ≡ length flags
     → ((k : ℕ) → k < first → slice_index_or more k false ≡ slice_index_or flags k false)
-    → ((i : ℕ) → i < length (members s g) → slice_index_or more (first + i) false ≡ is_taken s (price s net) (slice_index_or (members s g) i 0)) → IsWalked s net old flags first g → IsWalked s net old more (first + n) (g + 1)
+    → ((i : ℕ) → i < length (members s g) → slice_index_or more (first + i) false ≡ is_taken s (price s net) (slice_index_or (members s g) i 0))
+    → IsWalked s net old flags first g → IsWalked s net old more (first + n) (g + 1)
 walked_more s net old flags more first g n l size count before group h =
     let x : GroupPart = record { group = record { 0 = 0 }; op = Single; requests = []; quota = None } in
-    let own : length (members s g) ≡ length (slice_index_or s.groups g x).requests = ap (λ (rs : List ℕ). length rs) (get_or-map members_of s.groups g x [] l) ∙ length-map (slice_index_or s.groups g x).requests (λ q. q.request.0) in
+    let own : length (members s g) ≡ length (slice_index_or s.groups g x).requests =
+    ap (λ (rs : List ℕ). length rs) (get_or-map members_of s.groups g x [] l)
+    ∙ length-map (slice_index_or s.groups g x).requests (λ q. q.request.0) in
     let begins : first ≡ offset s.groups g = h.begins in
     let ends : offset s.groups (g + 1) ≡ offset s.groups g + length (slice_index_or s.groups g x).requests = offset_more s.groups g x l in
     record {
@@ -126,11 +137,13 @@ walked_more s net old flags more first g n l size count before group h =
             let at : k ≡ first + i = omega arith in
             let place : k ≡ offset s.groups g + i = omega arith in
             let among : i < length (members s g) = omega arith in
-            ap (λ (j : ℕ). slice_index_or more j false) at ∙ group i among ∙ ap (is_taken s (price s net)) (sym (ap (number_at s) place ∙ number_here s g i l among))
+            ap (λ (j : ℕ). slice_index_or more j false) at ∙ group i among
+            ∙ ap (is_taken s (price s net)) (sym (ap (number_at s) place ∙ number_here s g i l among))
       ];
     }
 
-pub walked_all : (s : Parts) (net : List ℤ) (old flags : List Bool) (first g : ℕ) → length s.groups ≤ g → IsWalked s net old flags first g → AreTaken s (price s net) flags
+pub walked_all : (s : Parts) (net : List ℤ) (old flags : List Bool) (first g : ℕ) → length s.groups ≤ g → IsWalked s net old flags first g
+    → AreTaken s (price s net) flags
 walked_all s net old flags first g l h =
     let all : offset s.groups g ≡ length (listed s) = offset_all 0 s.groups g l in
     let begins : first ≡ offset s.groups g = h.begins in

@@ -18,8 +18,10 @@ use Rattle.rapid.specs.Answer.{IsAnswer}
 use Rattle.rapid.specs.Run.{WritesEach, opening, IsOpen, IsAnswerTo}
 use Rattle.rapid.specs.Lines.{AreLinesOf, IsAnswerFrom}
 
-pub whole_lines : (first : Standing) (groups : List GroupPart) (after : Standing) (start text : List ℕ) → start ≡ [] → AreLinesOf first groups after start text → (x : Standing) × WritesEach first groups text x
-whole_lines first groups after start text e h = (after, subst (λ (t : List ℕ). WritesEach first groups t after) (sym (h.2 ∙ ap (λ (t : List ℕ). t ++ h.0) e)) h.1)
+pub whole_lines : (first : Standing) (groups : List GroupPart) (after : Standing) (start text : List ℕ) → start ≡ []
+    → AreLinesOf first groups after start text → (x : Standing) × WritesEach first groups text x
+whole_lines first groups after start text e h =
+    (after, subst (λ (t : List ℕ). WritesEach first groups t after) (sym (h.2 ∙ ap (λ (t : List ℕ). t ++ h.0) e)) h.1)
 
 pub both_ok : {X E : Type 0} (P Q R : X → Type 0) (r : Result X E) → IfOk r P → IfOk r Q → ((x : X) → P x → Q x → R x) → IfOk r R
 both_ok P Q R (Ok x) p q f = f x p q
@@ -31,17 +33,25 @@ answer_is d text said.No open_d h = absurd h
 answer_is d text said.NoDocument open_d h = (open_d, h)
 
 -- where the claim is certified
-pub ready_answer : {E : Type 0} (d : RapidDocument) (claim : Claim) (answer : RapidAnswer) (rapid : Standing) (groups : List GroupPart) (r : Result Answer E) → claim ≡ d.publication.claim → IsAnswer d.publication.snapshot claim answer → answer ≡ Ready rapid
+pub ready_answer : {E : Type 0} (d : RapidDocument) (claim : Claim) (answer : RapidAnswer) (rapid : Standing) (groups : List GroupPart)
+    (r : Result Answer E) → claim ≡ d.publication.claim → IsAnswer d.publication.snapshot claim answer → answer ≡ Ready rapid
     → groups ≡ d.groups → IfOk r (λ a. IsAnswerFrom rapid groups a.text.items a.said) → IfOk r (λ a. IsAnswerTo d a.text.items a.said)
 ready_answer d claim answer rapid groups r same h e listed ok =
-    let ready : IsAnswer d.publication.snapshot d.publication.claim (Ready rapid) = subst (λ (c : Claim). IsAnswer d.publication.snapshot c (Ready rapid)) same (subst (IsAnswer d.publication.snapshot claim) e h) in
-    both_ok (λ (a : Answer). IsAnswerFrom rapid groups a.text.items a.said) (λ (a : Answer). IsAnswerFrom rapid groups a.text.items a.said) (λ (a : Answer). IsAnswerTo d a.text.items a.said) r ok ok
-    (λ a p q. answer_is d a.text.items a.said ready.1 (subst (λ (gs : List GroupPart). IsAnswerFrom (opening d) gs a.text.items a.said) listed (subst (λ (b : Standing). IsAnswerFrom b groups a.text.items a.said) ready.0 p)))
+    let ready : IsAnswer d.publication.snapshot d.publication.claim (Ready rapid) =
+    subst (λ (c : Claim). IsAnswer d.publication.snapshot c (Ready rapid)) same (subst (IsAnswer d.publication.snapshot claim) e h) in
+    both_ok (λ (a : Answer). IsAnswerFrom rapid groups a.text.items a.said) (λ (a : Answer). IsAnswerFrom rapid groups a.text.items a.said)
+    (λ (a : Answer). IsAnswerTo d a.text.items a.said) r ok ok
+    (λ a p q. answer_is d a.text.items a.said ready.1
+    (subst (λ (gs : List GroupPart). IsAnswerFrom (opening d) gs a.text.items a.said) listed
+    (subst (λ (b : Standing). IsAnswerFrom b groups a.text.items a.said) ready.0 p)))
 
 -- where it isn't
-pub no_answer : {E : Type 0} (d : RapidDocument) (claim : Claim) (answer : RapidAnswer) (reason : Reason) (r : Result Answer E) → claim ≡ d.publication.claim → IsAnswer d.publication.snapshot claim answer → answer ≡ No reason
+pub no_answer : {E : Type 0} (d : RapidDocument) (claim : Claim) (answer : RapidAnswer) (reason : Reason) (r : Result Answer E)
+    → claim ≡ d.publication.claim → IsAnswer d.publication.snapshot claim answer → answer ≡ No reason
     → IfOk r (λ a. a.text.items ≡ line_of (reason_data reason)) → IfOk r (λ a. a.said ≡ said.No) → IfOk r (λ a. IsAnswerTo d a.text.items a.said)
 no_answer d claim answer reason r same h e text what =
-    let no : IsVerdict d.publication.snapshot d.publication.claim (judged.No reason) = subst (λ (c : Claim). IsVerdict d.publication.snapshot c (judged.No reason)) same (subst (IsAnswer d.publication.snapshot claim) e h) in
-    both_ok (λ (a : Answer). a.text.items ≡ line_of (reason_data reason)) (λ (a : Answer). a.said ≡ said.No) (λ (a : Answer). IsAnswerTo d a.text.items a.said) r text what
+    let no : IsVerdict d.publication.snapshot d.publication.claim (judged.No reason) =
+    subst (λ (c : Claim). IsVerdict d.publication.snapshot c (judged.No reason)) same (subst (IsAnswer d.publication.snapshot claim) e h) in
+    both_ok (λ (a : Answer). a.text.items ≡ line_of (reason_data reason)) (λ (a : Answer). a.said ≡ said.No)
+    (λ (a : Answer). IsAnswerTo d a.text.items a.said) r text what
     (λ a t w. subst (λ (x : Said). IsAnswerTo d a.text.items x) (sym w) (reason, no, t))

@@ -1,5 +1,7 @@
 -- A snapshot with one more group says the same of the requests that it had.
-use Rattle.std.proofs.Common.{◌≡◌, ◌≢◌, ℕ, zero, suc, ◌+◌, ◌-◌, ◌*◌, ◌<◌, ◌≤◌, inl, inr, Bool, true, false, cond, not, ◌==◌, List, [], ◌∷◌, ◌++◌, length, map, filter, slice_index_or, sum_by, All, Any, Contains, None, refl, sym, ◌∙◌, ap, subst, append_assoc, length-append, arith}
+use Rattle.std.proofs.Common.{◌≡◌, ◌≢◌, ℕ, zero, suc, ◌+◌, ◌-◌, ◌*◌, ◌<◌, ◌≤◌, inl, inr, Bool, true, false, cond, not, ◌==◌, List, [], ◌∷◌, ◌++◌}
+use Rattle.std.proofs.Common.{length, map, filter, slice_index_or, sum_by, All, Any, Contains, None, refl, sym, ◌∙◌, ap, subst, append_assoc}
+use Rattle.std.proofs.Common.{length-append, arith}
 use Rattle.std.specs.List.{position_or_len}
 use Rattle.std.proofs.lemmas.Bool.{cases_lt}
 use Rattle.std.proofs.lemmas.List.{get_or_append_left, get_or-append_right, length-map, map-append}
@@ -13,7 +15,8 @@ use Rattle.plan_base.specs.declared.span.Span.{Span}
 use Rattle.plan_base.specs.declared.claim.Placement.{Placement}
 use Rattle.plan_base.specs.declared.number.TelescopeNo.{TelescopeNo}
 use Rattle.plan_base.specs.declared.number.TargetNo.{TargetNo}
-use Rattle.plan_base.specs.Requests.{Listed, listed_from, listed, place_of, known_or, IsKnown, quota_of, seconds_of, request_value, fade_of, windows_of, targets_of, IsOf, IsKind, members_of, members, AllOrNone}
+use Rattle.plan_base.specs.Requests.{Listed, listed_from, listed, place_of, known_or, IsKnown, quota_of, seconds_of, request_value, fade_of}
+use Rattle.plan_base.specs.Requests.{windows_of, targets_of, IsOf, IsKind, members_of, members, AllOrNone}
 use Rattle.plan_base.specs.Snapshot.{IsOrderly}
 use Rattle.plan_base.specs.Starts.{IsPossibleStart, IsObserved, IsVisible, ShareSlice, Occupies, site_of, slices_for, least_of, faded, worth_at, value_of_plan}
 use Rattle.plan_base.specs.Feasible.{requests_of, is_quota, quota_seconds, AreOfOneOneOf, IsFeasible}
@@ -75,10 +78,12 @@ module _ (s : Parts) (group : GroupPart) where
   listed_after = listed_more 0 s.groups (group ∷ []) ∙ ap (λ (n : ℕ). listed s ++ listed_from n (group ∷ [])) (from_zero (length s.groups))
 
   count_after : length (listed s) ≤ length (listed after)
-  count_after = let e : length (listed after) ≡ length (listed s ++ listed_from (length s.groups) (group ∷ [])) = ap length listed_after in omega (arith, length-append (listed s) (listed_from (length s.groups) (group ∷ [])))
+  count_after = let e : length (listed after) ≡ length (listed s ++ listed_from (length s.groups) (group ∷ [])) = ap length listed_after in
+      omega (arith, length-append (listed s) (listed_from (length s.groups) (group ∷ [])))
 
   pub place_kept : (r : ℕ) → IsKnown s r → place_of after r ≡ place_of s r
-  place_kept r k = ap (position_or_len (λ (x : Listed). x.request.request.0 == r)) listed_after ∙ found_first (λ (x : Listed). x.request.request.0 == r) (listed s) (listed_from (length s.groups) (group ∷ [])) k
+  place_kept r k = ap (position_or_len (λ (x : Listed). x.request.request.0 == r)) listed_after
+      ∙ found_first (λ (x : Listed). x.request.request.0 == r) (listed s) (listed_from (length s.groups) (group ∷ [])) k
 
   pub known_kept : (r : ℕ) → IsKnown s r → IsKnown after r
   known_kept r k = let e = place_kept r k in let c = count_after in omega arith
@@ -108,10 +113,13 @@ module _ (s : Parts) (group : GroupPart) where
         begins = h.begins;
         ends = subst (λ (n : ℕ). p.slice.0 + slices_for s.len n ≤ s.first.0 + s.slices) seconds h.ends;
         window = subst (λ (n : ℕ). Any (λ (w : Span). (w.from.0 ≤ p.slice.0 * s.len) × (p.slice.0 * s.len + n ≤ w.to.0)) (windows_of after r)) seconds
-            (subst (λ (ws : List Span). Any (λ (w : Span). (w.from.0 ≤ p.slice.0 * s.len) × (p.slice.0 * s.len + seconds_of s r ≤ w.to.0)) ws) (sym (kept (λ x. x.request.windows) [] r h.known)) h.window);
+            (subst (λ (ws : List Span). Any (λ (w : Span). (w.from.0 ≤ p.slice.0 * s.len) × (p.slice.0 * s.len + seconds_of s r ≤ w.to.0)) ws)
+            (sym (kept (λ x. x.request.windows) [] r h.known)) h.window);
         usable = λ x o. h.usable x (observed_kept p x h.known o);
-        visible = subst (λ (ts : List TargetNo). All (λ target. (x : ℕ) → IsObserved after p x → IsVisible s target.0 (site_of s p.telescope.0) x) ts) (sym (kept (λ x. x.request.targets) [] r h.known))
-            (All-weaker (λ target. (x : ℕ) → IsObserved s p x → IsVisible s target.0 (site_of s p.telescope.0) x) (λ target. (x : ℕ) → IsObserved after p x → IsVisible s target.0 (site_of s p.telescope.0) x)
+        visible = subst (λ (ts : List TargetNo). All (λ target. (x : ℕ) → IsObserved after p x → IsVisible s target.0 (site_of s p.telescope.0) x) ts)
+            (sym (kept (λ x. x.request.targets) [] r h.known))
+            (All-weaker (λ target. (x : ℕ) → IsObserved s p x → IsVisible s target.0 (site_of s p.telescope.0) x)
+            (λ target. (x : ℕ) → IsObserved after p x → IsVisible s target.0 (site_of s p.telescope.0) x)
             (λ target v x o. v x (observed_kept p x h.known o)) (targets_of s r) h.visible);
       }
 
@@ -135,16 +143,19 @@ module _ (s : Parts) (group : GroupPart) where
 
   quota_kept : (q : ℕ) (rs : List ℕ) → All (IsKnown s) rs → quota_seconds after q rs ≡ quota_seconds s q rs
   quota_kept q rs known =
-      ap (sum_by (seconds_of after)) (same_filters (λ r. is_quota q (quota_of after r)) (λ r. is_quota q (quota_of s r)) rs (λ i d l. ap (is_quota q) (kept (λ x. x.quota) None (slice_index_or rs i d) (known i d l))))
+      ap (sum_by (seconds_of after)) (same_filters (λ r. is_quota q (quota_of after r)) (λ r. is_quota q (quota_of s r)) rs
+      (λ i d l. ap (is_quota q) (kept (λ x. x.quota) None (slice_index_or rs i d) (known i d l))))
       ∙ same_sums (seconds_of after) (seconds_of s) (filter (λ r. is_quota q (quota_of s r)) rs)
-      (All-weaker (IsKnown s) (λ r. seconds_of after r ≡ seconds_of s r) (λ r k. seconds_kept r k) (filter (λ r. is_quota q (quota_of s r)) rs) (All-filter (λ r. is_quota q (quota_of s r)) (IsKnown s) rs known))
+      (All-weaker (IsKnown s) (λ r. seconds_of after r ≡ seconds_of s r) (λ r k. seconds_kept r k) (filter (λ r. is_quota q (quota_of s r)) rs)
+      (All-filter (λ r. is_quota q (quota_of s r)) (IsKnown s) rs known))
 
   pub kind_kept : (k : Op) (g : ℕ) → g < length s.groups → IsKind after k g → IsKind s k g
   kind_kept k g l h d = subst (λ (x : GroupPart). x.op ≡ k) (get_or_append_left s.groups (group ∷ []) d g l) (h d)
 
   -- beyond the old groups there is the new one alone
   kind_new : (k : Op) (g : ℕ) → length s.groups ≤ g → IsKind after k g → group.op ≡ k
-  kind_new k g l h = subst (λ (x : GroupPart). x.op ≡ k) (get_or-append_right s.groups (group ∷ []) (length s.groups) g group refl l ∙ one_only group (g - length s.groups)) (h group)
+  kind_new k g l h = subst (λ (x : GroupPart). x.op ≡ k) (get_or-append_right s.groups (group ∷ []) (length s.groups) g group refl l
+      ∙ one_only group (g - length s.groups)) (h group)
 
   pub of_kept : (g r : ℕ) → IsKnown s r → IsOf after g r → IsOf s g r
   of_kept g r k of = (k, sym (kept (λ x. x.group) 0 r k) ∙ of.1)
@@ -179,8 +190,10 @@ module _ (s : Parts) (group : GroupPart) where
       record {
         possible = All-weaker (IsPossibleStart s) (IsPossibleStart after) (λ p h. possible_kept p h) plan f.possible;
         once = f.once;
-        disjoint = λ i j d l m share. f.disjoint i j d l m (share_kept (slice_index_or plan i d) (slice_index_or plan j d) (f.possible i d (omega arith)).known (f.possible j d m).known share);
-        oneof_once = λ i j d l m both. f.oneof_once i j d l m (oneof_kept (slice_index_or (requests_of plan) i d) (slice_index_or (requests_of plan) j d) (known i d (omega arith)) (known j d m) both);
+        disjoint = λ i j d l m share. f.disjoint i j d l m
+            (share_kept (slice_index_or plan i d) (slice_index_or plan j d) (f.possible i d (omega arith)).known (f.possible j d m).known share);
+        oneof_once = λ i j d l m both. f.oneof_once i j d l m
+            (oneof_kept (slice_index_or (requests_of plan) i d) (slice_index_or (requests_of plan) j d) (known i d (omega arith)) (known j d m) both);
         and_whole = λ g kind. elim (cases_lt g (length s.groups)) [
           | inl below ↦ whole_old g (requests_of plan) o below (f.and_whole g (kind_kept And g below kind))
           | inr above ↦ absurd (single_and (sym single ∙ kind_new And g above kind))

@@ -1,5 +1,6 @@
 -- What becomes of tables and bound where a snapshot has one more request.
-use Rattle.std.proofs.Common.{◌≡◌, ℕ, ◌+◌, ◌-◌, ◌<◌, ◌≤◌, Bool, ℤ, pos, ◌+ℤ◌, ◌-ℤ◌, ◌≤ℤ◌, List, [], ◌∷◌, ◌++◌, length, length-append, All, sym, ◌∙◌, ap, subst, arith}
+use Rattle.std.proofs.Common.{◌≡◌, ℕ, ◌+◌, ◌-◌, ◌<◌, ◌≤◌, Bool, ℤ, pos, ◌+ℤ◌, ◌-ℤ◌, ◌≤ℤ◌, List, [], ◌∷◌, ◌++◌, length, length-append, All, sym, ◌∙◌}
+use Rattle.std.proofs.Common.{ap, subst, arith}
 use Rattle.std.proofs.lemmas.Int.{ints}
 use Rattle.std.proofs.lemmas.List.Elements.{All-push}
 use Rattle.plan_base.specs.declared.parts.Parts.{Parts}
@@ -54,7 +55,8 @@ module _ (x : Extension) (h : IsPriceable x) (ob : IsOrderly x.before.now) (oa :
   pub value_most : q.value ≤ 288000000
   value_most =
       let known : IsKnown after q.request.0 = newest_known before h.group q h.only orderly in
-      let value : request_value after q.request.0 ≡ q.value = known_or_is (λ x. x.request.value) 0 after q.request.0 newest known (newest_as before h.group q h.only orderly) in
+      let value : request_value after q.request.0 ≡ q.value =
+      known_or_is (λ x. x.request.value) 0 after q.request.0 newest known (newest_as before h.group q h.only orderly) in
       let most : request_value after q.request.0 ≤ 288000000 = value_at_most after q.request.0 orderly known in
       omega arith
 
@@ -68,7 +70,8 @@ module _ (x : Extension) (h : IsPriceable x) (ob : IsOrderly x.before.now) (oa :
   tables_count = h.are_tables.count ∙ telescopes_same
 
   pub table_entries : (t : ℕ) → t < length x.snapshot.now.telescopes → All IsEntry (row x.tables.now t)
-  table_entries t l = entries_between before cs t ob (row x.tables.now t) (h.are_tables.each t (let same = telescopes_same in omega arith)) h.certified.price_range
+  table_entries t l = entries_between before cs t ob (row x.tables.now t)
+      (h.are_tables.each t (let same = telescopes_same in omega arith)) h.certified.price_range
 
   module _ (price : ℤ) (prices : List ℤ) (more : AreMorePrices x.claim.now price prices) where
     pub count_more : length prices ≡ length (listed x.snapshot.now)
@@ -84,7 +87,8 @@ module _ (x : Extension) (h : IsPriceable x) (ob : IsOrderly x.before.now) (oa :
     range_more = subst (All IsPriceInRange) (sym more.whole) (All-push IsPriceInRange cs price h.certified.price_range more.range)
 
     -- a table stays where the starts of the request give no more than it has
-    pub table_stays : (t : ℕ) → t < length x.snapshot.now.telescopes → (o : Offer) (flags : List Bool) → IsOfferOf x.snapshot.now prices q.request.0 o → IsOpenRow x.snapshot.now t q.request.0 flags → IsEnough o x.snapshot.now.first.0 flags (row x.tables.now t)
+    pub table_stays : (t : ℕ) → t < length x.snapshot.now.telescopes → (o : Offer) (flags : List Bool) → IsOfferOf x.snapshot.now prices q.request.0 o
+        → IsOpenRow x.snapshot.now t q.request.0 flags → IsEnough o x.snapshot.now.first.0 flags (row x.tables.now t)
         → IsTableOf x.snapshot.now prices t (row x.tables.now t)
     table_stays t l o flags offer open_row enough =
         let table : List ℤ = row x.tables.now t in
@@ -97,7 +101,8 @@ module _ (x : Extension) (h : IsPriceable x) (ob : IsOrderly x.before.now) (oa :
         let most : IsEnough o before.first.0 flags table = subst (λ (s : Parts). IsEnough o s.first.0 flags table) h.whole enough in
         let kept : IsTableOf after (cs ++ price ∷ []) t table = record {
           count = old.count;
-          from_slices = table_kept before h.group q h.only orderly cs price h.certified.price_count t (λ k. entry table (k - before.first.0)) (enough_for after (cs ++ price ∷ []) t q.request.0 o flags table offers flagged most) old.from_slices;
+          from_slices = table_kept before h.group q h.only orderly cs price h.certified.price_count t (λ k. entry table (k - before.first.0))
+              (enough_for after (cs ++ price ∷ []) t q.request.0 o flags table offers flagged most) old.from_slices;
         } in
         subst (λ (s : Parts). IsTableOf s prices t table) (sym h.whole) (subst (λ (ps : List ℤ). IsTableOf after ps t table) (sym more.whole) kept)
 
@@ -127,6 +132,7 @@ module _ (x : Extension) (h : IsPriceable x) (ob : IsOrderly x.before.now) (oa :
         (subst (λ (s : Parts). IsRebate s (net_price s prices us) (length before.groups) rebate) h.whole
         (subst (λ (g : ℕ). IsRebate x.snapshot.now (net_price x.snapshot.now prices us) g rebate) (ap (λ (n : ℕ). n - 1) all ∙ last_place) gives))
         in
-        let whole = bound_more before h.group q h.only ob orderly cs price h.certified.price_count us (pos x.claim.now.bound) old new rebate h.certified.bound olds there part in
+        let whole = bound_more before h.group q h.only ob orderly cs price h.certified.price_count us
+        (pos x.claim.now.bound) old new rebate h.certified.bound olds there part in
         subst (λ (s : Parts). IsBound s prices us (pos x.claim.now.bound -ℤ old +ℤ new +ℤ rebate)) (sym h.whole)
         (subst (λ (ps : List ℤ). IsBound after ps us (pos x.claim.now.bound -ℤ old +ℤ new +ℤ rebate)) (sym more.whole) whole)

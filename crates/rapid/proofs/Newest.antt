@@ -1,5 +1,6 @@
 -- The request of a group that a snapshot has at its end.
-use Rattle.std.proofs.Common.{◌≡◌, ℕ, ◌+◌, ◌-◌, ◌<◌, ◌≤◌, List, [], ◌∷◌, ◌++◌, length, map, slice_index_or, Contains, refl, sym, ◌∙◌, ap, subst, length-append, arith}
+use Rattle.std.proofs.Common.{◌≡◌, ℕ, ◌+◌, ◌-◌, ◌<◌, ◌≤◌, List, [], ◌∷◌, ◌++◌, length, map, slice_index_or, Contains, refl, sym, ◌∙◌, ap, subst}
+use Rattle.std.proofs.Common.{length-append, arith}
 use Rattle.std.specs.Prelude.{HoldsAt}
 use Rattle.std.proofs.lemmas.List.{get_or-append_right}
 use Rattle.std.proofs.lemmas.List.Elements.{All-contains, Contains-push}
@@ -26,7 +27,8 @@ one_request (q ∷ p ∷ xs) some few = absurd (omega arith)
 -- a SINGLE has one request
 pub only_request : (s : Parts) (group : GroupPart) → IsOrderly (with_group s group) → group.op ≡ Single → (q : RequestPart) × (group.requests ≡ q ∷ [])
 only_request s group o single =
-    let shape = All-contains (λ x. (1 ≤ length x.requests) × (length x.requests ≤ most_requests x.op)) (s.groups ++ group ∷ []) group o.shapes (Contains-push s.groups group) in
+    let shape = All-contains (λ x. (1 ≤ length x.requests) × (length x.requests ≤ most_requests x.op)) (s.groups ++ group ∷ []) group o.shapes
+    (Contains-push s.groups group) in
     one_request group.requests shape.0 (subst (λ (k : Op). length group.requests ≤ most_requests k) single shape.1)
 
 module _ (s : Parts) (group : GroupPart) (q : RequestPart) (only : group.requests ≡ q ∷ []) (o : IsOrderly (with_group s group)) where
@@ -41,10 +43,14 @@ module _ (s : Parts) (group : GroupPart) (q : RequestPart) (only : group.request
   none_after (x ∷ xs) = ap (λ (l : List Listed). x ∷ l) (none_after xs)
 
   pub listed_newest : listed after ≡ listed s ++ newest ∷ []
-  listed_newest = listed_after s group ∙ ap (λ (l : List Listed). listed s ++ l) (none_after (map (λ p. record { group = length s.groups; quota = group.quota; request = p }) group.requests) ∙ ap (map (λ (p : RequestPart). record { group = length s.groups; quota = group.quota; request = p })) only)
+  listed_newest = listed_after s group
+      ∙ ap (λ (l : List Listed). listed s ++ l)
+      (none_after (map (λ p. record { group = length s.groups; quota = group.quota; request = p }) group.requests)
+      ∙ ap (map (λ (p : RequestPart). record { group = length s.groups; quota = group.quota; request = p })) only)
 
   pub count_newest : length (listed after) ≡ length (listed s) + 1
-  count_newest = let e : length (listed after) ≡ length (listed s ++ newest ∷ []) = ap length listed_newest in let n = length-append (listed s) (newest ∷ []) in omega arith
+  count_newest = let e : length (listed after) ≡ length (listed s ++ newest ∷ []) = ap length listed_newest in
+      let n = length-append (listed s) (newest ∷ []) in omega arith
 
   in_list : Contains (listed after) newest
   in_list = subst (λ (l : List Listed). Contains l newest) (sym listed_newest) (Contains-push (listed s) newest)
@@ -59,7 +65,8 @@ module _ (s : Parts) (group : GroupPart) (q : RequestPart) (only : group.request
   newest_group = known_or_is (λ x. x.group) 0 after q.request.0 newest newest_known newest_as
 
   last_one : slice_index_or (listed after) (length (listed s)) newest ≡ newest
-  last_one = ap (λ (l : List Listed). slice_index_or l (length (listed s)) newest) listed_newest ∙ get_or-append_right (listed s) (newest ∷ []) (length (listed s)) (length (listed s)) newest refl (omega arith)
+  last_one = ap (λ (l : List Listed). slice_index_or l (length (listed s)) newest) listed_newest
+      ∙ get_or-append_right (listed s) (newest ∷ []) (length (listed s)) (length (listed s)) newest refl (omega arith)
       ∙ ap (λ (n : ℕ). slice_index_or (newest ∷ []) n newest) (none (length (listed s)))
     where
       none : (n : ℕ) → n - n ≡ 0
@@ -77,7 +84,8 @@ module _ (s : Parts) (group : GroupPart) (q : RequestPart) (only : group.request
   pub newest_single : group.op ≡ Single → IsKind after Single (group_of after q.request.0)
   newest_single single d =
       ap (λ (n : ℕ). (slice_index_or (s.groups ++ group ∷ []) n d).op) newest_group
-      ∙ ap (λ (x : GroupPart). x.op) (get_or-append_right s.groups (group ∷ []) (length s.groups) (length s.groups) d refl (omega arith) ∙ ap (λ (n : ℕ). slice_index_or (group ∷ []) n d) (none (length s.groups)))
+      ∙ ap (λ (x : GroupPart). x.op) (get_or-append_right s.groups (group ∷ []) (length s.groups) (length s.groups) d refl (omega arith)
+      ∙ ap (λ (n : ℕ). slice_index_or (group ∷ []) n d) (none (length s.groups)))
       ∙ single
     where
       none : (n : ℕ) → n - n ≡ 0

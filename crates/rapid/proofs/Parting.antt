@@ -1,11 +1,13 @@
 -- What stays of a plan where something has to go for a start.
-use Rattle.std.proofs.Common.{◌≡◌, ◌≢◌, ℕ, ◌+◌, ◌≤◌, inl, inr, Bool, true, false, cond, not, ◌==◌, ◌&&◌, List, [], ◌∷◌, ◌++◌, filter, slice_index_or, All, Contains, Some, None, Option, refl, sym, ◌∙◌, ap, subst, arith}
+use Rattle.std.proofs.Common.{◌≡◌, ◌≢◌, ℕ, ◌+◌, ◌≤◌, inl, inr, Bool, true, false, cond, not, ◌==◌, ◌&&◌, List, [], ◌∷◌, ◌++◌, filter, slice_index_or}
+use Rattle.std.proofs.Common.{All, Contains, Some, None, Option, refl, sym, ◌∙◌, ap, subst, arith}
 use Rattle.std.specs.Bool.{Decides}
 use Rattle.std.specs.List.{list_any}
 use Rattle.std.proofs.lemmas.Bool.{cases_Bool, and_parts, and_from, not_from_false, not-true, eqb-true, eq-eqb, both_ways}
 use Rattle.std.proofs.lemmas.Bool.Decides.{same_from_decides, Decides-not}
 use Rattle.std.proofs.lemmas.List.Folds.{Any-from_list_any, list_any-from_Any}
-use Rattle.std.proofs.lemmas.List.Elements.{All-contains, All-contains_itself, All-filter, filter_passes, Contains-get_or, Contains-append_left, Contains-push_cases}
+use Rattle.std.proofs.lemmas.List.Elements.{All-contains, All-contains_itself, All-filter, filter_passes, Contains-get_or, Contains-append_left}
+use Rattle.std.proofs.lemmas.List.Elements.{Contains-push_cases}
 use Rattle.plan_base.specs.declared.parts.Parts.{Parts}
 use Rattle.plan_base.specs.declared.parts.Op.{Op}
 use Rattle.plan_base.specs.declared.parts.Op.TheVariants.{Single, OneOf, And}
@@ -27,7 +29,9 @@ use Rattle.rapid.proofs.Appended.{same_filters}
 
 -- those of which P holds are one list
 pub one_part : {X : Type 0} (P : X → Type 0) (xs ys zs : List X) → IsPart P xs ys → IsPart P xs zs → ys ≡ zs
-one_part P xs ys zs a b = a.those ∙ same_filters a.test b.test xs (λ i d l. same_from_decides (a.test (slice_index_or xs i d)) (b.test (slice_index_or xs i d)) (a.tells i d l) (b.tells i d l)) ∙ sym b.those
+one_part P xs ys zs a b = a.those
+    ∙ same_filters a.test b.test xs
+    (λ i d l. same_from_decides (a.test (slice_index_or xs i d)) (b.test (slice_index_or xs i d)) (a.tells i d l) (b.tells i d l)) ∙ sym b.those
 
 -- what a filter keeps is in the list, and passes
 pub kept_in : {X : Type 0} (test : X → Bool) (xs : List X) (x : X) → Contains (filter test xs) x → Contains xs x × (test x ≡ true)
@@ -99,7 +103,8 @@ module _ (s : Parts) (plan : List Placement) (p : Placement) (o : IsOrderly s) (
   kept_request r c = contains_from_map (λ x. x.request.0) kept r c
 
   -- where one of an AND's placements has to go, so has each other
-  goes_too : (g : ℕ) (a q : Placement) → IsKind s And g → IsOf s g a.request.0 → IsOf s g q.request.0 → Contains plan a → HasToGo s plan p a → HasToGo s plan p q
+  goes_too : (g : ℕ) (a q : Placement) → IsKind s And g → IsOf s g a.request.0 → IsOf s g q.request.0 → Contains plan a
+      → HasToGo s plan p a → HasToGo s plan p q
   goes_too g a q kind of_a of_q (k, l, e) (inl share) = inr (k, a, l, e, (share, (g, kind, of_a, of_q)))
   goes_too g a q kind of_a of_q c (inr (k, b, l, e, (share, (h, kind_h, of_b, of_h)))) =
       let same : h ≡ g = sym of_h.1 ∙ of_a.1 in
@@ -129,19 +134,23 @@ module _ (s : Parts) (plan : List Placement) (p : Placement) (o : IsOrderly s) (
       feasible_known : (a : Placement) → Contains plan a → IsKnown s a.request.0
       feasible_known a c = (All-contains (IsPossibleStart s) plan a feasible.possible c).known
 
-  all_left : (g : ℕ) → list_any (in_group g) plan ≡ false → ((r : ℕ) → IsOf s g r → Contains (requests_of plan) r) → (r : ℕ) → IsOf s g r → Contains (requests_of (kept ++ p ∷ [])) r
+  all_left : (g : ℕ) → list_any (in_group g) plan ≡ false → ((r : ℕ) → IsOf s g r → Contains (requests_of plan) r) → (r : ℕ) → IsOf s g r
+      → Contains (requests_of (kept ++ p ∷ [])) r
   all_left g none all r of =
       let q = contains_from_map (λ x. x.request.0) plan r (all r of) in
       let group : group_of s q.0.request.0 ≡ g = ap (group_of s) q.2 ∙ of.1 in
       let stay : test q.0 ≡ false = elim (cases_Bool (test q.0)) [
-        | inl goes ↦ absurd (both_ways (list_any (in_group g) plan) none (list_any-from_Any (in_group g) plan (q.1.0, q.0, q.1.1, q.1.2, and_from (test q.0) (group_of s q.0.request.0 == g) goes (eq-eqb (group_of s q.0.request.0) g group))))
+        | inl goes ↦ absurd (both_ways (list_any (in_group g) plan) none
+            (list_any-from_Any (in_group g) plan
+            (q.1.0, q.0, q.1.1, q.1.2, and_from (test q.0) (group_of s q.0.request.0 == g) goes (eq-eqb (group_of s q.0.request.0) g group))))
         | inr not_gone ↦ not_gone
       ] in
       let there : Contains kept q.0 = contains_filter (λ x. not (test x)) plan q.0 q.1 (not_from_false (test q.0) stay) in
       subst (λ (rs : List ℕ). Contains rs r) (sym (requests_push kept p))
       (Contains-append_left (requests_of kept) (p.request.0 ∷ []) r (subst (Contains (requests_of kept)) q.2 (contains_map (λ x. x.request.0) kept q.0 there)))
 
-  none_more : (g : ℕ) → IsKind s And g → ((r : ℕ) → IsOf s g r → ¬ (Contains (requests_of plan) r)) → (r : ℕ) → IsOf s g r → ¬ (Contains (requests_of (kept ++ p ∷ [])) r)
+  none_more : (g : ℕ) → IsKind s And g → ((r : ℕ) → IsOf s g r → ¬ (Contains (requests_of plan) r)) → (r : ℕ) → IsOf s g r
+      → ¬ (Contains (requests_of (kept ++ p ∷ [])) r)
   none_more g kind none r of c = elim (Contains-push_cases (requests_of kept) p.request.0 r (subst (λ (rs : List ℕ). Contains rs r) (requests_push kept p) c)) [
     | inl d ↦ let q = kept_request r d in none r of (subst (Contains (requests_of plan)) q.2 (contains_map (λ x. x.request.0) plan q.0 (stays q.0 q.1).0))
     | inr e ↦ of_none And g and_single kind (subst (IsOf s g) (sym e) of)
@@ -152,19 +161,24 @@ module _ (s : Parts) (plan : List Placement) (p : Placement) (o : IsOrderly s) (
   whole g kind (inr none) = inr (none_more g kind none)
 
   -- what stays of the plan, with the start, is feasible where the start's seconds can be added within its quota
-  pub feasible_with : ((q : ℕ) → quota_of s p.request.0 ≡ Some q → quota_seconds s q (requests_of kept) + seconds_of s p.request.0 ≤ quota_at s q) → IsFeasible s (kept ++ p ∷ [])
+  pub feasible_with : ((q : ℕ) → quota_of s p.request.0 ≡ Some q → quota_seconds s q (requests_of kept) + seconds_of s p.request.0 ≤ quota_at s q)
+      → IsFeasible s (kept ++ p ∷ [])
   feasible_with room = feasible_from_whole s (kept ++ p ∷ []) (so_far_push s kept p so_far possible fits) (λ g kind. whole g kind (feasible.and_whole g kind))
     where
       fits : FitsPlan s kept p
       fits = record {
-        unplaced = λ i d l e. (let q = kept_request (slice_index_or (requests_of kept) i d) (Contains-get_or (requests_of kept) i d l) in not_kept q.0 q.1 (q.2 ∙ e));
+        unplaced = λ i d l e. (let q = kept_request (slice_index_or (requests_of kept) i d) (Contains-get_or (requests_of kept) i d l) in
+            not_kept q.0 q.1 (q.2 ∙ e));
         apart = λ i d l. apart (slice_index_or kept i d) (Contains-get_or kept i d l);
         oneof_free = λ i d l (g, kind, left, right). of_none OneOf g one_of_single kind right;
-        quota_free = λ q l. quota_room q (quota_seconds s q (requests_of kept)) (quota_at s q) (seconds_of s p.request.0) (quota_of s p.request.0) (room q) (so_far.within_quotas q l);
+        quota_free = λ q l. quota_room q (quota_seconds s q (requests_of kept)) (quota_at s q) (seconds_of s p.request.0) (quota_of s p.request.0)
+            (room q) (so_far.within_quotas q l);
       }
 
   -- and only there
-  pub room_where : IsFeasible s (kept ++ p ∷ []) → (q : ℕ) → quota_of s p.request.0 ≡ Some q → quota_seconds s q (requests_of kept) + seconds_of s p.request.0 ≤ quota_at s q
+  pub room_where : IsFeasible s (kept ++ p ∷ []) → (q : ℕ) → quota_of s p.request.0 ≡ Some q
+      → quota_seconds s q (requests_of kept) + seconds_of s p.request.0 ≤ quota_at s q
   room_where f q e =
       let fits = fits_from_push s kept p (so_far_from_feasible s (kept ++ p ∷ []) f) in
-      room_of q (quota_seconds s q (requests_of kept)) (quota_at s q) (seconds_of s p.request.0) (quota_of s p.request.0) e (fits.quota_free q (quota_known s p.request.0 o possible.known q e))
+      room_of q (quota_seconds s q (requests_of kept)) (quota_at s q) (seconds_of s p.request.0) (quota_of s p.request.0) e
+      (fits.quota_free q (quota_known s p.request.0 o possible.known q e))

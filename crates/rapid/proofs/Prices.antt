@@ -1,5 +1,6 @@
 -- Prices with one more at their end say the same of the requests that a snapshot had.
-use Rattle.std.proofs.Common.{◌≡◌, ℕ, ◌-◌, ◌⊎◌, inl, inr, ℤ, pos, ◌+ℤ◌, ◌-ℤ◌, List, [], ◌∷◌, ◌++◌, length, slice_index_or, Option, None, All, Contains, refl, sym, ◌∙◌, ap, subst, arith}
+use Rattle.std.proofs.Common.{◌≡◌, ℕ, ◌-◌, ◌⊎◌, inl, inr, ℤ, pos, ◌+ℤ◌, ◌-ℤ◌, List, [], ◌∷◌, ◌++◌, length, slice_index_or, Option, None, All, Contains}
+use Rattle.std.proofs.Common.{refl, sym, ◌∙◌, ap, subst, arith}
 use Rattle.std.proofs.lemmas.List.{get_or_append_left, get_or-append_right}
 use Rattle.std.proofs.lemmas.List.Elements.{All-head, All-tail, Contains-append_cases}
 use Rattle.plan_base.specs.declared.parts.Parts.{Parts}
@@ -21,9 +22,11 @@ use Rattle.rapid.proofs.Newest.{listed_newest, newest_place}
 -- functions that agree on each element have the same sum
 pub same_totals : {X : Type 0} (f g : X → ℤ) (xs : List X) → All (λ x. f x ≡ g x) xs → total f xs ≡ total g xs
 same_totals f g [] a = refl
-same_totals f g (x ∷ xs) a = ap (λ (n : ℤ). n +ℤ total f xs) (All-head (λ y. f y ≡ g y) x xs a) ∙ ap (λ (n : ℤ). g x +ℤ n) (same_totals f g xs (All-tail (λ y. f y ≡ g y) x xs a))
+same_totals f g (x ∷ xs) a = ap (λ (n : ℤ). n +ℤ total f xs) (All-head (λ y. f y ≡ g y) x xs a)
+    ∙ ap (λ (n : ℤ). g x +ℤ n) (same_totals f g xs (All-tail (λ y. f y ≡ g y) x xs a))
 
-module _ (s : Parts) (group : GroupPart) (q : RequestPart) (only : group.requests ≡ q ∷ []) (o : IsOrderly (with_group s group)) (cs : List ℤ) (c : ℤ) (count : length cs ≡ length (listed s)) where
+module _ (s : Parts) (group : GroupPart) (q : RequestPart) (only : group.requests ≡ q ∷ []) (o : IsOrderly (with_group s group)) (cs : List ℤ) (c : ℤ)
+    (count : length cs ≡ length (listed s)) where
   abbrev after : Parts
   after = with_group s group
 
@@ -46,7 +49,8 @@ module _ (s : Parts) (group : GroupPart) (q : RequestPart) (only : group.request
       ]
 
   pub price_kept : (r : ℕ) → IsKnown s r → price after prices r ≡ price s cs r
-  price_kept r k = ap (λ (n : ℕ). slice_index_or prices n (pos 0)) (place_kept s group r k) ∙ get_or_append_left cs (c ∷ []) (pos 0) (place_of s r) (omega arith)
+  price_kept r k = ap (λ (n : ℕ). slice_index_or prices n (pos 0)) (place_kept s group r k)
+      ∙ get_or_append_left cs (c ∷ []) (pos 0) (place_of s r) (omega arith)
 
   pub price_newest : price after prices q.request.0 ≡ c
   price_newest =
@@ -58,7 +62,8 @@ module _ (s : Parts) (group : GroupPart) (q : RequestPart) (only : group.request
       none xs e = omega arith
 
   pub weight_kept : (p : Placement) → IsKnown s p.request.0 → weight after prices p ≡ weight s cs p
-  weight_kept p k = ap (λ (n : ℕ). pos n -ℤ price after prices p.request.0) (worth_kept s group p k) ∙ ap (λ (z : ℤ). pos (worth_at s p) -ℤ z) (price_kept p.request.0 k)
+  weight_kept p k = ap (λ (n : ℕ). pos n -ℤ price after prices p.request.0) (worth_kept s group p k)
+      ∙ ap (λ (z : ℤ). pos (worth_at s p) -ℤ z) (price_kept p.request.0 k)
 
   pub net_kept : (us : List ℕ) (r : ℕ) → IsKnown s r → net_price after prices us r ≡ net_price s cs us r
   net_kept us r k =

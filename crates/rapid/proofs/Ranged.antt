@@ -16,10 +16,12 @@ use Rattle.rapid.specs.Refused.{IsGroupInRanges}
 use Rattle.rapid.proofs.Appended.{listed_after}
 
 all_left : {X : Type 0} (P : X → Type 0) (xs ys : List X) → All P (xs ++ ys) → All P xs
-all_left P xs ys all i d l = let count : length (xs ++ ys) ≡ length xs + length ys = length-append xs ys in subst P (get_or_append_left xs ys d i l) (all i d (omega arith))
+all_left P xs ys all i d l = let count : length (xs ++ ys) ≡ length xs + length ys = length-append xs ys in
+    subst P (get_or_append_left xs ys d i l) (all i d (omega arith))
 
 all_right : {X : Type 0} (P : X → Type 0) (xs ys : List X) → All P (xs ++ ys) → All P ys
-all_right P xs ys all i d l = let count : length (xs ++ ys) ≡ length xs + length ys = length-append xs ys in subst P (get_or-append-add xs ys i d) (all (length xs + i) d (omega arith))
+all_right P xs ys all i d l = let count : length (xs ++ ys) ≡ length xs + length ys = length-append xs ys in
+    subst P (get_or-append-add xs ys i d) (all (length xs + i) d (omega arith))
 
 module _ (s : Parts) (group : GroupPart) (ranges : IsInRanges s) (of_group : IsGroupInRanges group) where
   abbrev more : List Listed
@@ -31,7 +33,8 @@ module _ (s : Parts) (group : GroupPart) (ranges : IsInRanges s) (of_group : IsG
       (All-map (λ x. P x.request) (λ q. record { group = length s.groups; quota = group.quota; request = q }) group.requests a) (All-nil (λ x. P x.request))
 
   listed_both : (P : RequestPart → Type 0) → All (λ x. P x.request) (listed s) → All P group.requests → All (λ x. P x.request) (listed (with_group s group))
-  listed_both P a b = subst (λ (xs : List Listed). All (λ x. P x.request) xs) (sym (listed_after s group)) (All-append (λ x. P x.request) (listed s) more a (listed_new P b))
+  listed_both P a b = subst (λ (xs : List Listed). All (λ x. P x.request) xs) (sym (listed_after s group))
+      (All-append (λ x. P x.request) (listed s) more a (listed_new P b))
 
   abbrev others : List Span
   others = flat_map (λ t. t.usable) s.telescopes ++ flat_map (λ y. y.spans) s.skies
@@ -62,5 +65,6 @@ module _ (s : Parts) (group : GroupPart) (ranges : IsInRanges s) (of_group : IsG
   }
 
 -- parts to whose groups the group was added
-pub built_is : (s parts : Parts) (group : GroupPart) (groups : List GroupPart) → parts ≡ s → groups ≡ parts.groups ++ group ∷ [] → record parts { groups = groups } ≡ with_group s group
+pub built_is : (s parts : Parts) (group : GroupPart) (groups : List GroupPart) → parts ≡ s → groups ≡ parts.groups ++ group ∷ []
+    → record parts { groups = groups } ≡ with_group s group
 built_is s parts group groups e f = ap (λ (gs : List GroupPart). record parts { groups = gs }) f ∙ ap (λ (x : Parts). with_group x group) e

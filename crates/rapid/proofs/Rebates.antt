@@ -45,7 +45,8 @@ module _ (s : Parts) (group : GroupPart) (before : IsOrderly s) where
     whole = λ kind. whole_more g rs (h.whole (kind_more And g l kind));
   }
 
-  module _ (q : RequestPart) (only : group.requests ≡ q ∷ []) (o : IsOrderly (with_group s group)) (cs : List ℤ) (c : ℤ) (count : length cs ≡ length (listed s)) (us : List ℕ) where
+  module _ (q : RequestPart) (only : group.requests ≡ q ∷ []) (o : IsOrderly (with_group s group)) (cs : List ℤ) (c : ℤ)
+      (count : length cs ≡ length (listed s)) (us : List ℕ) where
     abbrev net_after : ℕ → ℤ
     net_after = net_price after (cs ++ c ∷ []) us
 

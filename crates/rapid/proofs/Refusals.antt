@@ -31,4 +31,5 @@ single_from false o fault e = cc
 
 -- what isn't refused is a SINGLE
 pub accepted_single : (s : Parts) (group : GroupPart) → refusal_of s group ≡ None → group.op ≡ Single
-accepted_single s group e = single_by group.op (single_from (is_single group.op) (option_map (λ f. Snapshot f) (fault_of (with_group s group))) (NotSingle group.group) e)
+accepted_single s group e = single_by group.op
+    (single_from (is_single group.op) (option_map (λ f. Snapshot f) (fault_of (with_group s group))) (NotSingle group.group) e)

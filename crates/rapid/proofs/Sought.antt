@@ -1,5 +1,6 @@
 -- Starts are looked at by slice, then telescope.
-use Rattle.std.proofs.Common.{◌≡◌, ℕ, ◌+◌, ◌<◌, ◌≤◌, inl, inr, Some, None, Option, List, [], ◌∷◌, ◌++◌, length, slice_index_or, AllPairs, Contains, sym, ◌∙◌, ap, subst, arith}
+use Rattle.std.proofs.Common.{◌≡◌, ℕ, ◌+◌, ◌<◌, ◌≤◌, inl, inr, Some, None, Option, List, [], ◌∷◌, ◌++◌, length, slice_index_or, AllPairs, Contains}
+use Rattle.std.proofs.Common.{sym, ◌∙◌, ap, subst, arith}
 use Rattle.std.specs.Option.{MatchOption}
 use Rattle.std.proofs.lemmas.Bool.{cases_lt, cases_order}
 use Rattle.std.proofs.lemmas.List.{get_or_default}
@@ -35,16 +36,20 @@ telescopes_rise : (s : Parts) (r : ℕ) → IsOrderly s → IsKnown s r → AllP
 telescopes_rise s r o k = known_has (λ (ts : List TelescopeNo). AllPairs (λ a b. a.0 < b.0) ts) (λ x. x.request.telescopes) [] s r o.telescopes_rise k
 
 -- of telescopes that rise, one below that at place i stands before it
-before_place : (ts : List TelescopeNo) (i : ℕ) (t : TelescopeNo) → AllPairs (λ a b. a.0 < b.0) ts → i < length ts → Contains ts t → t.0 < (slice_index_or ts i t).0 → (k : ℕ) × (k < i) × (slice_index_or ts k t ≡ t)
+before_place : (ts : List TelescopeNo) (i : ℕ) (t : TelescopeNo) → AllPairs (λ a b. a.0 < b.0) ts → i < length ts → Contains ts t
+    → t.0 < (slice_index_or ts i t).0 → (k : ℕ) × (k < i) × (slice_index_or ts k t ≡ t)
 before_place ts i t rise l (k, m, e) less = elim (cases_order k i) [
-  | inl same ↦ let at : (slice_index_or ts i t).0 ≡ t.0 = ap (λ (n : ℕ). (slice_index_or ts n t).0) (sym same) ∙ ap (λ (x : TelescopeNo). x.0) e in absurd (omega arith)
+  | inl same ↦ let at : (slice_index_or ts i t).0 ≡ t.0 = ap (λ (n : ℕ). (slice_index_or ts n t).0) (sym same) ∙ ap (λ (x : TelescopeNo). x.0) e in
+      absurd (omega arith)
   | inr other ↦ elim other [
     | inl below ↦ (k, below, e)
-    | inr above ↦ let more : (slice_index_or ts i t).0 < (slice_index_or ts k t).0 = rise i k t above m in let at : (slice_index_or ts k t).0 ≡ t.0 = ap (λ (x : TelescopeNo). x.0) e in absurd (omega arith)
+    | inr above ↦ let more : (slice_index_or ts i t).0 < (slice_index_or ts k t).0 = rise i k t above m in
+        let at : (slice_index_or ts k t).0 ≡ t.0 = ap (λ (x : TelescopeNo). x.0) e in absurd (omega arith)
   ]
 ]
 
-module _ (s : Parts) (held : List Held) (request : RequestNo) (slice : SliceNo) (o : IsOrderly s) (known : IsKnown s request.0) (ts : List TelescopeNo) (are : telescopes_of s request.0 ≡ ts) where
+module _ (s : Parts) (held : List Held) (request : RequestNo) (slice : SliceNo) (o : IsOrderly s) (known : IsKnown s request.0)
+    (ts : List TelescopeNo) (are : telescopes_of s request.0 ≡ ts) where
   abbrev QualifiesOn : TelescopeNo → Type 0
   QualifiesOn t = Qualifies s (plan_of held) (start_on request slice t)
 
@@ -54,13 +59,15 @@ module _ (s : Parts) (held : List Held) (request : RequestNo) (slice : SliceNo) 
   pub none_at : (i : ℕ) → length ts ≤ i → ((k : ℕ) (d : TelescopeNo) → k < i → ¬ (QualifiesOn (slice_index_or ts k d))) → (t : TelescopeNo) → ¬ (QualifiesOn t)
   none_at i l none t h = let c = able t h in none c.0 t (let m = c.1 in omega arith) (subst QualifiesOn (sym c.2) h)
 
-  pub none_next : (i : ℕ) (d : TelescopeNo) → i < length ts → ((k : ℕ) (e : TelescopeNo) → k < i → ¬ (QualifiesOn (slice_index_or ts k e))) → ¬ (QualifiesOn (slice_index_or ts i d)) → (k : ℕ) (e : TelescopeNo) → k < i + 1 → ¬ (QualifiesOn (slice_index_or ts k e))
+  pub none_next : (i : ℕ) (d : TelescopeNo) → i < length ts → ((k : ℕ) (e : TelescopeNo) → k < i → ¬ (QualifiesOn (slice_index_or ts k e)))
+      → ¬ (QualifiesOn (slice_index_or ts i d)) → (k : ℕ) (e : TelescopeNo) → k < i + 1 → ¬ (QualifiesOn (slice_index_or ts k e))
   none_next i d l none here k e less h = elim (cases_lt k i) [
     | inl below ↦ none k e below h
     | inr above ↦ let at : k ≡ i = omega arith in here (subst QualifiesOn (ap (λ (n : ℕ). slice_index_or ts n e) at ∙ get_or_default ts i e d l) h)
   ]
 
-  pub one_at : (i : ℕ) (telescope d : TelescopeNo) (found : Found) → i < length ts → telescope ≡ slice_index_or ts i d → ((k : ℕ) (e : TelescopeNo) → k < i → ¬ (QualifiesOn (slice_index_or ts k e)))
+  pub one_at : (i : ℕ) (telescope d : TelescopeNo) (found : Found) → i < length ts → telescope ≡ slice_index_or ts i d
+      → ((k : ℕ) (e : TelescopeNo) → k < i → ¬ (QualifiesOn (slice_index_or ts k e)))
       → IsFound s held (start_on request slice telescope) found → IsFirstAt s held request slice (Some found)
   one_at i telescope d found l is none h = (
     telescope,
@@ -68,7 +75,8 @@ module _ (s : Parts) (held : List Held) (request : RequestNo) (slice : SliceNo) 
     (λ t less q.
         let c = able t q in
         let here : telescope ≡ slice_index_or ts i t = is ∙ get_or_default ts i d t l in
-        let place = before_place ts i t (subst (AllPairs (λ a b. a.0 < b.0)) are (telescopes_rise s request.0 o known)) l c (subst (λ (x : TelescopeNo). t.0 < x.0) here less) in
+        let place = before_place ts i t (subst (AllPairs (λ a b. a.0 < b.0)) are (telescopes_rise s request.0 o known)) l c
+        (subst (λ (x : TelescopeNo). t.0 < x.0) here less) in
         none place.0 t place.1 (subst QualifiesOn (sym place.2) q)),
   )
 

@@ -1,5 +1,6 @@
 -- What is known once a plan is held.
-use Rattle.std.proofs.Common.{◌≡◌, ℕ, ◌+◌, ◌*◌, ◌<◌, ◌≤◌, ◌^◌, Option, Some, None, List, [], ◌∷◌, length, map, sum_by, All, Contains, refl, sym, ◌∙◌, ap, subst, arith}
+use Rattle.std.proofs.Common.{◌≡◌, ℕ, ◌+◌, ◌*◌, ◌<◌, ◌≤◌, ◌^◌, Option, Some, None, List, [], ◌∷◌, length, map, sum_by, All, Contains, refl, sym, ◌∙◌}
+use Rattle.std.proofs.Common.{ap, subst, arith}
 use Rattle.std.proofs.lemmas.List.{length-map}
 use Rattle.std.proofs.lemmas.List.Elements.{All-head, All-tail}
 use Rattle.std.proofs.lemmas.List.Sums.{sum_by-cons}
@@ -41,7 +42,8 @@ again s u (p ∷ plan) = ap (λ (ps : List Placement). p ∷ ps) (again s u plan
 pub held_again : (s : Parts) (u : Option ℕ) (plan : List Placement) (held : List Held) → held ≡ map (held_of s u) plan → plan_of held ≡ plan
 held_again s u plan held e = ap plan_of e ∙ again s u plan
 
-pub staged : (s : Parts) (plan : List Placement) (r : ℕ) (u : Option ℕ) (held : List Held) → IsOrderly s → IsReady s plan r → u ≡ quota_of s r → held ≡ map (held_of s u) plan
+pub staged : (s : Parts) (plan : List Placement) (r : ℕ) (u : Option ℕ) (held : List Held) → IsOrderly s → IsReady s plan r → u ≡ quota_of s r
+    → held ≡ map (held_of s u) plan
     → All (HasPlaceBelow (length s.groups)) held → All (λ h. h.worth ≤ 288000000) held → All (λ h. h.counted ≤ 86400) held → IsStage s r held
 staged s plan r u held o ready quota e places worths counts =
     let same : plan ≡ plan_of held = sym (held_again s u plan held e) in
@@ -58,8 +60,10 @@ staged s plan r u held o ready quota e places worths counts =
       counts = small (length held) 86400 (sum_by (λ h. h.counted) held) (sum_at_most (λ h. h.counted) 86400 held counts) (omega arith) (omega arith);
     }
 
-pub sought_some : (s : Parts) (held hs : List Held) (r : ℕ) (found : Option Found) (x : Found) → IsSought s held r found → found ≡ Some x → held ≡ hs → IsEarliestFound s hs r x
+pub sought_some : (s : Parts) (held hs : List Held) (r : ℕ) (found : Option Found) (x : Found) → IsSought s held r found → found ≡ Some x → held ≡ hs
+    → IsEarliestFound s hs r x
 sought_some s held hs r found x h e same = subst (λ (ys : List Held). IsEarliestFound s ys r x) same (subst (IsSought s held r) e h)
 
-pub sought_none : (s : Parts) (held : List Held) (plan : List Placement) (r : ℕ) (found : Option Found) → IsSought s held r found → found ≡ None → plan_of held ≡ plan → HasNoPlace s plan r
+pub sought_none : (s : Parts) (held : List Held) (plan : List Placement) (r : ℕ) (found : Option Found) → IsSought s held r found → found ≡ None
+    → plan_of held ≡ plan → HasNoPlace s plan r
 sought_none s held plan r found h e same = subst (λ (xs : List Placement). HasNoPlace s xs r) same (subst (IsSought s held r) e h)

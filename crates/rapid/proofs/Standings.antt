@@ -12,7 +12,8 @@ use Rattle.rapid.specs.Insertion.{IsInsertion}
 use Rattle.rapid.specs.Inside.{standing}
 
 -- what was displaced before doesn't matter
-pub insertion_from : (before after : Standing) (group : GroupPart) (answer : Inserted) → IsInsertion (standing before.snapshot before.claim) group answer after → IsInsertion before group answer after
+pub insertion_from : (before after : Standing) (group : GroupPart) (answer : Inserted)
+    → IsInsertion (standing before.snapshot before.claim) group answer after → IsInsertion before group answer after
 insertion_from before after group answer h = record {
   request = h.request;
   only = h.only;
@@ -28,7 +29,8 @@ insertion_from before after group answer h = record {
 yes_not_no : (value bound : ℕ) (reason : Reason) → Yes value bound ≡ No reason → ⊥
 yes_not_no value bound reason e = cc
 
-first_certified : (s : Parts) (claim : Claim) (value bound : ℕ) (found : Option Reason) → IsFirstReason s claim found → Yes value bound ≡ verdict_of claim found → IsCertified s claim
+first_certified : (s : Parts) (claim : Claim) (value bound : ℕ) (found : Option Reason) → IsFirstReason s claim found
+    → Yes value bound ≡ verdict_of claim found → IsCertified s claim
 first_certified s claim value bound None first e = first
 first_certified s claim value bound (Some reason) first e = absurd (yes_not_no value bound reason e)
 

@@ -1,5 +1,6 @@
 -- What a telescope gives from each slice on stays where no start of a new request gives more.
-use Rattle.std.proofs.Common.{◌≡◌, ℕ, ◌+◌, ◌*◌, ◌-◌, ◌<◌, ◌≤◌, inl, inr, Bool, ℤ, ◌+ℤ◌, ◌≤ℤ◌, List, [], ◌∷◌, ◌++◌, length, All, Any, Contains, sym, ◌∙◌, ap, subst, arith}
+use Rattle.std.proofs.Common.{◌≡◌, ℕ, ◌+◌, ◌*◌, ◌-◌, ◌<◌, ◌≤◌, inl, inr, Bool, ℤ, ◌+ℤ◌, ◌≤ℤ◌, List, [], ◌∷◌, ◌++◌, length, All, Any, Contains, sym}
+use Rattle.std.proofs.Common.{◌∙◌, ap, subst, arith}
 use Rattle.std.proofs.lemmas.List.Elements.{All-weaker}
 use Rattle.plan_base.specs.declared.parts.Parts.{Parts}
 use Rattle.plan_base.specs.declared.parts.GroupPart.{GroupPart}
@@ -39,27 +40,34 @@ module _ (s : Parts) (group : GroupPart) where
         begins = h.begins;
         ends = subst (λ (n : ℕ). p.slice.0 + slices_for s.len n ≤ s.first.0 + s.slices) seconds h.ends;
         window = subst (λ (n : ℕ). Any (λ (w : Span). (w.from.0 ≤ p.slice.0 * s.len) × (p.slice.0 * s.len + n ≤ w.to.0)) (windows_of s r)) seconds
-            (subst (λ (ws : List Span). Any (λ (w : Span). (w.from.0 ≤ p.slice.0 * s.len) × (p.slice.0 * s.len + seconds_of after r ≤ w.to.0)) ws) (kept s group (λ x. x.request.windows) [] r k) h.window);
+            (subst (λ (ws : List Span). Any (λ (w : Span). (w.from.0 ≤ p.slice.0 * s.len) × (p.slice.0 * s.len + seconds_of after r ≤ w.to.0)) ws)
+            (kept s group (λ x. x.request.windows) [] r k) h.window);
         usable = λ x o. h.usable x (observed_more p x k o);
-        visible = subst (λ (ts : List TargetNo). All (λ target. (x : ℕ) → IsObserved s p x → IsVisible s target.0 (site_of s p.telescope.0) x) ts) (kept s group (λ x. x.request.targets) [] r k)
-            (All-weaker (λ target. (x : ℕ) → IsObserved after p x → IsVisible s target.0 (site_of s p.telescope.0) x) (λ target. (x : ℕ) → IsObserved s p x → IsVisible s target.0 (site_of s p.telescope.0) x)
+        visible = subst (λ (ts : List TargetNo). All (λ target. (x : ℕ) → IsObserved s p x → IsVisible s target.0 (site_of s p.telescope.0) x) ts)
+            (kept s group (λ x. x.request.targets) [] r k)
+            (All-weaker (λ target. (x : ℕ) → IsObserved after p x → IsVisible s target.0 (site_of s p.telescope.0) x)
+            (λ target. (x : ℕ) → IsObserved s p x → IsVisible s target.0 (site_of s p.telescope.0) x)
             (λ target v x o. v x (observed_more p x k o)) (targets_of after r) h.visible);
       }
 
 -- what the flags of a request's starts say of its starts
-pub enough_for : (s : Parts) (prices : List ℤ) (t r : ℕ) (o : Offer) (flags : List Bool) (table : List ℤ) → IsOfferOf s prices r o → IsOpenRow s t r flags → IsEnough o s.first.0 flags table
+pub enough_for : (s : Parts) (prices : List ℤ) (t r : ℕ) (o : Offer) (flags : List Bool) (table : List ℤ) → IsOfferOf s prices r o
+    → IsOpenRow s t r flags → IsEnough o s.first.0 flags table
     → (p : Placement) → IsStartAt s t r p → (weight s prices p +ℤ entry table (slice_after s p - s.first.0)) ≤ℤ entry table (p.slice.0 - s.first.0)
 enough_for s prices t r o flags table offer open_row enough p start =
     let begins : s.first.0 ≤ p.slice.0 = start.start.possible.begins in
     let at : p.slice.0 ≡ s.first.0 + (p.slice.0 - s.first.0) = omega arith in
-    let most : (offer_weight o (s.first.0 + (p.slice.0 - s.first.0)) +ℤ entry table (p.slice.0 - s.first.0 + o.size)) ≤ℤ entry table (p.slice.0 - s.first.0) = enough (p.slice.0 - s.first.0) ((open_row.each (p.slice.0 - s.first.0)).1 (p, start, at)) in
-    let weighs : offer_weight o (s.first.0 + (p.slice.0 - s.first.0)) ≡ weight s prices p = ap (offer_weight o) (sym at) ∙ offer.weighs p start.start.same_request begins in
+    let most : (offer_weight o (s.first.0 + (p.slice.0 - s.first.0)) +ℤ entry table (p.slice.0 - s.first.0 + o.size))
+    ≤ℤ entry table (p.slice.0 - s.first.0) = enough (p.slice.0 - s.first.0) ((open_row.each (p.slice.0 - s.first.0)).1 (p, start, at)) in
+    let weighs : offer_weight o (s.first.0 + (p.slice.0 - s.first.0)) ≡ weight s prices p = ap (offer_weight o) (sym at)
+    ∙ offer.weighs p start.start.same_request begins in
     let size : o.size ≡ size_of s p.request.0 = offer.size ∙ ap (size_of s) (sym start.start.same_request) in
     let ends : p.slice.0 - s.first.0 + o.size ≡ slice_after s p - s.first.0 = omega arith in
     subst (λ (w : ℤ). (w +ℤ entry table (slice_after s p - s.first.0)) ≤ℤ entry table (p.slice.0 - s.first.0)) weighs
     (subst (λ (k : ℕ). (offer_weight o (s.first.0 + (p.slice.0 - s.first.0)) +ℤ entry table k) ≤ℤ entry table (p.slice.0 - s.first.0)) ends most)
 
-module _ (s : Parts) (group : GroupPart) (q : RequestPart) (only : group.requests ≡ q ∷ []) (o : IsOrderly (with_group s group)) (cs : List ℤ) (c : ℤ) (count : length cs ≡ length (listed s)) where
+module _ (s : Parts) (group : GroupPart) (q : RequestPart) (only : group.requests ≡ q ∷ []) (o : IsOrderly (with_group s group)) (cs : List ℤ) (c : ℤ)
+    (count : length cs ≡ length (listed s)) where
   abbrev extended : Parts
   extended = with_group s group
 
@@ -93,7 +101,8 @@ module _ (s : Parts) (group : GroupPart) (q : RequestPart) (only : group.request
         p,
         record { possible = possible_kept s group p start.possible; same_telescope = start.same_telescope },
         at,
-        e ∙ ap (λ (w : ℤ). w +ℤ table (slice_after s p)) (sym (weighs_same p start.possible.known)) ∙ ap (λ (n : ℕ). weight extended prices p +ℤ table n) (sym (after_kept p start.possible.known)),
+        e ∙ ap (λ (w : ℤ). w +ℤ table (slice_after s p)) (sym (weighs_same p start.possible.known))
+            ∙ ap (λ (n : ℕ). weight extended prices p +ℤ table n) (sym (after_kept p start.possible.known)),
       )
     ];
   }

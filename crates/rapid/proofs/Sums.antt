@@ -8,8 +8,10 @@ chosen p f [] = refl
 chosen p f (x ∷ xs) =
     let rest : sum_by f (filter p xs) ≡ sum_by (λ y. cond (p y) (f y) 0) xs = chosen p f xs in
     let more : sum_by f (x ∷ filter p xs) ≡ f x + sum_by f (filter p xs) = sum_by-cons f x (filter p xs) in
-    let here : sum_by (λ y. cond (p y) (f y) 0) (x ∷ xs) ≡ cond (p x) (f x) 0 + sum_by (λ y. cond (p y) (f y) 0) xs = sum_by-cons (λ y. cond (p y) (f y) 0) x xs in
-    (elim (p x) as (λ b. sum_by f (cond b (x ∷ filter p xs) (filter p xs)) ≡ cond b (f x) 0 + sum_by (λ y. cond (p y) (f y) 0) xs) [ true ↦ omega arith | false ↦ omega arith ]) ∙ sym here
+    let here : sum_by (λ y. cond (p y) (f y) 0) (x ∷ xs) ≡ cond (p x) (f x) 0 + sum_by (λ y. cond (p y) (f y) 0) xs =
+    sum_by-cons (λ y. cond (p y) (f y) 0) x xs in
+    (elim (p x) as (λ b. sum_by f (cond b (x ∷ filter p xs) (filter p xs)) ≡ cond b (f x) 0 + sum_by (λ y. cond (p y) (f y) 0) xs)
+    [ true ↦ omega arith | false ↦ omega arith ]) ∙ sym here
 
 pub part_of : (b : Bool) (n : ℕ) → cond b n 0 ≤ n
 part_of true n = omega arith

@@ -1,5 +1,6 @@
 -- The tests over what is held tell what has to go for a start.
-use Rattle.std.proofs.Common.{◌≡◌, ◌≢◌, ℕ, ◌<◌, ◌⊎◌, inl, inr, Bool, true, false, ◌==◌, ◌&&◌, ◌||◌, nat_lt, List, [], ◌∷◌, length, map, slice_index_or, All, Any, Some, None, Option, refl, sym, ◌∙◌, ap, subst, arith}
+use Rattle.std.proofs.Common.{◌≡◌, ◌≢◌, ℕ, ◌<◌, ◌⊎◌, inl, inr, Bool, true, false, ◌==◌, ◌&&◌, ◌||◌, nat_lt, List, [], ◌∷◌, length, map, slice_index_or}
+use Rattle.std.proofs.Common.{All, Any, Some, None, Option, refl, sym, ◌∙◌, ap, subst, arith}
 use Rattle.std.specs.Bool.{Decides}
 use Rattle.std.specs.List.{list_any}
 use Rattle.std.proofs.lemmas.Bool.{cases_lt, and_parts, and_from, eqb-true, eq-eqb}
@@ -28,7 +29,8 @@ use Rattle.rapid.specs.Held.{and_at, and_of, held_of, meets, strikes, strikes_an
 same_telescope : (a b : TelescopeNo) → a.0 ≡ b.0 → a ≡ b
 same_telescope a b e i = record { 0 = e i }
 
-meeting : (s : Parts) (a b : Placement) → 0 < size_of s a.request.0 → 0 < size_of s b.request.0 → a.telescope.0 ≡ b.telescope.0 → a.slice.0 < slice_after s b → b.slice.0 < slice_after s a → ShareSlice s a b
+meeting : (s : Parts) (a b : Placement) → 0 < size_of s a.request.0 → 0 < size_of s b.request.0 → a.telescope.0 ≡ b.telescope.0
+    → a.slice.0 < slice_after s b → b.slice.0 < slice_after s a → ShareSlice s a b
 meeting s a b j k same left right = elim (cases_lt a.slice.0 b.slice.0) [
   | inl below ↦ (same_telescope a.telescope b.telescope same, b.slice.0, (omega arith, omega arith), (omega arith, omega arith))
   | inr above ↦ (same_telescope a.telescope b.telescope same, a.slice.0, (omega arith, omega arith), (omega arith, omega arith))
@@ -43,10 +45,14 @@ from_parts t u a m b n e l k = grind (arith, nat_tests)
 shared_bounds : (s : Parts) (a b : Placement) → ShareSlice s a b → (a.slice.0 < slice_after s b) × (b.slice.0 < slice_after s a)
 shared_bounds s a b (e, k, (p, q), (u, v)) = (omega arith, omega arith)
 
-pub meets_tells : (s : Parts) (u : Option ℕ) (a b : Placement) → IsOrderly s → IsKnown s a.request.0 → IsKnown s b.request.0 → Decides (meets (held_of s u a) (held_of s u b)) (ShareSlice s a b)
+pub meets_tells : (s : Parts) (u : Option ℕ) (a b : Placement) → IsOrderly s → IsKnown s a.request.0 → IsKnown s b.request.0
+    → Decides (meets (held_of s u a) (held_of s u b)) (ShareSlice s a b)
 meets_tells s u a b o j k = (
-  (λ h. let p = parts_of a.telescope.0 b.telescope.0 a.slice.0 (slice_after s b) b.slice.0 (slice_after s a) h in meeting s a b (size_above s a.request.0 o j) (size_above s b.request.0 o k) p.0 p.1 p.2),
-  (λ share. let bounds = shared_bounds s a b share in from_parts a.telescope.0 b.telescope.0 a.slice.0 (slice_after s b) b.slice.0 (slice_after s a) (ap (λ (t : TelescopeNo). t.0) share.0) bounds.0 bounds.1),
+  (λ h. let p = parts_of a.telescope.0 b.telescope.0 a.slice.0 (slice_after s b) b.slice.0 (slice_after s a) h in
+      meeting s a b (size_above s a.request.0 o j) (size_above s b.request.0 o k) p.0 p.1 p.2),
+  (λ share. let bounds = shared_bounds s a b share in
+      from_parts a.telescope.0 b.telescope.0 a.slice.0 (slice_after s b) b.slice.0 (slice_after s a)
+      (ap (λ (t : TelescopeNo). t.0) share.0) bounds.0 bounds.1),
 )
 
 and_cases : (k : Op) (g : ℕ) → ((and_at k g ≡ None) × (k ≢ And)) ⊎ ((and_at k g ≡ Some g) × (k ≡ And))
@@ -95,7 +101,8 @@ any_of_map : {X Y : Type 0} (p : Y → Bool) (g : X → Y) (xs : List X) → lis
 any_of_map p g [] = refl
 any_of_map p g (x ∷ xs) = ap (λ (b : Bool). p (g x) || b) (any_of_map p g xs)
 
-module _ (s : Parts) (u : Option ℕ) (plan : List Placement) (p : Placement) (o : IsOrderly s) (known : All (λ a. IsKnown s a.request.0) plan) (start : IsKnown s p.request.0) where
+module _ (s : Parts) (u : Option ℕ) (plan : List Placement) (p : Placement) (o : IsOrderly s) (known : All (λ a. IsKnown s a.request.0) plan)
+    (start : IsKnown s p.request.0) where
   abbrev new : Held
   new = held_of s u p
 
@@ -107,7 +114,8 @@ module _ (s : Parts) (u : Option ℕ) (plan : List Placement) (p : Placement) (o
 
   struck_to : (g r : ℕ) → IsOf s g r → IsKind s And g → strikes new held g ≡ true → StrikesOne r
   struck_to g r of kind h =
-      let found = Any-from_list_any (λ a. meets new (held_of s u a) && is_quota g (and_of s a.request.0)) plan (sym (any_of_map (λ h. meets new h && is_quota g h.and_place) (held_of s u) plan) ∙ h) in
+      let found = Any-from_list_any (λ a. meets new (held_of s u a) && is_quota g (and_of s a.request.0)) plan
+      (sym (any_of_map (λ h. meets new h && is_quota g h.and_place) (held_of s u) plan) ∙ h) in
       let a : Placement = found.1 in
       let a_known : IsKnown s a.request.0 = All-contains (λ x. IsKnown s x.request.0) plan a known (found.0, found.2, found.3) in
       let both = and_parts (meets new (held_of s u a)) (is_quota g (and_of s a.request.0)) found.4 in
@@ -119,16 +127,24 @@ module _ (s : Parts) (u : Option ℕ) (plan : List Placement) (p : Placement) (o
       let same : h ≡ g = sym of_r.1 ∙ of.1 in
       let a_and : and_of s a.request.0 ≡ Some g = and_from_of s a.request.0 h of_a kind ∙ ap (λ (n : ℕ). Some n) same in
       any_of_map (λ h. meets new h && is_quota g h.and_place) (held_of s u) plan
-      ∙ list_any-from_Any (λ a. meets new (held_of s u a) && is_quota g (and_of s a.request.0)) plan
-      (k, a, l, e, and_from (meets new (held_of s u a)) (is_quota g (and_of s a.request.0)) ((meets_tells s u p a o start of_a.0).1 share) (same_is_quota g (and_of s a.request.0) a_and))
+      ∙ list_any-from_Any (λ a. meets new (held_of s u a) && is_quota g (and_of s a.request.0)) plan (
+        k,
+        a,
+        l,
+        e,
+        and_from (meets new (held_of s u a)) (is_quota g (and_of s a.request.0)) ((meets_tells s u p a o start of_a.0).1 share)
+            (same_is_quota g (and_of s a.request.0) a_and),
+      )
 
   -- whether an AND's placement has to go since another of it does
   strikes_tells : (r : ℕ) → IsKnown s r → Decides (strikes_and new held (and_of s r)) (StrikesOne r)
   strikes_tells r k = by (and_of s r) (λ g e. of_and s r g k e) (λ one. let d = one.4.1 in (d.0, and_from_of s r d.0 d.3 d.1))
     where
-      by : (a : Option ℕ) → ((g : ℕ) → a ≡ Some g → IsOf s g r × IsKind s And g) → (StrikesOne r → (g : ℕ) × (a ≡ Some g)) → Decides (strikes_and new held a) (StrikesOne r)
+      by : (a : Option ℕ) → ((g : ℕ) → a ≡ Some g → IsOf s g r × IsKind s And g) → (StrikesOne r → (g : ℕ) × (a ≡ Some g))
+          → Decides (strikes_and new held a) (StrikesOne r)
       by None of some = ((λ (h : false ≡ true). absurd (let e = h in cc)), (λ one. let e = (some one).1 in cc))
       by (Some g) of some = ((λ h. struck_to g r (of g refl).0 (of g refl).1 h), (λ one. struck_from g r (of g refl).0 one))
 
   pub goes_tells : (q : Placement) → IsKnown s q.request.0 → Decides (has_to_go new held (held_of s u q)) (HasToGo s plan p q)
-  goes_tells q k = Decides-or (meets new (held_of s u q)) (strikes_and new held (and_of s q.request.0)) (meets_tells s u p q o start k) (strikes_tells q.request.0 k)
+  goes_tells q k = Decides-or (meets new (held_of s u q)) (strikes_and new held (and_of s q.request.0)) (meets_tells s u p q o start k)
+      (strikes_tells q.request.0 k)

@@ -1,7 +1,9 @@
 -- What is made of a snapshot's groups: the order of a pass, and the order in which a group's requests are tried.
-use Rattle.std.proofs.Common.{◌≡◌, ◌≢◌, ℕ, zero, suc, ◌+◌, ◌<◌, ◌≤◌, ◌⊎◌, inl, inr, List, [], ◌∷◌, ◌++◌, length, map, take, slice_index_or, All, AllPairs, Contains, refl, sym, ◌∙◌, ap, subst, arith}
+use Rattle.std.proofs.Common.{◌≡◌, ◌≢◌, ℕ, zero, suc, ◌+◌, ◌<◌, ◌≤◌, ◌⊎◌, inl, inr, List, [], ◌∷◌, ◌++◌, length, map, take, slice_index_or, All}
+use Rattle.std.proofs.Common.{AllPairs, Contains, refl, sym, ◌∙◌, ap, subst, arith}
 use Rattle.std.proofs.lemmas.List.{length-map, get_or-map, get_or_default, get_or_append_left, get_or_push, length_push, map_push, take_more}
-use Rattle.std.proofs.lemmas.List.Elements.{All-nil, All-cons, All-head, All-tail, All-map, All-contains, Contains-get_or, Contains-append_left, Contains-append_right}
+use Rattle.std.proofs.lemmas.List.Elements.{All-nil, All-cons, All-head, All-tail, All-map, All-contains, Contains-get_or, Contains-append_left}
+use Rattle.std.proofs.lemmas.List.Elements.{Contains-append_right}
 use Rattle.plan_base.specs.declared.parts.Parts.{Parts}
 use Rattle.plan_base.specs.declared.parts.GroupPart.{GroupPart}
 use Rattle.plan_base.specs.declared.parts.RequestPart.{RequestPart}
@@ -51,7 +53,8 @@ in_groups P g (x ∷ xs) a =
     (λ k d l.
     let whole : Listed = record { group = g; quota = x.quota; request = d } in
     let count : length here ≡ length x.requests = length-map x.requests (λ q. record { group = g; quota = x.quota; request = q }) in
-    let at : slice_index_or here k whole ≡ record { group = g; quota = x.quota; request = slice_index_or x.requests k d } = get_or-map (λ q. record { group = g; quota = x.quota; request = q }) x.requests k d whole l in
+    let at : slice_index_or here k whole ≡ record { group = g; quota = x.quota; request = slice_index_or x.requests k d } =
+    get_or-map (λ q. record { group = g; quota = x.quota; request = q }) x.requests k d whole l in
     subst (λ (y : Listed). P y.request) at (all_left (λ y. P y.request) here (listed_from (suc g) xs) a k whole (omega arith)))
     (in_groups P (suc g) xs (all_right (λ y. P y.request) here (listed_from (suc g) xs) a))
 
@@ -78,23 +81,29 @@ listed_has : (n : ℕ) (xs : List GroupPart) (i : ℕ) (x : GroupPart) (q : Requ
 listed_has n [] i x q l is has = absurd (omega arith)
 listed_has n (y ∷ ys) zero x q l is has =
     let here : Listed = record { group = n; quota = x.quota; request = q } in
-    let at : Contains (map (λ p. record { group = n; quota = y.quota; request = p }) y.requests) here = subst (λ (z : GroupPart). Contains (map (λ p. record { group = n; quota = z.quota; request = p }) z.requests) here) (sym is) (contains_map (λ p. record { group = n; quota = x.quota; request = p }) x.requests q has) in
+    let at : Contains (map (λ p. record { group = n; quota = y.quota; request = p }) y.requests) here =
+    subst (λ (z : GroupPart). Contains (map (λ p. record { group = n; quota = z.quota; request = p }) z.requests) here) (sym is)
+    (contains_map (λ p. record { group = n; quota = x.quota; request = p }) x.requests q has) in
     let same : n ≡ n + 0 = omega arith in
-    subst (λ (k : ℕ). Contains (listed_from n (y ∷ ys)) (record { group = k; quota = x.quota; request = q })) same (Contains-append_left _ (listed_from (suc n) ys) here at)
+    subst (λ (k : ℕ). Contains (listed_from n (y ∷ ys)) (record { group = k; quota = x.quota; request = q })) same
+    (Contains-append_left _ (listed_from (suc n) ys) here at)
 listed_has n (y ∷ ys) (suc i) x q l is has =
     let rest = listed_has (suc n) ys i x q (omega arith) is has in
     let same : suc n + i ≡ n + suc i = omega arith in
-    subst (λ (k : ℕ). Contains (listed_from n (y ∷ ys)) (record { group = k; quota = x.quota; request = q })) same (Contains-append_right (map (λ p. record { group = n; quota = y.quota; request = p }) y.requests) (listed_from (suc n) ys) _ rest)
+    subst (λ (k : ℕ). Contains (listed_from n (y ∷ ys)) (record { group = k; quota = x.quota; request = q })) same
+    (Contains-append_right (map (λ p. record { group = n; quota = y.quota; request = p }) y.requests) (listed_from (suc n) ys) _ rest)
 
 -- the value of a group's request, by its number
-value_here : (s : Parts) (g : ℕ) (x : GroupPart) (q : RequestPart) → IsOrderly s → g < length s.groups → slice_index_or s.groups g x ≡ x → Contains x.requests q → request_value s q.request.0 ≡ q.value
+value_here : (s : Parts) (g : ℕ) (x : GroupPart) (q : RequestPart) → IsOrderly s → g < length s.groups → slice_index_or s.groups g x ≡ x
+    → Contains x.requests q → request_value s q.request.0 ≡ q.value
 value_here s g x q o l is has =
     let y : Listed = record { group = 0 + g; quota = x.quota; request = q } in
     let there : Contains (listed s) y = listed_has 0 s.groups g x q l is has in
     known_or_is (λ z. z.request.value) 0 s q.request.0 y (listed_known s y there) (listed_as s y o there)
 
 -- all requests of a group are known
-pub group_known_all : (s : Parts) (g : ℕ) (x : GroupPart) → IsOrderly s → g < length s.groups → slice_index_or s.groups g x ≡ x → All (λ q. IsKnown s q.request.0) x.requests
+pub group_known_all : (s : Parts) (g : ℕ) (x : GroupPart) → IsOrderly s → g < length s.groups → slice_index_or s.groups g x ≡ x
+    → All (λ q. IsKnown s q.request.0) x.requests
 group_known_all s g x o l is k d below =
     let q : RequestPart = slice_index_or x.requests k d in
     let has : Contains (members_of x) q.request.0 = contains_map (λ p. p.request.0) x.requests q (Contains-get_or x.requests k d below) in
@@ -119,14 +128,17 @@ module _ (s : Parts) (g : ℕ) (x : GroupPart) (order numbers : List ℕ) (o : I
   of_group = subst (All (IsOf s g)) (sym numbered) (All-map (IsOf s g) (number_at x.requests) order (λ k d below.
       let i : ℕ = slice_index_or order k d in
       let within : i < length (map (trial_worth x.op) x.requests) = falls.places k d below in
-      is_of_member s g (number_at x.requests i) o (subst (λ (ms : List ℕ). Contains ms (number_at x.requests i)) (sym same_members) (Contains-get_or (members_of x) i 0 (let c = count in let m = count_members in omega arith)))))
+      is_of_member s g (number_at x.requests i) o
+      (subst (λ (ms : List ℕ). Contains ms (number_at x.requests i)) (sym same_members)
+      (Contains-get_or (members_of x) i 0 (let c = count in let m = count_members in omega arith)))))
 
   all_of_group : (r : ℕ) → IsOf s g r → Contains numbers r
   all_of_group r of =
       let has : Contains (members_of x) r = subst (λ (ms : List ℕ). Contains ms r) same_members (member_is_of s g r of) in
       let below : has.0 < length (members_of x) = has.1 in
       let at : number_at x.requests has.0 ≡ r = get_or_default (members_of x) has.0 0 r has.1 ∙ has.2 in
-      let there : Contains (map (number_at x.requests) order) (number_at x.requests has.0) = contains_map (number_at x.requests) order has.0 (falls.complete has.0 (let c = count in let m = count_members in omega arith)) in
+      let there : Contains (map (number_at x.requests) order) (number_at x.requests has.0) =
+      contains_map (number_at x.requests) order has.0 (falls.complete has.0 (let c = count in let m = count_members in omega arith)) in
       subst (λ (ns : List ℕ). Contains ns r) (sym numbered) (subst (Contains (map (number_at x.requests) order)) at there)
 
   -- a lower place has a lower number
@@ -162,7 +174,8 @@ module _ (s : Parts) (g : ℕ) (x : GroupPart) (order numbers : List ℕ) (o : I
       by : (q : RequestPart) × (slice_index_or x.requests i q ≡ q) → request_value s (number_at x.requests i) ≡ worth (map (λ q. q.value) x.requests) i
       by (q, at) =
           let number : number_at x.requests i ≡ q.request.0 = get_or-map (λ p. p.request.0) x.requests i q 0 below ∙ ap (λ (p : RequestPart). p.request.0) at in
-          let value : worth (map (λ p. p.value) x.requests) i ≡ q.value = get_or-map (λ p. p.value) x.requests i q 0 below ∙ ap (λ (p : RequestPart). p.value) at in
+          let value : worth (map (λ p. p.value) x.requests) i ≡ q.value = get_or-map (λ p. p.value) x.requests i q 0 below
+          ∙ ap (λ (p : RequestPart). p.value) at in
           ap (request_value s) number ∙ value_here s g x q o l is (i, below, at) ∙ sym value
 
   pub by_value : ((i : ℕ) → worth (map (trial_worth x.op) x.requests) i ≡ worth (map (λ q. q.value) x.requests) i) → IsMemberOrder s g numbers
@@ -170,7 +183,8 @@ module _ (s : Parts) (g : ℕ) (x : GroupPart) (order numbers : List ℕ) (o : I
     members = of_group;
     complete = all_of_group;
     falling = subst (AllPairs (λ a b. (request_value s b < request_value s a) ⊎ ((request_value s a ≡ request_value s b) × (a < b)))) (sym numbered)
-        (AllPairs-map (λ a b. (request_value s b < request_value s a) ⊎ ((request_value s a ≡ request_value s b) × (a < b))) (number_at x.requests) order (λ i j d less below.
+        (AllPairs-map (λ a b. (request_value s b < request_value s a) ⊎ ((request_value s a ≡ request_value s b) × (a < b)))
+        (number_at x.requests) order (λ i j d less below.
         let c = count in
         let a : ℕ = slice_index_or order i d in
         let b : ℕ = slice_index_or order j d in
@@ -201,8 +215,10 @@ values_of_kind : (k : Op) (qs : List RequestPart) (i : ℕ) → k ≡ OneOf → 
 values_of_kind k qs i e = ap (λ (j : Op). worth (map (trial_worth j) qs) i) e
 
 -- the group at place g as it is tried
-pub trial_made : (s : Parts) (g : ℕ) (x : GroupPart) (order : List ℕ) (trial : Trial) → IsOrderly s → g < length s.groups → slice_index_or s.groups g x ≡ x → IsKind s x.op g → trial.op ≡ x.op
-    → IsFallingOrder (map (trial_worth x.op) x.requests) order → All (IsEntry s) trial.entries.items → numbers_of trial.entries.items ≡ map (number_at x.requests) order → IsTrial s g trial
+pub trial_made : (s : Parts) (g : ℕ) (x : GroupPart) (order : List ℕ) (trial : Trial) → IsOrderly s → g < length s.groups
+    → slice_index_or s.groups g x ≡ x → IsKind s x.op g → trial.op ≡ x.op
+    → IsFallingOrder (map (trial_worth x.op) x.requests) order → All (IsEntry s) trial.entries.items
+    → numbers_of trial.entries.items ≡ map (number_at x.requests) order → IsTrial s g trial
 trial_made s g x order trial o l is kind op falls entries numbered = record {
   kind = subst (λ (k : Op). IsKind s k g) (sym op) kind;
   entries = entries;
@@ -211,11 +227,15 @@ trial_made s g x order trial o l is kind op falls entries numbered = record {
 }
 
 -- one request more
-pub numbers_more : (requests : List RequestPart) (order : List ℕ) (entries more : List Entry) (x : Entry) (q : RequestPart) (i : ℕ) → i < length order → slice_index_or order i 0 < length requests → q ≡ slice_index_or requests (slice_index_or order i 0) q
-    → x.request ≡ q.request → more ≡ entries ++ x ∷ [] → numbers_of entries ≡ map (number_at requests) (take i order) → numbers_of more ≡ map (number_at requests) (take (i + 1) order)
+pub numbers_more : (requests : List RequestPart) (order : List ℕ) (entries more : List Entry) (x : Entry) (q : RequestPart) (i : ℕ) → i < length order
+    → slice_index_or order i 0 < length requests → q ≡ slice_index_or requests (slice_index_or order i 0) q
+    → x.request ≡ q.request → more ≡ entries ++ x ∷ [] → numbers_of entries ≡ map (number_at requests) (take i order)
+    → numbers_of more ≡ map (number_at requests) (take (i + 1) order)
 numbers_more requests order entries more x q i l within is same pushed numbers =
-    let number : x.request.0 ≡ number_at requests (slice_index_or order i 0) = ap (λ r. r.0) same ∙ ap (λ (p : RequestPart). p.request.0) is ∙ sym (get_or-map (λ p. p.request.0) requests (slice_index_or order i 0) q 0 within) in
-    ap numbers_of pushed ∙ map_push (λ e. e.request.0) entries x ∙ ap (λ (ns : List ℕ). ns ++ x.request.0 ∷ []) numbers ∙ ap (λ (n : ℕ). map (number_at requests) (take i order) ++ n ∷ []) number
+    let number : x.request.0 ≡ number_at requests (slice_index_or order i 0) = ap (λ r. r.0) same ∙ ap (λ (p : RequestPart). p.request.0) is
+    ∙ sym (get_or-map (λ p. p.request.0) requests (slice_index_or order i 0) q 0 within) in
+    ap numbers_of pushed ∙ map_push (λ e. e.request.0) entries x ∙ ap (λ (ns : List ℕ). ns ++ x.request.0 ∷ []) numbers
+    ∙ ap (λ (n : ℕ). map (number_at requests) (take i order) ++ n ∷ []) number
     ∙ sym (ap (map (number_at requests)) (take_more order i 0 l) ∙ map_push (number_at requests) (take i order) (slice_index_or order i 0))
 
 -- ---- all groups
@@ -226,7 +246,8 @@ last_or_before j i h = grind arith
 pub trials_none : (s : Parts) → AreTrialsOf s 0 []
 trials_none s = record { count = refl; each = λ g below. absurd (omega arith) }
 
-pub trials_more : (s : Parts) (n : ℕ) (trials : List Trial) (trial : Trial) → AreTrialsOf s n trials → IsTrial s n trial → AreTrialsOf s (n + 1) (trials ++ trial ∷ [])
+pub trials_more : (s : Parts) (n : ℕ) (trials : List Trial) (trial : Trial) → AreTrialsOf s n trials → IsTrial s n trial
+    → AreTrialsOf s (n + 1) (trials ++ trial ∷ [])
 trials_more s n trials trial are is =
     let count : length trials ≡ n = are.count in
     record {

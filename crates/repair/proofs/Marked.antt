@@ -1,5 +1,6 @@
 -- The marks of a plan, with one placement more or less, and what they tell of starts.
-use Rattle.std.proofs.Common.{◌≡◌, ℕ, ◌<◌, ◌≤◌, ◌⊎◌, inl, inr, Bool, true, false, cond, ◌&&◌, nat_le, nat_lt, List, [], ◌∷◌, ◌++◌, length, slice_index_or, Contains, sym, ◌∙◌, ap, subst, arith}
+use Rattle.std.proofs.Common.{◌≡◌, ℕ, ◌<◌, ◌≤◌, ◌⊎◌, inl, inr, Bool, true, false, cond, ◌&&◌, nat_le, nat_lt, List, [], ◌∷◌, ◌++◌, length}
+use Rattle.std.proofs.Common.{slice_index_or, Contains, sym, ◌∙◌, ap, subst, arith}
 use Rattle.std.proofs.lemmas.Bool.Decides.{nat_tests}
 use Rattle.std.proofs.lemmas.List.Elements.{All-push, All-contains, Contains-append_left, Contains-push, Contains-push_cases, Contains-get_or}
 use Rattle.plan_base.specs.declared.parts.Parts.{Parts}
@@ -26,7 +27,8 @@ not_within a b i (inl h) (from, to) = omega arith
 not_within a b i (inr h) (from, to) = omega arith
 
 -- the slots of a start that is added are marked with the slot after them
-pub marks_more : (s : Parts) (plan : List Placement) (p : Placement) (before after : List ℕ) → IsOrderly s → IsPossibleStart s p → AreMarks s plan before → length after ≡ length before
+pub marks_more : (s : Parts) (plan : List Placement) (p : Placement) (before after : List ℕ) → IsOrderly s → IsPossibleStart s p
+    → AreMarks s plan before → length after ≡ length before
     → ((i : ℕ) → slice_index_or after i 0 ≡ cond (nat_le (first_slot s p) i && nat_lt i (end_slot s p)) (end_slot s p) (slice_index_or before i 0))
     → AreMarks s (plan ++ p ∷ []) after
 marks_more s plan p before after orderly possible are same each = record {
@@ -37,20 +39,23 @@ marks_more s plan p before after orderly possible are same each = record {
         let some : 0 < size_of s p.request.0 = start_size_above s orderly p possible in
         absurd (omega arith)
     | inr outside ↦
-        let is : slice_index_or after i 0 ≡ slice_index_or before i 0 = each i ∙ ap (λ (b : Bool). cond b (end_slot s p) (slice_index_or before i 0)) outside.0 in
+        let is : slice_index_or after i 0 ≡ slice_index_or before i 0 = each i
+        ∙ ap (λ (b : Bool). cond b (end_slot s p) (slice_index_or before i 0)) outside.0 in
         All-push (λ q. ¬ (TakesSlot s q i)) plan p (are.free i (sym is ∙ e)) (not_within (first_slot s p) (end_slot s p) i outside.1)
   ];
   taken = λ i marked. elim (in_or_out (first_slot s p) (end_slot s p) i) [
     | inl within ↦ (p, Contains-push plan p, (within.1, within.2), each i ∙ ap (λ (b : Bool). cond b (end_slot s p) (slice_index_or before i 0)) within.0)
     | inr outside ↦
-        let is : slice_index_or after i 0 ≡ slice_index_or before i 0 = each i ∙ ap (λ (b : Bool). cond b (end_slot s p) (slice_index_or before i 0)) outside.0 in
+        let is : slice_index_or after i 0 ≡ slice_index_or before i 0 = each i
+        ∙ ap (λ (b : Bool). cond b (end_slot s p) (slice_index_or before i 0)) outside.0 in
         let old = are.taken i (omega arith) in
         (old.0, Contains-append_left plan (p ∷ []) old.0 old.1, old.2, is ∙ old.3)
   ];
 }
 
 -- the slots of the last start are free without it
-pub marks_less : (s : Parts) (plan : List Placement) (p : Placement) (before after : List ℕ) → IsFeasibleSoFar s (plan ++ p ∷ []) → AreMarks s (plan ++ p ∷ []) before → length after ≡ length before
+pub marks_less : (s : Parts) (plan : List Placement) (p : Placement) (before after : List ℕ) → IsFeasibleSoFar s (plan ++ p ∷ [])
+    → AreMarks s (plan ++ p ∷ []) before → length after ≡ length before
     → ((i : ℕ) → slice_index_or after i 0 ≡ cond (nat_le (first_slot s p) i && nat_lt i (end_slot s p)) 0 (slice_index_or before i 0))
     → AreMarks s plan after
 marks_less s plan p before after so_far are same each = record {
@@ -97,12 +102,14 @@ marks_skip s plan marks are i marked =
     )
 
 -- the slots of a start are clear exactly where it is apart from the plan
-pub apart_when_clear : (s : Parts) (plan : List Placement) (marks : List ℕ) (p : Placement) → IsFeasibleSoFar s plan → AreMarks s plan marks → IsPossibleStart s p → IsClear marks (first_slot s p) (end_slot s p) → IsApart s plan p
+pub apart_when_clear : (s : Parts) (plan : List Placement) (marks : List ℕ) (p : Placement) → IsFeasibleSoFar s plan → AreMarks s plan marks
+    → IsPossibleStart s p → IsClear marks (first_slot s p) (end_slot s p) → IsApart s plan p
 apart_when_clear s plan marks p so_far are possible clear k d l share =
     let both = shared_slot s p (slice_index_or plan k d) possible (so_far.possible k d l) share in
     are.free both.0 (clear both.0 both.1 both.2) k d l (both.3, both.4)
 
-pub clear_when_apart : (s : Parts) (plan : List Placement) (marks : List ℕ) (p : Placement) → IsFeasibleSoFar s plan → AreMarks s plan marks → IsPossibleStart s p → IsApart s plan p → IsClear marks (first_slot s p) (end_slot s p)
+pub clear_when_apart : (s : Parts) (plan : List Placement) (marks : List ℕ) (p : Placement) → IsFeasibleSoFar s plan → AreMarks s plan marks
+    → IsPossibleStart s p → IsApart s plan p → IsClear marks (first_slot s p) (end_slot s p)
 clear_when_apart s plan marks p so_far are possible apart i from to = elim (none_or_some (slice_index_or marks i 0)) [
   | inl none ↦ none
   | inr marked ↦

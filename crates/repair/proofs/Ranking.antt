@@ -1,5 +1,6 @@
 -- The ranks of worths, sorted, give the places by falling worth.
-use Rattle.std.proofs.Common.{◌≡◌, ◌≢◌, true, false, ℕ, ◌+◌, ◌<◌, ◌≤◌, ◌⊎◌, inl, inr, List, [], ◌∷◌, ◌++◌, length, map, slice_index_or, All, AllPairs, Contains, IsPermutation, Ordering, Less, Equal, sym, ◌∙◌, ap, subst, arith}
+use Rattle.std.proofs.Common.{◌≡◌, ◌≢◌, true, false, ℕ, ◌+◌, ◌<◌, ◌≤◌, ◌⊎◌, inl, inr, List, [], ◌∷◌, ◌++◌, length, map, slice_index_or, All, AllPairs}
+use Rattle.std.proofs.Common.{Contains, IsPermutation, Ordering, Less, Equal, sym, ◌∙◌, ap, subst, arith}
 use Rattle.std.specs.Cmp.{nat_cmp_is}
 use Rattle.std.specs.Ordering.{is_lt, nat_cmp, ordering_then}
 use Rattle.std.proofs.lemmas.Bool.{cases_eq, cases_lt}
@@ -16,7 +17,8 @@ last_or_before : (j i : ℕ) → j < i + 1 → (j ≡ i) ⊎ (j < i)
 last_or_before j i h = grind arith
 
 -- one rank more
-pub ranks_more : (worths : List ℕ) (ranks : List Rank) (n : ℕ) (x : Rank) → AreRanksOf worths n ranks → IsRankOf worths n x → AreRanksOf worths (n + 1) (ranks ++ x ∷ [])
+pub ranks_more : (worths : List ℕ) (ranks : List Rank) (n : ℕ) (x : Rank) → AreRanksOf worths n ranks → IsRankOf worths n x
+    → AreRanksOf worths (n + 1) (ranks ++ x ∷ [])
 ranks_more worths ranks n x are is =
     let count : length ranks ≡ n = are.count in
     record {
@@ -72,12 +74,16 @@ rank_places worths ranks are = λ i j d less below.
 
 -- the places of the sorted ranks are all places by falling worth, then place
 pub order_from_ranks : (worths : List ℕ) (ranks sorted : List Rank) (order : List ℕ) → AreRanks worths ranks → IsPermutation ranks sorted
-    → ((k : ℕ) (d : Rank) → 0 ≤ k → k + 1 < length sorted → is_lt (ordering_then (nat_cmp (slice_index_or sorted k d).worth.0 (slice_index_or sorted (k + 1) d).worth.0) (nat_cmp (slice_index_or sorted (k + 1) d).place (slice_index_or sorted k d).place)) ≡ false)
+    → ((k : ℕ) (d : Rank) → 0 ≤ k → k + 1 < length sorted
+    → is_lt (ordering_then (nat_cmp (slice_index_or sorted k d).worth.0 (slice_index_or sorted (k + 1) d).worth.0)
+    (nat_cmp (slice_index_or sorted (k + 1) d).place (slice_index_or sorted k d).place)) ≡ false)
     → order ≡ map (λ r. r.place) sorted → IsFallingOrder worths order
 order_from_ranks worths ranks sorted order are same near is =
     let known : All (IsRankIn worths) sorted = All-permutation (IsRankIn worths) ranks sorted same (rank_known worths ranks are) in
-    let apart : AllPairs (λ a b. a.place ≢ b.place) sorted = all_pairs_permutation (λ a b. a.place ≢ b.place) (λ x y other e. other (sym e)) ranks sorted same (rank_places worths ranks are) in
-    let falling : AllPairs IsRankedBefore sorted = all_pairs_from_neighbours IsRankedBefore joined sorted (λ k d below. not_less _ _ _ _ (near k d (omega arith) below)) in
+    let apart : AllPairs (λ a b. a.place ≢ b.place) sorted =
+    all_pairs_permutation (λ a b. a.place ≢ b.place) (λ x y other e. other (sym e)) ranks sorted same (rank_places worths ranks are) in
+    let falling : AllPairs IsRankedBefore sorted =
+    all_pairs_from_neighbours IsRankedBefore joined sorted (λ k d below. not_less _ _ _ _ (near k d (omega arith) below)) in
     subst (IsFallingOrder worths) (sym is) record {
       places = All-map (λ g. g < length worths) (λ r. r.place) sorted (λ k d below. (known k d below).below);
       complete = λ g below.
@@ -96,7 +102,8 @@ order_from_ranks worths ranks sorted order are same near is =
           let other : x.place ≢ y.place = apart i j e less (omega arith) in
           let first : slice_index_or (map (λ (r : Rank). r.place) sorted) i d ≡ x.place = get_or-map (λ r. r.place) sorted i e d (omega arith) in
           let second : slice_index_or (map (λ (r : Rank). r.place) sorted) j d ≡ y.place = get_or-map (λ r. r.place) sorted j e d (omega arith) in
-          let holds : (worth worths y.place < worth worths x.place) ⊎ ((worth worths x.place ≡ worth worths y.place) × (x.place < y.place)) = elim (falling i j e less (omega arith)) [
+          let holds : (worth worths y.place < worth worths x.place) ⊎ ((worth worths x.place ≡ worth worths y.place) × (x.place < y.place)) =
+          elim (falling i j e less (omega arith)) [
             | inl more ↦ inl (omega arith)
             | inr tie ↦ inr (omega arith, omega arith)
           ] in

@@ -1,5 +1,6 @@
 -- Ranked starts, sorted, are in the order in which they are tried.
-use Rattle.std.proofs.Common.{◌≡◌, ◌≢◌, ℕ, ◌+◌, ◌<◌, ◌≤◌, ◌⊎◌, inl, inr, Bool, true, false, not, List, [], ◌∷◌, ◌++◌, length, slice_index_or, All, AllPairs, None, Ordering, Less, Equal, refl, sym, ◌∙◌, ap, subst, arith}
+use Rattle.std.proofs.Common.{◌≡◌, ◌≢◌, ℕ, ◌+◌, ◌<◌, ◌≤◌, ◌⊎◌, inl, inr, Bool, true, false, not, List, [], ◌∷◌, ◌++◌, length, slice_index_or, All}
+use Rattle.std.proofs.Common.{AllPairs, None, Ordering, Less, Equal, refl, sym, ◌∙◌, ap, subst, arith}
 use Rattle.std.specs.Cmp.{nat_cmp_is}
 use Rattle.std.specs.Ordering.{is_lt, nat_cmp, ordering_then}
 use Rattle.std.proofs.lemmas.Bool.{cases_eq, cases_lt}
@@ -44,11 +45,13 @@ op_here s g below kind =
     get_or-map (λ x. x.op) s.groups g d _ below ∙ kind d
 
 -- the request of such a start is of no AND
-pub outside_kind : (s : Parts) (starts : List Placement) → All (IsPossibleStart s) starts → All (λ p. ¬ (IsKind s And (group_of s p.request.0))) (outside_ands s starts)
+pub outside_kind : (s : Parts) (starts : List Placement) → All (IsPossibleStart s) starts
+    → All (λ p. ¬ (IsKind s And (group_of s p.request.0))) (outside_ands s starts)
 outside_kind s starts possible k d l kind =
     let p : Placement = slice_index_or (outside_ands s starts) k d in
     let known = (outside_possible s starts possible k d l).known in
-    let outside : is_and (op_at s (group_of s p.request.0)) ≡ false = not_false _ (filter_passes (λ q. not (is_and (op_at s (group_of s q.request.0)))) starts k d l) in
+    let outside : is_and (op_at s (group_of s p.request.0)) ≡ false =
+    not_false _ (filter_passes (λ q. not (is_and (op_at s (group_of s q.request.0)))) starts k d l) in
     let below = group_known s p.request.0 known in
     let op : op_at s (group_of s p.request.0) ≡ And = op_here s (group_of s p.request.0) below kind in
     let inside : is_and (op_at s (group_of s p.request.0)) ≡ true = and_is _ op in
@@ -73,7 +76,10 @@ key_cases a b rest h = elim (cases_lt b a) [
 ]
 
 -- b isn't before a: so a is before b, or is it
-pub not_less : (a b : Ranked) → is_lt (ordering_then (nat_cmp a.worth.0 b.worth.0) (ordering_then (nat_cmp b.request.0 a.request.0) (ordering_then (nat_cmp b.telescope.0 a.telescope.0) (nat_cmp b.slice.0 a.slice.0)))) ≡ false → IsRankedBefore a b
+pub not_less : (a b : Ranked) → is_lt
+    (ordering_then (nat_cmp a.worth.0 b.worth.0)
+    (ordering_then (nat_cmp b.request.0 a.request.0) (ordering_then (nat_cmp b.telescope.0 a.telescope.0) (nat_cmp b.slice.0 a.slice.0)))) ≡ false
+    → IsRankedBefore a b
 not_less a b h = elim (key_cases a.worth.0 b.worth.0 _ h) [
   | inl worth ↦ inl worth
   | inr tie ↦ elim (key_cases b.request.0 a.request.0 _ tie.1) [
@@ -95,8 +101,17 @@ ranks_join a b c ab bc = elim ab [
       | inr u ↦ let g = u.0 in elim y.1 [
         | inl v ↦ inr (omega arith, inl (omega arith))
         | inr v ↦ let f = v.0 in elim u.1 [
-          | inl w ↦ elim v.1 [ inl z ↦ inr (omega arith, inr (omega arith, inl (omega arith))) | inr z ↦ let k = z.0 in inr (omega arith, inr (omega arith, inl (omega arith))) ]
-          | inr w ↦ let i = w.0 in let m = w.1 in elim v.1 [ inl z ↦ inr (omega arith, inr (omega arith, inl (omega arith))) | inr z ↦ let k = z.0 in let n = z.1 in inr (omega arith, inr (omega arith, inr (omega arith, omega arith))) ]
+          | inl w ↦ elim v.1 [
+            | inl z ↦ inr (omega arith, inr (omega arith, inl (omega arith)))
+            | inr z ↦ let k = z.0 in
+                inr (omega arith, inr (omega arith, inl (omega arith)))
+          ]
+          | inr w ↦ let i = w.0 in let m = w.1 in
+              elim v.1 [
+                | inl z ↦ inr (omega arith, inr (omega arith, inl (omega arith)))
+                | inr z ↦ let k = z.0 in let n = z.1 in
+                    inr (omega arith, inr (omega arith, inr (omega arith, omega arith)))
+              ]
         ]
       ]
     ]

@@ -1,5 +1,6 @@
 -- What is free, and what can be added.
-use Rattle.std.proofs.Common.{◌≡◌, ◌≢◌, ℕ, ◌+◌, ◌<◌, ◌≤◌, inl, inr, Bool, true, false, cond, ◌==◌, List, [], ◌∷◌, ◌++◌, length, slice_index_or, Option, Some, All, Contains, refl, sym, ◌∙◌, ap, subst, arith}
+use Rattle.std.proofs.Common.{◌≡◌, ◌≢◌, ℕ, ◌+◌, ◌<◌, ◌≤◌, inl, inr, Bool, true, false, cond, ◌==◌, List, [], ◌∷◌, ◌++◌, length, slice_index_or, Option}
+use Rattle.std.proofs.Common.{Some, All, Contains, refl, sym, ◌∙◌, ap, subst, arith}
 use Rattle.std.proofs.lemmas.Bool.Decides.{eqb_tells}
 use Rattle.std.proofs.lemmas.List.{length_push}
 use Rattle.plan_base.specs.declared.parts.Parts.{Parts}
@@ -34,7 +35,8 @@ within_quota : (s : Parts) (plan : List Placement) (p : Placement) → IsOrderly
 within_quota s plan p orderly after q named =
     let known = (after.possible (length plan) p (let more : length (plan ++ p ∷ []) ≡ length plan + 1 = length_push plan p in omega arith)) in
     let fits : FitsPlan s plan p = fits_from_push s plan p after in
-    let below : q < length s.quotas = quota_known s p.request.0 orderly (subst (λ (x : Placement). IsKnown s x.request.0) (last_is plan p) known.known) q named in
+    let below : q < length s.quotas =
+    quota_known s p.request.0 orderly (subst (λ (x : Placement). IsKnown s x.request.0) (last_is plan p) known.known) q named in
     let share : seconds_towards s q p.request.0 ≡ seconds_of s p.request.0 = named_share s q p.request.0 named in
     let within : quota_seconds s q (requests_of plan) + seconds_towards s q p.request.0 ≤ quota_at s q = fits.quota_free q below in
     omega arith
@@ -48,7 +50,8 @@ pub none_free : (s : Parts) (plan : List Placement) (r : ℕ) → HasNoneApart s
 none_free s plan r none p same free = none p same free.possible free.apart
 
 -- the earliest start that is apart is the earliest that is free, if it can be added
-pub earliest_free : (s : Parts) (plan : List Placement) (r : ℕ) (p : Placement) → IsOrderly s → IsEarliestApart s plan r p → IsFeasibleSoFar s (plan ++ p ∷ []) → IsEarliestFree s plan r p
+pub earliest_free : (s : Parts) (plan : List Placement) (r : ℕ) (p : Placement) → IsOrderly s → IsEarliestApart s plan r p
+    → IsFeasibleSoFar s (plan ++ p ∷ []) → IsEarliestFree s plan r p
 earliest_free s plan r p orderly earliest after = record {
   same_request = earliest.same_request;
   free = record { possible = earliest.possible; apart = earliest.apart; within_quota = within_quota s plan p orderly after };
@@ -56,14 +59,16 @@ earliest_free s plan r p orderly earliest after = record {
 }
 
 -- and else none is free
-pub none_free_within : (s : Parts) (plan : List Placement) (r : ℕ) (p : Placement) → IsFeasibleSoFar s plan → IsEarliestApart s plan r p → ¬ (Contains (requests_of plan) r)
+pub none_free_within : (s : Parts) (plan : List Placement) (r : ℕ) (p : Placement) → IsFeasibleSoFar s plan → IsEarliestApart s plan r p
+    → ¬ (Contains (requests_of plan) r)
     → All (λ a. ¬ (AreOfOneOneOf s a r)) (requests_of plan) → ¬ (IsFeasibleSoFar s (plan ++ p ∷ [])) → HasNoFree s plan r
 none_free_within s plan r p so_far earliest unplaced alone not_after q same free =
     let number : q.request.0 ≡ p.request.0 = same ∙ sym earliest.same_request in
     let free_p : IsFree s plan p = record {
       possible = earliest.possible;
       apart = earliest.apart;
-      within_quota = λ k named. subst (λ (n : ℕ). quota_seconds s k (requests_of plan) + seconds_of s n ≤ quota_at s k) number (free.within_quota k (ap (quota_of s) number ∙ named));
+      within_quota = λ k named. subst (λ (n : ℕ). quota_seconds s k (requests_of plan) + seconds_of s n ≤ quota_at s k) number
+          (free.within_quota k (ap (quota_of s) number ∙ named));
     } in
     not_after (so_far_push s plan p so_far earliest.possible (fits_free s plan p so_far free_p
     (subst (λ (n : ℕ). ¬ (Contains (requests_of plan) n)) (sym earliest.same_request) unplaced)

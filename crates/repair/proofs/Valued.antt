@@ -24,7 +24,8 @@ last_or_before j i h = grind arith
 pub offers_none : (s : Parts) → AreOffersOf s 0 []
 offers_none s = record { count = refl; each = λ i below. absurd (omega arith) }
 
-pub offers_more : (s : Parts) (n : ℕ) (offers : List Offer) (offer : Offer) → AreOffersOf s n offers → IsOfferOf s n offer → AreOffersOf s (n + 1) (offers ++ offer ∷ [])
+pub offers_more : (s : Parts) (n : ℕ) (offers : List Offer) (offer : Offer) → AreOffersOf s n offers → IsOfferOf s n offer
+    → AreOffersOf s (n + 1) (offers ++ offer ∷ [])
 offers_more s n offers offer are is =
     let count : length offers ≡ n = are.count in
     record {
@@ -36,8 +37,10 @@ offers_more s n offers offer are is =
     }
 
 -- what the request at a place offers
-pub offer_made : (s : Parts) (place : ℕ) (q : RequestPart) (offer : Offer) → IsOrderly s → place < length (listed s) → HoldsAt (λ x. x.request ≡ q) (listed s) place
-    → offer.request ≡ q.request → offer.is_of_and ≡ is_and (op_at s (group_of s q.request.0)) → offer.value ≡ q.value → offer.fade ≡ q.fade → offer.earliest ≡ slices_for s.len (least_of (map (λ w. w.from.0) q.windows)) → IsOfferOf s place offer
+pub offer_made : (s : Parts) (place : ℕ) (q : RequestPart) (offer : Offer) → IsOrderly s → place < length (listed s)
+    → HoldsAt (λ x. x.request ≡ q) (listed s) place
+    → offer.request ≡ q.request → offer.is_of_and ≡ is_and (op_at s (group_of s q.request.0)) → offer.value ≡ q.value → offer.fade ≡ q.fade
+    → offer.earliest ≡ slices_for s.len (least_of (map (λ w. w.from.0) q.windows)) → IsOfferOf s place offer
 offer_made s place q offer o l at number of_and value fade earliest d =
     let here : IsHere s place q = request_here s place q o l at in
     subst (λ (p : RequestPart). IsOffer s p.request.0 offer) (sym (at d)) (record {
@@ -49,21 +52,28 @@ offer_made s place q offer o l at number of_and value fade earliest d =
     })
 
 -- the offer of a known request
-pub offer_known : (s : Parts) (offers : List Offer) (r place : ℕ) (offer : Offer) → AreOffersOf s (length (listed s)) offers → IsKnown s r → place ≡ place_of s r → slice_index_or offers place offer ≡ offer → IsOffer s r offer
+pub offer_known : (s : Parts) (offers : List Offer) (r place : ℕ) (offer : Offer) → AreOffersOf s (length (listed s)) offers → IsKnown s r
+    → place ≡ place_of s r → slice_index_or offers place offer ≡ offer → IsOffer s r offer
 offer_known s offers r place offer are known at is =
     let x = known_as s r known in
-    let here : IsOffer s (slice_index_or (listed s) place x.0).request.request.0 (slice_index_or offers place offer) = are.each place (let k = known in omega arith) offer x.0 in
+    let here : IsOffer s (slice_index_or (listed s) place x.0).request.request.0 (slice_index_or offers place offer) =
+    are.each place (let k = known in omega arith) offer x.0 in
     let same : slice_index_or (listed s) place x.0 ≡ x.0 = ap (λ (k : ℕ). slice_index_or (listed s) k x.0) at ∙ x.1.at_place in
-    subst (λ (n : ℕ). IsOffer s n offer) (ap (λ (y : Listed). y.request.request.0) same ∙ x.1.number) (subst (IsOffer s (slice_index_or (listed s) place x.0).request.request.0) is here)
+    subst (λ (n : ℕ). IsOffer s n offer) (ap (λ (y : Listed). y.request.request.0) same ∙ x.1.number)
+    (subst (IsOffer s (slice_index_or (listed s) place x.0).request.request.0) is here)
 
 -- what a start is worth, by the offer of its request
-pub worth_by : (s : Parts) (p : Placement) (offer : Offer) (value fade delay : ℕ) → IsOffer s p.request.0 offer → value ≡ offer.value → fade ≡ offer.fade → delay ≡ p.slice.0 - offer.earliest → faded value fade delay ≡ worth_at s p
+pub worth_by : (s : Parts) (p : Placement) (offer : Offer) (value fade delay : ℕ) → IsOffer s p.request.0 offer → value ≡ offer.value
+    → fade ≡ offer.fade → delay ≡ p.slice.0 - offer.earliest → faded value fade delay ≡ worth_at s p
 worth_by s p offer value fade delay is v f d =
     ap (λ (n : ℕ). faded n fade delay) (v ∙ is.value) ∙ ap (λ (n : ℕ). faded (request_value s p.request.0) n delay) (f ∙ is.fade)
     ∙ ap (λ (n : ℕ). faded (request_value s p.request.0) (fade_of s p.request.0) n) (d ∙ ap (λ (n : ℕ). p.slice.0 - n) is.earliest)
 
 -- the value of one start more
-pub value_more : (s : Parts) (plan : List Placement) (i : ℕ) (d : Placement) (value more whole : ℕ) → i < length plan → more ≡ worth_at s (slice_index_or plan i d) → value + value_of_plan s (drop i plan) ≡ whole → value + more + value_of_plan s (drop (i + 1) plan) ≡ whole
+pub value_more : (s : Parts) (plan : List Placement) (i : ℕ) (d : Placement) (value more whole : ℕ) → i < length plan
+    → more ≡ worth_at s (slice_index_or plan i d) → value + value_of_plan s (drop i plan) ≡ whole
+    → value + more + value_of_plan s (drop (i + 1) plan) ≡ whole
 value_more s plan i d value more whole l is so_far =
-    let step : value_of_plan s (drop i plan) ≡ worth_at s (slice_index_or plan i d) + value_of_plan s (drop (i + 1) plan) = sum_by-drop_more (worth_at s) plan i d l in
+    let step : value_of_plan s (drop i plan) ≡ worth_at s (slice_index_or plan i d) + value_of_plan s (drop (i + 1) plan) =
+    sum_by-drop_more (worth_at s) plan i d l in
     omega arith

@@ -1,5 +1,6 @@
 -- A request that is written is read again.
-use Rattle.std.proofs.Common.{◌≡◌, ℕ, suc, ◌≤◌, List, [], ◌∷◌, map, length, All, Bool, true, false, cond, nat_lt, bytes_eq, Option, Some, None, option_map, IfSome, Ok, refl, ap, arith}
+use Rattle.std.proofs.Common.{◌≡◌, ℕ, suc, ◌≤◌, List, [], ◌∷◌, map, length, All, Bool, true, false, cond, nat_lt, bytes_eq, Option, Some, None}
+use Rattle.std.proofs.Common.{option_map, IfSome, Ok, refl, ap, arith}
 use Rattle.std.proofs.lemmas.Bool.{lt-ltb, ltb-false}
 use Rattle.std.proofs.lemmas.Slice.Eq.{bytes_eq-Decides}
 use Rattle.serde_json.specs.Data.{string, array, object, Items, Members}
@@ -26,7 +27,8 @@ use Rattle.request_model.specs.Configuration.{exposure_in, typed_in, are_of_type
 use Rattle.request_model.specs.Location.{location_of}
 use Rattle.request_model.specs.When.{cadence_of, window_in, when_of}
 use Rattle.request_model.specs.Request.{request_in}
-use Rattle.request_model.specs.Written.{cadence_given, windows_given, exposure_data, configuration_data, location_data, cadence_data, window_data, request_at, request_data}
+use Rattle.request_model.specs.Written.{cadence_given, windows_given, exposure_data, configuration_data, location_data, cadence_data, window_data}
+use Rattle.request_model.specs.Written.{request_at, request_data}
 use Rattle.request_model.specs.Ranges.{IsExposure, IsConfiguration, IsLocation, IsCadence, IsWindow, IsWhen, IsRequest}
 
 exposure_back : (e : Exposure) → IsExposure e → exposure_in (exposure_data e) ≡ Ok e
@@ -45,7 +47,8 @@ configuration_back type is_type c h =
       each_back IsExposure exposure_data exposure_in exposure_back c.exposures h.each,
     ) refl
 
-typed_back : (type : List ℕ) → IsText type → (cs : List ConfigDoc) → All IsConfiguration cs → read_each typed_in (map (configuration_data type) cs) ≡ Ok (map (typed type) cs)
+typed_back : (type : List ℕ) → IsText type → (cs : List ConfigDoc) → All IsConfiguration cs
+    → read_each typed_in (map (configuration_data type) cs) ≡ Ok (map (typed type) cs)
 typed_back type is_type [] all = refl
 typed_back type is_type (c ∷ cs) all =
     let first : IsConfiguration c = all 0 c (omega arith) in
@@ -63,7 +66,8 @@ without_types : (type : List ℕ) (cs : List ConfigDoc) → map (λ t. t.configu
 without_types type [] = refl
 without_types type (c ∷ cs) = ap (λ rest. c ∷ rest) (without_types type cs)
 
-one_type_back : (index : ℕ) (type : List ℕ) (cs : List ConfigDoc) → 1 ≤ length cs → of_one_type index (map (typed type) cs) ≡ Ok (record { instrument = type; configurations = cs })
+one_type_back : (index : ℕ) (type : List ℕ) (cs : List ConfigDoc) → 1 ≤ length cs
+    → of_one_type index (map (typed type) cs) ≡ Ok (record { instrument = type; configurations = cs })
 one_type_back index type [] h = absurd (omega arith)
 one_type_back index type (c ∷ cs) h = rw (all_of_type type (c ∷ cs), without_types type cs) refl
 
@@ -119,7 +123,8 @@ window_back index place w h =
       lt-ltb w.from.0 w.to.0 h.order,
     ) refl
 
-when_back : (index : ℕ) (ms : Members) (w : When) → value_of ms key.Cadence ≡ cadence_given w → value_of ms key.Windows ≡ windows_given w → IsWhen w → when_of index ms ≡ Ok w
+when_back : (index : ℕ) (ms : Members) (w : When) → value_of ms key.Cadence ≡ cadence_given w → value_of ms key.Windows ≡ windows_given w → IsWhen w
+    → when_of index ms ≡ Ok w
 when_back index ms (when.Cadence c) has_cadence has_windows h = rw (has_cadence, cadence_back c h) refl
 when_back index ms (when.Windows ws) has_cadence has_windows h =
     rw (
@@ -129,7 +134,8 @@ when_back index ms (when.Windows ws) has_cadence has_windows h =
       each_back_from IsWindow window_data (window_in index) (window_back index) 0 ws h.each,
     ) refl
 
-fade_back : (ms : Members) (fade : ℕ) (b : Bool) → nat_lt 0 fade ≡ b → value_of ms key.Fade ≡ cond b (Some (whole fade)) None → fade ≤ 1000 → or_default 0 (number_in 0 1000) ms key.Fade ≡ Ok fade
+fade_back : (ms : Members) (fade : ℕ) (b : Bool) → nat_lt 0 fade ≡ b → value_of ms key.Fade ≡ cond b (Some (whole fade)) None → fade ≤ 1000
+    → or_default 0 (number_in 0 1000) ms key.Fade ≡ Ok fade
 fade_back ms fade true above found h = rw (found, number_back 0 1000 key.Fade fade (record { low = omega arith; high = h })) refl
 fade_back ms fade false above found h =
     let none : 0 ≡ fade = omega (arith, ltb-false 0 fade above) in
@@ -152,7 +158,8 @@ record AreFound (place : Members) (all : Items) (least lost : ℕ) (times : When
   threshold : value_of ms key.AcceptabilityThreshold ≡ Some (whole least)
   fade : value_of ms key.Fade ≡ cond b (Some (whole lost)) None
 
-are_found : (place : Members) (all : Items) (least lost : ℕ) (times : When) (b : Bool) → AreFound place all least lost times b (members place all least lost times b)
+are_found : (place : Members) (all : Items) (least lost : ℕ) (times : When) (b : Bool)
+    → AreFound place all least lost times b (members place all least lost times b)
 are_found place all least lost (when.Cadence c) true =
     record { location = refl; cadence = refl; windows = refl; configurations = refl; threshold = refl; fade = refl }
 are_found place all least lost (when.Cadence c) false =

@@ -11,7 +11,8 @@ use Rattle.plan_json.specs.Operator.{operator_in}
 use Rattle.plan_json.specs.List.{list_in}
 use Rattle.plan_json.specs.Ranges.{IsBetween, IsText}
 use Rattle.plan_json.proofs.Back.{as_long}
-use Rattle.plan_json.proofs.Ranges.{Gives, any, weaker, either, if_test, after, made, number_member, number_member_or, text_member, text_member_if, moment_member, list_member, each, each_from}
+use Rattle.plan_json.proofs.Ranges.{Gives, any, weaker, either, if_test, after, made, number_member, number_member_or, text_member, text_member_if}
+use Rattle.plan_json.proofs.Ranges.{moment_member, list_member, each, each_from}
 use Rattle.request_model.specs.declared.fault.GroupFault.TheVariants.{BadShape, BadWindow, MixedInstruments}
 use Rattle.request_model.specs.declared.request.When.TheVariants as when
 use Rattle.request_model.specs.declared.request.RequestDoc.{RequestDoc}
@@ -53,7 +54,12 @@ typed_there ms =
     after _ (text_member sky key.Name) (λ name is_name.
     after _ (list_member 1 16 ms key.InstrumentConfigs) (λ ds few.
     after _ (each IsExposure exposure_in exposure_found ds) (λ es are.
-    record { ok = record { type = is_type; configuration = record { name = is_name; count = subst (IsBetween 1 16) (sym are.count) few; each = are.all } } })))))
+    record {
+      ok = record {
+        type = is_type;
+        configuration = record { name = is_name; count = subst (IsBetween 1 16) (sym are.count) few; each = are.all };
+      };
+    })))))
 
 typed_found : (d : Data) → Gives (typed_in d) IsTyped
 typed_found d = after typed_of (any (object_in key.Configurations d)) (λ ms _. typed_there ms)
@@ -65,7 +71,8 @@ record IsTaken (all : OfOneType) : Type 0 where
 one_type_there : (index : ℕ) (ts : List Typed) → IsBetween 1 16 (length ts) → All IsTyped ts → Gives (of_one_type index ts) IsTaken
 one_type_there index [] few are = record { ok = tt }
 one_type_there index (t ∷ ts) few are =
-    if_test IsTaken (are_of_type t.instrument (t ∷ ts)) (record { instrument = t.instrument; configurations = map (λ u. u.configuration) (t ∷ ts) }) (MixedInstruments index)
+    if_test IsTaken (are_of_type t.instrument (t ∷ ts)) (record { instrument = t.instrument; configurations = map (λ u. u.configuration) (t ∷ ts) })
+    (MixedInstruments index)
     (λ _. record {
       type = (All-head IsTyped t ts are).type;
       each = record {
@@ -109,7 +116,8 @@ window_there index window d =
 windows_there : (index : ℕ) (ms : Members) → Gives (windows_of index ms) AreWindows
 windows_there index ms =
     after (read_from (window_in index) 0) (grouped (list_member 1 32 ms key.Windows)) (λ ds few.
-    weaker (each_from IsWindow (window_in index) (window_there index) 0 ds) (λ ws are. record { count = subst (IsBetween 1 32) (sym are.count) few; each = are.all }))
+    weaker (each_from IsWindow (window_in index) (window_there index) 0 ds)
+    (λ ws are. record { count = subst (IsBetween 1 32) (sym are.count) few; each = are.all }))
 
 when_there : (index : ℕ) (ms : Members) → Gives (when_of index ms) IsWhen
 when_there index ms =

@@ -10,4 +10,5 @@ of_first index [] t h e all = absurd (omega arith)
 of_first index (u ∷ ts) t h e all =
     let is : t ≡ u = e in
     let same : are_of_type u.instrument (u ∷ ts) ≡ true = subst (λ (v : Typed). are_of_type v.instrument (u ∷ ts) ≡ true) is all in
-    subst (λ (v : Typed). of_one_type index (u ∷ ts) ≡ Ok (record { instrument = v.instrument; configurations = map (λ w. w.configuration) (u ∷ ts) })) (sym is) (rw same refl)
+    subst (λ (v : Typed). of_one_type index (u ∷ ts)
+    ≡ Ok (record { instrument = v.instrument; configurations = map (λ w. w.configuration) (u ∷ ts) })) (sym is) (rw same refl)

@@ -1,5 +1,6 @@
 -- The counted centres are those below the end, and the windows of a cadence are sound.
-use Rattle.std.proofs.Common.{◌≡◌, ℕ, ◌+◌, ◌*◌, ◌-◌, ◌<◌, ◌≤◌, ◌⊎◌, inl, inr, Bool, true, false, cond, List, [], ◌∷◌, length, map, filter, get_or, All, Contains, Result, Ok, Err, subst, refl, arith}
+use Rattle.std.proofs.Common.{◌≡◌, ℕ, ◌+◌, ◌*◌, ◌-◌, ◌<◌, ◌≤◌, ◌⊎◌, inl, inr, Bool, true, false, cond, List, [], ◌∷◌, length, map, filter, get_or, All}
+use Rattle.std.proofs.Common.{Contains, Result, Ok, Err, subst, refl, arith}
 use Rattle.std.specs.Prelude.{nat_le}
 use Rattle.std.specs.List.{range_with_len}
 use Rattle.std.specs.List.Sorted.{IsNonDecreasingBy}
@@ -32,12 +33,15 @@ counted_end s e p n k h l = elim (below_or_from k n) [
   | inr g ↦ let product : n * p ≤ k * p = mul-le n p k p g (omega arith) in absurd (omega arith)
 ]
 
-counted_bounds : (c : Cadence) → 0 < c.period → (c.end.0 - c.start.0 ≤ centre_count c * c.period) × (centre_count c * c.period < (c.end.0 - c.start.0) + c.period)
+counted_bounds : (c : Cadence) → 0 < c.period → (c.end.0 - c.start.0 ≤ centre_count c * c.period)
+    × (centre_count c * c.period < (c.end.0 - c.start.0) + c.period)
 counted_bounds c p = div_ceil_times (c.end.0 - c.start.0) c.period p
 
 pub counted : CentresAreCounted
-counted c k p =
-    (λ h. below_end c.start.0 c.end.0 c.period (centre_count c) k (counted_bounds c p).1 h, λ h. counted_end c.start.0 c.end.0 c.period (centre_count c) k (counted_bounds c p).0 h)
+counted c k p = (
+  λ h. below_end c.start.0 c.end.0 c.period (centre_count c) k (counted_bounds c p).1 h,
+  λ h. counted_end c.start.0 c.end.0 c.period (centre_count c) k (counted_bounds c p).0 h,
+)
 
 centre_rises : (c : Cadence) (i j : ℕ) → i ≤ j → centre c i ≤ centre c j
 centre_rises c i j h =
@@ -87,8 +91,10 @@ windows_sound c seconds p =
     let all : List Span = map (λ k. window c (centre c k)) (range_with_len 0 (centre_count c)) in
     record {
       inside = All-filter (is_long seconds) (IsInside c) all (all_inside c _);
-      begins_rise = IsNonDecreasingBy-filter (λ w. w.from.0) (is_long seconds) all (map_rises (λ w. w.from.0) (λ k. window c (centre c k)) (centre_count c) (λ i j l. from_rises c _ _ (centre_rises c i j l)));
-      ends_rise = IsNonDecreasingBy-filter (λ w. w.to.0) (is_long seconds) all (map_rises (λ w. w.to.0) (λ k. window c (centre c k)) (centre_count c) (λ i j l. to_rises c _ _ (centre_rises c i j l)));
+      begins_rise = IsNonDecreasingBy-filter (λ w. w.from.0) (is_long seconds) all
+          (map_rises (λ w. w.from.0) (λ k. window c (centre c k)) (centre_count c) (λ i j l. from_rises c _ _ (centre_rises c i j l)));
+      ends_rise = IsNonDecreasingBy-filter (λ w. w.to.0) (is_long seconds) all
+          (map_rises (λ w. w.to.0) (λ k. window c (centre c k)) (centre_count c) (λ i j l. to_rises c _ _ (centre_rises c i j l)));
       long = all_long seconds all;
       each = λ k h. has_window c seconds k p h;
     }
@@ -97,7 +103,8 @@ windows_sound c seconds p =
 no_fault : (answer : Result (List Span) TimeFault) (e : TimeFault) (windows : List Span) → answer ≡ Err e → answer ≡ Ok windows → ⊥
 no_fault answer e windows f h = cc
 
-left : (b d : Bool) (n : ℕ) (ws windows : List Span) → cond b (cond d (if_any ws) (Err (TooManyWindows n))) (Err BadCadence) ≡ Ok windows → (b ≡ true) × (ws ≡ windows)
+left : (b d : Bool) (n : ℕ) (ws windows : List Span) → cond b (cond d (if_any ws) (Err (TooManyWindows n))) (Err BadCadence) ≡ Ok windows
+    → (b ≡ true) × (ws ≡ windows)
 left true true n [] windows h = absurd (no_fault _ _ _ refl h)
 left true true n (w ∷ ws) windows h = let same : w ∷ ws ≡ windows = cc in (refl, same)
 left true false n ws windows h = absurd (no_fault _ _ _ refl h)
@@ -108,5 +115,6 @@ has_period c h = grind (arith, common_steps)
 
 pub sound : WindowsAreSound
 sound c seconds windows h =
-    let is : (is_cadence c ≡ true) × (windows_of c seconds (centre_count c) ≡ windows) = left (is_cadence c) (nat_le (centre_count c) 256) (centre_count c) (windows_of c seconds (centre_count c)) windows h in
+    let is : (is_cadence c ≡ true) × (windows_of c seconds (centre_count c) ≡ windows) =
+    left (is_cadence c) (nat_le (centre_count c) 256) (centre_count c) (windows_of c seconds (centre_count c)) windows h in
     subst (λ (ws : List Span). IsSound c seconds ws) is.1 (windows_sound c seconds (has_period c is.0))

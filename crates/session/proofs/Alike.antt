@@ -60,13 +60,15 @@ later_alike o p r q h (inr g) =
     subst (λ (x : Reply). SameNumbers (later o (claim_in x)) (later p (claim_in q))) (sym g.2)
     (subst (λ (x : Reply). SameNumbers (Some g.0) (later p (claim_in x))) (sym g.3) (g.4, g.5))
 
-last_alike : (o p : Option Claim) (h k : List EventEntry) → SameNumbers o p → AllAlike h k → SameNumbers (last_or o (filter_map claim_by h)) (last_or p (filter_map claim_by k))
+last_alike : (o p : Option Claim) (h k : List EventEntry) → SameNumbers o p → AllAlike h k
+    → SameNumbers (last_or o (filter_map claim_by h)) (last_or p (filter_map claim_by k))
 last_alike o p [] [] same all = same
 last_alike o p [] (y ∷ k) same all = absurd all
 last_alike o p (x ∷ h) [] same all = absurd all
 last_alike o p (x ∷ h) (y ∷ k) same all =
     subst (λ (l : Option Claim). SameNumbers l (last_or p (filter_map claim_by (y ∷ k)))) (sym (last_cons o (claim_by x) (filter_map claim_by h)))
-    (subst (λ (l : Option Claim). SameNumbers (last_or (later o (claim_by x)) (filter_map claim_by h)) l) (sym (last_cons p (claim_by y) (filter_map claim_by k)))
+    (subst (λ (l : Option Claim). SameNumbers (last_or (later o (claim_by x)) (filter_map claim_by h)) l)
+    (sym (last_cons p (claim_by y) (filter_map claim_by k)))
     (last_alike (later o (claim_by x)) (later p (claim_by y)) h k (later_alike o p x.reply y.reply same all.0) all.1))
 
 abbrev counts : ℕ → ℕ → ℕ → ℕ → ℕ → Summary

@@ -1,5 +1,6 @@
 -- Lines of one caller that are done, and one line more.
-use Rattle.std.proofs.Common.{◌≡◌, ℕ, zero, suc, ◌+◌, ◌≤◌, ◌<◌, List, [], ◌∷◌, ◌++◌, length, slice_get, refl, sym, ◌∙◌, ap, subst, arith, inl, inr, Some, None, Result, IsSome}
+use Rattle.std.proofs.Common.{◌≡◌, ℕ, zero, suc, ◌+◌, ◌≤◌, ◌<◌, List, [], ◌∷◌, ◌++◌, length, slice_get, refl, sym, ◌∙◌, ap, subst, arith, inl, inr}
+use Rattle.std.proofs.Common.{Some, None, Result, IsSome}
 use Rattle.std.proofs.Common.{append_assoc, append-nil, length-append}
 use Rattle.std.specs.declared.option.Option.{Option}
 use Rattle.std.proofs.lemmas.Option.{slice_get_past}
@@ -38,15 +39,18 @@ done_none = record { sound = sound_new 1 (record { low = omega arith; high = ome
 
 -- ---- what is known of lines that are done
 
-sound_book : (lines : List ScriptLine) (h : List EventEntry) (s : StateSeen) (t : Option TakenParts) → IsSoundBook (book_of_one lines h s t) → IsSound (lines ∷ []) h
-sound_book lines h s t sound = let book : IsBook (book_of_one lines h s t) = book_of (book_of_one lines h s t) sound in record { legal = book.legal; bounded = book.claims }
+sound_book : (lines : List ScriptLine) (h : List EventEntry) (s : StateSeen) (t : Option TakenParts)
+    → IsSoundBook (book_of_one lines h s t) → IsSound (lines ∷ []) h
+sound_book lines h s t sound = let book : IsBook (book_of_one lines h s t) = book_of (book_of_one lines h s t) sound in
+    record { legal = book.legal; bounded = book.claims }
 
 -- the lines that are done have a sound history
 pub sound_done : (lines : List ScriptLine) (h : List EventEntry) (s : StateSeen) → AreDone lines h s → IsSound (lines ∷ []) h
 sound_done lines h s d = sound_book lines h s None d.sound
 
 -- no caller has a line left
-all_over : (lines : List ScriptLine) (h : List EventEntry) (s : StateSeen) → done_of 0 h ≡ length lines → (caller : ℕ) → IsOver (book_of_one lines h s None) caller
+all_over : (lines : List ScriptLine) (h : List EventEntry) (s : StateSeen) → done_of 0 h ≡ length lines → (caller : ℕ)
+    → IsOver (book_of_one lines h s None) caller
 all_over lines h s count zero = (refl, slice_get_past lines (done_of 0 h) (omega (arith, count)))
 all_over lines h s count (suc caller) = (refl, refl)
 
@@ -101,7 +105,8 @@ sound_taken : (lines : List ScriptLine) (line : ScriptLine) (h : List EventEntry
 sound_taken lines line h s d done room asks is =
     let longer : List ScriptLine = lines ++ line ∷ [] in
     let after : IsSoundBook (book_of_one longer (h ++ take_entry s (done_of 0 h + 1) ∷ []) s (Some (taken_of s d))) =
-    sound_take (book_of_one longer h s None) 0 (command_of_line line) (taken_of s d) (sound_sent lines line h s done room) (omega arith) refl (says_next lines line h s done)
+    sound_take (book_of_one longer h s None) 0 (command_of_line line) (taken_of s d) (sound_sent lines line h s done room) (omega arith) refl
+    (says_next lines line h s done)
     asks (d, is, refl, refl) refl in
     subst (λ (n : ℕ). IsSoundBook (book_of_one longer (h ++ take_entry s (n + 1) ∷ []) s (Some (taken_of s d)))) done.count after
 
@@ -116,7 +121,8 @@ done_plan lines line h s reply d room asks replied =
     let desk = desk_of s.desk asks.1 in
     let count : done_of 0 begun ≡ length lines = done_same 0 h (take_entry s n) refl refl ∙ d.count in
     let after : IsSoundBook (book_of_one longer (begun ++ publish_entry s (done_of 0 begun + 1) reply ∷ []) (after_publish s reply) None) =
-    sound_publish (book_of_one longer begun s (Some (taken_of s desk.0))) 0 (taken_of s desk.0) reply (sound_taken lines line h s desk.0 d room asks desk.1) (omega arith) refl
+    sound_publish (book_of_one longer begun s (Some (taken_of s desk.0))) 0 (taken_of s desk.0) reply
+    (sound_taken lines line h s desk.0 d room asks desk.1) (omega arith) refl
     replied.publication replied.claims in
     let done : AreDone longer (begun ++ publish_entry s n reply ∷ []) (after_publish s reply) = record {
       sound = subst (λ (k : ℕ). IsSoundBook (book_of_one longer (begun ++ publish_entry s (k + 1) reply ∷ []) (after_publish s reply) None)) count after;
@@ -130,7 +136,8 @@ are_more lines line h es s t d room (inl does) =
     subst (λ (xs : List EventEntry). AreDone (lines ++ line ∷ []) (h ++ xs) t) (sym does.2) (done_step lines line h s t does.0 d room does.1)
 are_more lines line h es s t d room (inr does) =
     subst (λ (u : StateSeen). AreDone (lines ++ line ∷ []) (h ++ es) u) (sym does.1.3)
-    (subst (λ (xs : List EventEntry). AreDone (lines ++ line ∷ []) (h ++ xs) (after_publish s does.1.0)) (sym does.1.2) (done_plan lines line h s does.1.0 d room does.0 does.1.1))
+    (subst (λ (xs : List EventEntry). AreDone (lines ++ line ∷ []) (h ++ xs) (after_publish s does.1.0)) (sym does.1.2)
+    (done_plan lines line h s does.1.0 d room does.0 does.1.1))
 
 -- with the entries of the line, or the first of them
 pub sound_begun : (lines : List ScriptLine) (line : ScriptLine) (h es : List EventEntry) (s : StateSeen) → AreDone lines h s → length lines < 65536
@@ -141,7 +148,8 @@ sound_begun lines line h es s d room (inl none) =
 sound_begun lines line h es s d room (inr (inl begun)) =
     let desk = desk_of s.desk begun.0.1 in
     subst (λ (xs : List EventEntry). IsSound ((lines ++ line ∷ []) ∷ []) (h ++ xs)) (sym begun.1)
-    (sound_book (lines ++ line ∷ []) (h ++ take_entry s (length lines + 1) ∷ []) s (Some (taken_of s desk.0)) (sound_taken lines line h s desk.0 d room begun.0 desk.1))
+    (sound_book (lines ++ line ∷ []) (h ++ take_entry s (length lines + 1) ∷ []) s (Some (taken_of s desk.0))
+    (sound_taken lines line h s desk.0 d room begun.0 desk.1))
 sound_begun lines line h es s d room (inr (inr does)) = sound_done (lines ++ line ∷ []) (h ++ es) does.0 (are_more lines line h es s does.0 d room does.1)
 
 -- ---- a line raises the version by one at most
@@ -151,5 +159,6 @@ rises s t (inl same) = omega (arith, ap (λ (u : StateSeen). u.version) same)
 rises s t (inr more) = omega (arith, more)
 
 pub does_version : (s t : StateSeen) (n : ℕ) (read : Result Command CommandFault) (es : List EventEntry) → DoesLine s n read es t → t.version ≤ s.version + 1
-does_version s t n read es (inl d) = subst (λ (u : StateSeen). u.version ≤ s.version + 1) (sym d.1.left) (rises s (after_line s read d.0) (line_goes s read d.0))
+does_version s t n read es (inl d) =
+    subst (λ (u : StateSeen). u.version ≤ s.version + 1) (sym d.1.left) (rises s (after_line s read d.0) (line_goes s read d.0))
 does_version s t n read es (inr d) = subst (λ (u : StateSeen). u.version ≤ s.version + 1) (sym d.1.3) (rises s (after_publish s d.1.0) (publish_goes s d.1.0))

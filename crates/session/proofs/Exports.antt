@@ -44,7 +44,8 @@ exported e c parts = record { members = _; object = refl; snapshot = refl; claim
 
 publication_is : (bytes : List ℕ) (ms : Members) (p : Publication) → document_of bytes ≡ Ok ms → publication_of ms ≡ Ok p → publication_of_bytes bytes ≡ Ok p
 publication_is bytes ms p document publication =
-    subst (λ (r : Result Members JsonFault). (let read : Result Publication DocFault = in_document r >>= publication_of in read) ≡ Ok p) (sym document) publication
+    subst (λ (r : Result Members JsonFault). (let read : Result Publication DocFault = in_document r >>= publication_of in read) ≡ Ok p)
+    (sym document) publication
 
 pub exports_are_checked : ExportsAreChecked
 exports_are_checked scripts history before after e c parts sound is reply writable =

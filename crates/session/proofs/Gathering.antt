@@ -1,5 +1,6 @@
 -- The first entries of a history: what was written of their text, and what is gathered.
-use Rattle.std.proofs.Common.{◌≡◌, ℕ, zero, suc, ◌+◌, List, [], ◌∷◌, ◌++◌, length, take, slice_get, refl, sym, ◌∙◌, ap, subst, arith, add-one, append_assoc, Some}
+use Rattle.std.proofs.Common.{◌≡◌, ℕ, zero, suc, ◌+◌, List, [], ◌∷◌, ◌++◌, length, take, slice_get, refl, sym, ◌∙◌, ap, subst, arith, add-one}
+use Rattle.std.proofs.Common.{append_assoc, Some}
 use Rattle.std.specs.declared.option.Option.{Option}
 use Rattle.std.specs.List.{AllByRecursion}
 use Rattle.std.proofs.Math.Seq.{take-length}
@@ -41,7 +42,8 @@ writable_more : (xs : List EventEntry) (x : EventEntry) → AllByRecursion IsWri
 writable_more [] x h g = (g, tt)
 writable_more (y ∷ xs) x h g = (h.0, writable_more xs x h.1 g)
 
-pub gathered_entry : (w w' : Option (List ℕ)) (history : List EventEntry) (n : ℕ) (old new : List ℕ) → Gathered w w' history n old → AddsEntryAt history n old new
+pub gathered_entry : (w w' : Option (List ℕ)) (history : List EventEntry) (n : ℕ) (old new : List ℕ) → Gathered w w' history n old
+    → AddsEntryAt history n old new
     → Gathered w w' history (n + 1) new
 gathered_entry w w' history n old new g a =
     let longer : take n history ++ a.0 ∷ [] ≡ take (n + 1) history = sym (take_next history n a.0 a.1) ∙ ap (λ (k : ℕ). take k history) (sym (add-one n)) in
@@ -53,7 +55,8 @@ gathered_entry w w' history n old new g a =
 
 -- ---- replies are written
 
-pub gathered_written : (w x y : Option (List ℕ)) (history : List EventEntry) (n : ℕ) (old new : List ℕ) (found : PutAnswer) → found ≡ put.Done → Gathered w x history n old
+pub gathered_written : (w x y : Option (List ℕ)) (history : List EventEntry) (n : ℕ) (old new : List ℕ) (found : PutAnswer) → found ≡ put.Done
+    → Gathered w x history n old
     → IsWrittenOn x y found old new → Gathered w y history n new
 gathered_written w x y history n old new found is g h =
     let told = g.gathers.0 in
@@ -68,7 +71,8 @@ gathered_written w x y history n old new found is g h =
     }
 
 -- a write failed
-pub told_fault : (w x y : Option (List ℕ)) (history : List EventEntry) (n : ℕ) (old new : List ℕ) (found : PutAnswer) → found ≡ put.WriteFault → Gathered w x history n old
+pub told_fault : (w x y : Option (List ℕ)) (history : List EventEntry) (n : ℕ) (old new : List ℕ) (found : PutAnswer) → found ≡ put.WriteFault
+    → Gathered w x history n old
     → IsWrittenOn x y found old new → TellsHistory w y history put.WriteFault
 told_fault w x y history n old new found is g h =
     let failed : Puts x y put.WriteFault old = subst (λ (f : PutAnswer). IsWrittenOn x y f old new) is h in (
@@ -78,7 +82,8 @@ told_fault w x y history n old new found is g h =
     )
 
 -- all entries are gathered, and what is left of their text is written
-pub told_last : (w x y : Option (List ℕ)) (history : List EventEntry) (n : ℕ) (replies : List ℕ) (found : PutAnswer) → n ≡ length history → Gathered w x history n replies
+pub told_last : (w x y : Option (List ℕ)) (history : List EventEntry) (n : ℕ) (replies : List ℕ) (found : PutAnswer) → n ≡ length history
+    → Gathered w x history n replies
     → Puts x y found replies → TellsHistory w y history found
 told_last w x y history n replies put.Done all g h =
     let whole : take n history ≡ history = ap (λ (k : ℕ). take k history) all ∙ take-length history in (
@@ -89,7 +94,8 @@ told_last w x y history n replies put.Done all g h =
 told_last w x y history n replies put.WriteFault all g h = told_fault w x y history n replies [] put.WriteFault refl g h
 
 -- memory was wanting: what is gathered stays
-pub has_gathered : (w x : Option (List ℕ)) (history : List EventEntry) (n : ℕ) (old new : List ℕ) → Gathered w x history n old → new ≡ old → HasGathered w x history new
+pub has_gathered : (w x : Option (List ℕ)) (history : List EventEntry) (n : ℕ) (old new : List ℕ) → Gathered w x history n old → new ≡ old
+    → HasGathered w x history new
 has_gathered w x history n old new g same = record {
   count = n;
   writable = g.writable;
@@ -98,7 +104,8 @@ has_gathered w x history n old new g same = record {
 
 -- ---- what that says of a book in which nothing is left to do
 
-pub answered : (b : BookSeen) (w y : Option (List ℕ)) (found : PutAnswer) → found ≡ put.Done → IsBook b → IsState b.state → ((caller : ℕ) → IsOver b caller) → TellsHistory w y b.history found
+pub answered : (b : BookSeen) (w y : Option (List ℕ)) (found : PutAnswer) → found ≡ put.Done → IsBook b → IsState b.state
+    → ((caller : ℕ) → IsOver b caller) → TellsHistory w y b.history found
     → IsAnswered b.scripts w y
 answered b w y found is k state over h =
     let told : TellsHistory w y b.history put.Done = subst (TellsHistory w y b.history) is h in
@@ -115,13 +122,15 @@ prefix_most : (a b : Option (List ℕ)) (text : List ℕ) (found : PutAnswer) �
 prefix_most a b text put.Done h = prefix_all a b text h
 prefix_most a b text put.WriteFault h = prefix_put a b text h
 
-pub partly_gathered : (b : BookSeen) (w x y : Option (List ℕ)) (replies : List ℕ) (found : PutAnswer) → IsBook b → IsState b.state → ((caller : ℕ) → IsOver b caller)
+pub partly_gathered : (b : BookSeen) (w x y : Option (List ℕ)) (replies : List ℕ) (found : PutAnswer) → IsBook b → IsState b.state
+    → ((caller : ℕ) → IsOver b caller)
     → HasGathered w x b.history replies → Puts x y found replies → IsPartlyAnswered b.scripts w y
 partly_gathered b w x y replies found k state over g h = record {
   history = take g.count b.history;
   sound = prefix_sound b g.count k over;
   telling = prefix_tells b g.count k state g.writable;
-  prefix = subst (λ (text : List ℕ). WritesPrefix w y text) (sym g.gathers.2) (prefix_after w x y g.gathers.0 replies g.gathers.1 (prefix_most x y replies found h));
+  prefix = subst (λ (text : List ℕ). WritesPrefix w y text) (sym g.gathers.2)
+      (prefix_after w x y g.gathers.0 replies g.gathers.1 (prefix_most x y replies found h));
 }
 
 -- no entry

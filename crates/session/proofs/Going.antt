@@ -58,13 +58,16 @@ going_start a w replies none = record {
   within = omega arith;
 }
 
-pub going_first : (a w : Option (List ℕ)) (reader : LinesSeen) (replies : List ℕ) (s : StateSeen) → reader ≡ first_reader → replies ≡ [] → s ≡ start → Going a a w w reader replies 0 s
+pub going_first : (a w : Option (List ℕ)) (reader : LinesSeen) (replies : List ℕ) (s : StateSeen) → reader ≡ first_reader → replies ≡ [] → s ≡ start
+    → Going a a w w reader replies 0 s
 going_first a w reader replies s first none new =
-    subst (λ (r : LinesSeen). Going a a w w r replies 0 s) (sym first) (subst (λ (t : StateSeen). Going a a w w first_reader replies 0 t) (sym new) (going_start a w replies none))
+    subst (λ (r : LinesSeen). Going a a w w r replies 0 s) (sym first)
+    (subst (λ (t : StateSeen). Going a a w w first_reader replies 0 t) (sym new) (going_start a w replies none))
 
 -- ---- replies are written
 
-pub going_written : (a b w x y : Option (List ℕ)) (reader : LinesSeen) (old new : List ℕ) (done : ℕ) (s : StateSeen) → Going a b w x reader old done s → IsWrittenOn x y put.Done old new
+pub going_written : (a b w x y : Option (List ℕ)) (reader : LinesSeen) (old new : List ℕ) (done : ℕ) (s : StateSeen) → Going a b w x reader old done s
+    → IsWrittenOn x y put.Done old new
     → Going a b w y reader new done s
 going_written a b w x y reader old new done s d h =
     let told = d.gathers.0 in
@@ -75,7 +78,12 @@ going_written a b w x y reader old new done s d h =
       are = d.are;
       telling = d.telling;
       count = d.count;
-      gathers = (told ++ h.0, adds_twice w x y told h.0 d.gathers.1 h.1, d.gathers.2 ∙ ap (λ (text : List ℕ). told ++ text) h.2 ∙ sym (append_assoc told h.0 new));
+      gathers = (
+        told ++ h.0,
+        adds_twice w x y told h.0 d.gathers.1 h.1,
+        d.gathers.2 ∙ ap (λ (text : List ℕ). told ++ text) h.2
+            ∙ sym (append_assoc told h.0 new),
+      );
       version = d.version;
       few = d.few;
       bytes = d.bytes;
@@ -83,9 +91,11 @@ going_written a b w x y reader old new done s d h =
     }
 
 -- where no write failed
-pub going_due : (a b w x y : Option (List ℕ)) (reader : LinesSeen) (old new : List ℕ) (done : ℕ) (s : StateSeen) (found : PutAnswer) → found ≡ put.Done → Going a b w x reader old done s
+pub going_due : (a b w x y : Option (List ℕ)) (reader : LinesSeen) (old new : List ℕ) (done : ℕ) (s : StateSeen) (found : PutAnswer)
+    → found ≡ put.Done → Going a b w x reader old done s
     → IsWrittenOn x y found old new → Going a b w y reader new done s
-going_due a b w x y reader old new done s found is d h = going_written a b w x y reader old new done s d (subst (λ (f : PutAnswer). IsWrittenOn x y f old new) is h)
+going_due a b w x y reader old new done s found is d h =
+    going_written a b w x y reader old new done s d (subst (λ (f : PutAnswer). IsWrittenOn x y f old new) is h)
 
 pub later_written : (before now : ℕ) (found : PutAnswer) → found ≡ put.Done → IsPutCause before now found → before ≤ now
 later_written before now found is h = subst (λ (f : PutAnswer). IsPutCause before now f) is h
@@ -94,12 +104,17 @@ later_written before now found is h = subst (λ (f : PutAnswer). IsPutCause befo
 
 text_more : (xs ys : List EventEntry) → text_of_history (xs ++ ys) ≡ text_of_history xs ++ text_of_history ys
 text_more [] ys = refl
-text_more (x ∷ xs) ys = ap (λ (text : List ℕ). text_of_entry x ++ text) (text_more xs ys) ∙ sym (append_assoc (text_of_entry x) (text_of_history xs) (text_of_history ys))
+text_more (x ∷ xs) ys = ap (λ (text : List ℕ). text_of_entry x ++ text) (text_more xs ys)
+    ∙ sym (append_assoc (text_of_entry x) (text_of_history xs) (text_of_history ys))
 
 pub gathers_more : (w w' : Option (List ℕ)) (old new : List ℕ) (h es : List EventEntry) → Gathers w w' old (text_of_history h) → new ≡ old ++ text_of_history es
     → Gathers w w' new (text_of_history (h ++ es))
-gathers_more w w' old new h es g e =
-    (g.0, g.1, text_more h es ∙ ap (λ (text : List ℕ). text ++ text_of_history es) g.2 ∙ append_assoc g.0 old (text_of_history es) ∙ ap (λ (text : List ℕ). g.0 ++ text) (sym e))
+gathers_more w w' old new h es g e = (
+  g.0,
+  g.1,
+  text_more h es ∙ ap (λ (text : List ℕ). text ++ text_of_history es) g.2 ∙ append_assoc g.0 old (text_of_history es)
+      ∙ ap (λ (text : List ℕ). g.0 ++ text) (sym e),
+)
 
 -- so many lines were answered
 pub answered_count : (first : LinesSeen) (a b : Option (List ℕ)) (lines : List ScriptLine) (reader : LinesSeen) → HasAnswered first a lines reader b
@@ -107,7 +122,8 @@ pub answered_count : (first : LinesSeen) (a b : Option (List ℕ)) (lines : List
 answered_count first a b lines reader (inl h) = h.0.2.answered
 answered_count first a b lines reader (inr h) = h.answered
 
-pub most_stays : (first : LinesSeen) (a b : Option (List ℕ)) (lines : List ScriptLine) (reader : LinesSeen) → HasAnswered first a lines reader b → reader.most_lines ≡ first.most_lines
+pub most_stays : (first : LinesSeen) (a b : Option (List ℕ)) (lines : List ScriptLine) (reader : LinesSeen) → HasAnswered first a lines reader b
+    → reader.most_lines ≡ first.most_lines
 most_stays first a b lines reader (inl h) = h.0.2.most_lines
 most_stays first a b lines reader (inr h) = h.most_lines
 
@@ -127,7 +143,8 @@ pub record NextLine (a b c w w' : Option (List ℕ)) (old new : LinesSeen) (repl
   pub steady : new.failed ≡ false
 
 pub next_line : (a b c w w' : Option (List ℕ)) (old new : LinesSeen) (replies : List ℕ) (done : ℕ) (s : StateSeen) (line : ScriptLine) (found : LineAnswer)
-    → found ≡ answer.Line line → Going a b w w' old replies done s → IsNext old b new c found → StaysEnded old b c found → NextLine a b c w w' old new replies done s line
+    → found ≡ answer.Line line → Going a b w w' old replies done s → IsNext old b new c found → StaysEnded old b c found
+    → NextLine a b c w w' old new replies done s line
 next_line a b c w w' old new replies done s line found is d next stays =
     let here : IsNext old b new c (answer.Line line) = subst (IsNext old b new c) is next in
     let read : HasAnswered first_reader a (d.lines ++ line ∷ []) new c =
@@ -142,7 +159,8 @@ next_line a b c w w' old new replies done s line found is d next stays =
       steady = here.3;
     }
 
-pub later_read : (old : LinesSeen) (before now : ℕ) (found : LineAnswer) (line : ScriptLine) → found ≡ answer.Line line → IsNextCause old before now found → before ≤ now
+pub later_read : (old : LinesSeen) (before now : ℕ) (found : LineAnswer) (line : ScriptLine) → found ≡ answer.Line line
+    → IsNextCause old before now found → before ≤ now
 later_read old before now found line is h = subst (IsNextCause old before now) is h
 
 pub few_done : (a b c w w' : Option (List ℕ)) (old new : LinesSeen) (replies : List ℕ) (done : ℕ) (s : StateSeen) (line : ScriptLine)
@@ -154,12 +172,15 @@ room : (lines : List ScriptLine) (line : ScriptLine) → length (lines ++ line �
 room lines line few = omega (arith, one_more lines line, few)
 
 -- the line was done
-pub going_line : (a b c w w' : Option (List ℕ)) (old new : LinesSeen) (replies after : List ℕ) (done : ℕ) (s t : StateSeen) (line : ScriptLine) (unit : Unit {0})
-    → NextLine a b c w w' old new replies done s line → AddsLine s t (done + 1) (command_of_line line) replies after (Ok unit) → Going a c w w' new after (done + 1) t
+pub going_line : (a b c w w' : Option (List ℕ)) (old new : LinesSeen) (replies after : List ℕ) (done : ℕ) (s t : StateSeen)
+    (line : ScriptLine) (unit : Unit {0})
+    → NextLine a b c w w' old new replies done s line → AddsLine s t (done + 1) (command_of_line line) replies after (Ok unit)
+    → Going a c w w' new after (done + 1) t
 going_line a b c w w' old new replies after done s t line unit n l =
     let d = n.going in
     let version = d.version in
-    let does : DoesLine s (length d.lines + 1) (command_of_line line) l.0 t = subst (λ (k : ℕ). DoesLine s (k + 1) (command_of_line line) l.0 t) (sym d.count) l.1 in
+    let does : DoesLine s (length d.lines + 1) (command_of_line line) l.0 t =
+    subst (λ (k : ℕ). DoesLine s (k + 1) (command_of_line line) l.0 t) (sym d.count) l.1 in
     record {
       lines = d.lines ++ line ∷ [];
       history = d.history ++ l.0;
@@ -177,7 +198,8 @@ going_line a b c w w' old new replies after done s t line unit n l =
 -- ---- endings
 
 -- what is gathered of the lines that are done
-pub gathered_here : (a b w w' : Option (List ℕ)) (reader : LinesSeen) (replies : List ℕ) (done : ℕ) (s : StateSeen) → Going a b w w' reader replies done s → IsGathered a b w w' replies
+pub gathered_here : (a b w w' : Option (List ℕ)) (reader : LinesSeen) (replies : List ℕ) (done : ℕ) (s : StateSeen)
+    → Going a b w w' reader replies done s → IsGathered a b w w' replies
 gathered_here a b w w' reader replies done s d = record {
   lines = d.lines;
   read = so_far_first first_reader reader a b d.lines first_fresh refl refl d.bytes d.within d.read;
@@ -192,7 +214,8 @@ pub gathered_none : (a w : Option (List ℕ)) (replies : List ℕ) → replies �
 gathered_none a w replies none = gathered_here a a w w first_reader replies 0 start (going_start a w replies none)
 
 -- memory was wanting where the reader read on for a line
-pub gathered_read : (a b c w w' : Option (List ℕ)) (old new : LinesSeen) (replies : List ℕ) (done : ℕ) (s : StateSeen) → Going a b w w' old replies done s → ReadsOn old b [] new c → IsWithin new
+pub gathered_read : (a b c w w' : Option (List ℕ)) (old new : LinesSeen) (replies : List ℕ) (done : ℕ) (s : StateSeen)
+    → Going a b w w' old replies done s → ReadsOn old b [] new c → IsWithin new
     → (old.ended ≡ true → IsFresh old → ⊥) → IsGathered a c w w' replies
 gathered_read a b c w w' old new replies done s d more within goes_on = record {
   lines = d.lines;
@@ -204,12 +227,14 @@ gathered_read a b c w w' old new replies done s d more within goes_on = record {
 }
 
 -- memory was wanting within a line
-pub gathered_line : (a b c w w' : Option (List ℕ)) (old new : LinesSeen) (replies after : List ℕ) (done : ℕ) (s t : StateSeen) (line : ScriptLine) (error : AllocError)
+pub gathered_line : (a b c w w' : Option (List ℕ)) (old new : LinesSeen) (replies after : List ℕ) (done : ℕ) (s t : StateSeen)
+    (line : ScriptLine) (error : AllocError)
     → NextLine a b c w w' old new replies done s line
     → AddsLine s t (done + 1) (command_of_line line) replies after (Err error) → IsGathered a c w w' after
 gathered_line a b c w w' old new replies after done s t line error n l =
     let d = n.going in
-    let begins : BeginsLine s (length d.lines + 1) (command_of_line line) l.0 = subst (λ (k : ℕ). BeginsLine s (k + 1) (command_of_line line) l.0) (sym d.count) l.1 in
+    let begins : BeginsLine s (length d.lines + 1) (command_of_line line) l.0 =
+    subst (λ (k : ℕ). BeginsLine s (k + 1) (command_of_line line) l.0) (sym d.count) l.1 in
     record {
       lines = d.lines ++ line ∷ [];
       read = so_far_first first_reader new a c (d.lines ++ line ∷ []) first_fresh refl refl n.bytes n.within n.read;
@@ -236,7 +261,8 @@ pub cut_by_fault : (a b w x y : Option (List ℕ)) (replies : List ℕ) → IsGa
 cut_by_fault a b w x y replies g p = cut_off a b w x y replies g (prefix_put x y replies p)
 
 -- where a write of what is due failed
-pub cut_by_due : (a b w x y : Option (List ℕ)) (reader : LinesSeen) (old new : List ℕ) (done : ℕ) (s : StateSeen) (found : PutAnswer) → found ≡ put.WriteFault → Going a b w x reader old done s
+pub cut_by_due : (a b w x y : Option (List ℕ)) (reader : LinesSeen) (old new : List ℕ) (done : ℕ) (s : StateSeen) (found : PutAnswer)
+    → found ≡ put.WriteFault → Going a b w x reader old done s
     → IsWrittenOn x y found old new → IsCutOff a b w y
 cut_by_due a b w x y reader old new done s found is d h =
     cut_by_fault a b w x y old (gathered_here a b w x reader old done s d) (subst (λ (f : PutAnswer). IsWrittenOn x y f old new) is h)
@@ -246,7 +272,8 @@ pub on_err : {T : Type 0} (P : Type 0) (result : Result T AllocError) → P → 
 on_err P (Ok found) h = tt
 on_err P (Err error) h = h
 
-pub cut_by_memory : (a b w x y : Option (List ℕ)) (replies : List ℕ) (found : PutAnswer) → IsGathered a b w x replies → Puts x y found replies → IsCutOff a b w y
+pub cut_by_memory : (a b w x y : Option (List ℕ)) (replies : List ℕ) (found : PutAnswer) → IsGathered a b w x replies
+    → Puts x y found replies → IsCutOff a b w y
 cut_by_memory a b w x y replies put.Done g p = cut_off a b w x y replies g (prefix_all x y replies p)
 cut_by_memory a b w x y replies put.WriteFault g p = cut_by_fault a b w x y replies g p
 
@@ -257,13 +284,15 @@ is_none answer.ReadFault unlike h = h
 is_none answer.InputOver unlike h = h
 
 -- where the reader answers that there is no line, no whole line was at hand, and so no reply is left
-pub no_line_left : (reader : LinesSeen) (replies : List ℕ) (found ending : LineAnswer) → ((line : ScriptLine) → ending ≡ answer.Line line → ⊥) → found ≡ ending → HasLine reader ⊎ (replies ≡ [])
+pub no_line_left : (reader : LinesSeen) (replies : List ℕ) (found ending : LineAnswer) → ((line : ScriptLine) → ending ≡ answer.Line line → ⊥)
+    → found ≡ ending → HasLine reader ⊎ (replies ≡ [])
     → (HasLine reader → IsLine found) → replies ≡ []
 no_line_left reader replies found ending unlike is (inr none) at_hand = none
 no_line_left reader replies found ending unlike is (inl has) at_hand = absurd (is_none ending unlike (subst IsLine is (at_hand has)))
 
 -- the lines came to an end
-pub all_answered : (a b c w w' : Option (List ℕ)) (old new : LinesSeen) (replies : List ℕ) (done : ℕ) (s : StateSeen) (found : LineAnswer) → replies ≡ [] → Going a b w w' old replies done s
+pub all_answered : (a b c w w' : Option (List ℕ)) (old new : LinesSeen) (replies : List ℕ) (done : ℕ) (s : StateSeen) (found : LineAnswer)
+    → replies ≡ [] → Going a b w w' old replies done s
     → IsNext old b new c found → StaysEnded old b c found → ((line : ScriptLine) → found ≡ answer.Line line → ⊥) → IsEnded found a c w w'
 all_answered a b c w w' old new replies done s found none d next stays unlike = record {
   lines = d.lines;
@@ -273,6 +302,7 @@ all_answered a b c w w' old new replies done s found none d next stays unlike = 
     sound = sound_done d.lines d.history s d.are;
     whole = whole_done d.lines d.history s d.are;
     telling = d.telling;
-    written = subst (λ (text : List ℕ). Adds w w' text) (sym (d.gathers.2 ∙ ap (λ (text : List ℕ). d.gathers.0 ++ text) none ∙ append-nil d.gathers.0)) d.gathers.1;
+    written = subst (λ (text : List ℕ). Adds w w' text)
+        (sym (d.gathers.2 ∙ ap (λ (text : List ℕ). d.gathers.0 ++ text) none ∙ append-nil d.gathers.0)) d.gathers.1;
   };
 }

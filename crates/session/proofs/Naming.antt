@@ -1,5 +1,6 @@
 -- Lines that are read of several callers, each of which names one.
-use Rattle.std.proofs.Common.{◌≡◌, ℕ, ◌+◌, ◌≤◌, ◌<◌, List, [], ◌∷◌, ◌++◌, length, IsSome, Bool, true, false, cond, nat_eq, refl, sym, ◌∙◌, ap, subst, arith, inl, inr}
+use Rattle.std.proofs.Common.{◌≡◌, ℕ, ◌+◌, ◌≤◌, ◌<◌, List, [], ◌∷◌, ◌++◌, length, IsSome, Bool, true, false, cond, nat_eq, refl, sym, ◌∙◌, ap, subst}
+use Rattle.std.proofs.Common.{arith, inl, inr}
 use Rattle.std.proofs.Common.{append_assoc, append-nil}
 use Rattle.std.specs.declared.option.Option.{Option}
 use Rattle.std.proofs.lemmas.List.Elements.{All-nil, All-push}
@@ -28,7 +29,8 @@ but_one (b ∷ piece) [] = (line_of (b ∷ piece) ∷ [], refl, omega arith)
 but_one piece (b ∷ bytes) =
     elim (nat_eq b 10) as (λ t.
     (last : List ScriptLine)
-    × (cond t (line_of piece ∷ lines_from [] bytes) (lines_from (piece ++ b ∷ []) bytes) ≡ cond t (line_of piece ∷ whole_lines_from [] bytes) (whole_lines_from (piece ++ b ∷ []) bytes) ++ last)
+    × (cond t (line_of piece ∷ lines_from [] bytes) (lines_from (piece ++ b ∷ []) bytes) ≡ cond t (line_of piece ∷ whole_lines_from [] bytes)
+    (whole_lines_from (piece ++ b ∷ []) bytes) ++ last)
     × (length last ≤ 1)) [
       | true ↦ let rest = but_one [] bytes in (rest.0, ap (λ (ls : List ScriptLine). line_of piece ∷ ls) rest.1, rest.2)
       | false ↦ but_one (piece ++ b ∷ []) bytes
@@ -46,12 +48,14 @@ same_front (a ∷ xs) (b ∷ ys) x y h =
     let rest : xs ++ x ∷ [] ≡ ys ++ y ∷ [] = cc in
     ap (λ (z : ScriptLine). z ∷ xs) first ∙ ap (λ (zs : List ScriptLine). b ∷ zs) (same_front xs ys x y rest)
 
-begins_whole : (whole last lines : List ScriptLine) (line : ScriptLine) → whole ++ last ≡ lines ++ line ∷ [] → length last ≤ 1 → (rest : List ScriptLine) × (whole ≡ lines ++ rest)
+begins_whole : (whole last lines : List ScriptLine) (line : ScriptLine) → whole ++ last ≡ lines ++ line ∷ [] → length last ≤ 1
+    → (rest : List ScriptLine) × (whole ≡ lines ++ rest)
 begins_whole whole [] lines line is few = (line ∷ [], sym (append-nil whole) ∙ is)
 begins_whole whole (x ∷ []) lines line is few = ([], same_front whole lines x line is ∙ sym (append-nil lines))
 begins_whole whole (x ∷ y ∷ last) lines line is few = absurd (omega arith)
 
-pub one_fewer : (m n : ℕ) (a b : Option (List ℕ)) (lines : List ScriptLine) (line : ScriptLine) → ReadsFirst m n a (lines ++ line ∷ []) b → ReadsFirst m n a lines b
+pub one_fewer : (m n : ℕ) (a b : Option (List ℕ)) (lines : List ScriptLine) (line : ScriptLine) → ReadsFirst m n a (lines ++ line ∷ []) b
+    → ReadsFirst m n a lines b
 one_fewer m n a b lines line r =
     let first : ((rest : List ScriptLine) × (whole_lines_of r.given ≡ lines ++ rest)) =
     elim r.first [
@@ -110,14 +114,21 @@ pub record NextNaming (a b c : Option (List ℕ)) (old new : LinesSeen) (number 
   pub steady : new.failed ≡ false
   pub room : length naming.lines < 65536
 
-pub next_naming : (a b c : Option (List ℕ)) (old new : LinesSeen) (number : ℕ) (book : BookSeen) (line : ScriptLine) (found : LineAnswer) → found ≡ answer.Line line → Naming a b old number book
+pub next_naming : (a b c : Option (List ℕ)) (old new : LinesSeen) (number : ℕ) (book : BookSeen) (line : ScriptLine) (found : LineAnswer)
+    → found ≡ answer.Line line → Naming a b old number book
     → IsNext old b new c found → StaysEnded old b c found → NextNaming a b c old new number book line
 next_naming a b c old new number book line found is d next stays =
     let here : IsNext old b new c (answer.Line line) = subst (IsNext old b new c) is next in
     let read : HasAnswered live_reader a (d.lines ++ line ∷ []) new c =
     so_far_line live_reader old new a b c d.lines line live_fresh d.read here (λ e f. sym is ∙ (stays e f).1) in
     let within : new.answered ≤ new.most_lines = here.2 in
-    let few : length (d.lines ++ line ∷ []) ≤ 65536 = omega (arith, answered_count live_reader a c (d.lines ++ line ∷ []) new read, most_stays live_reader a c (d.lines ++ line ∷ []) new read, within) in
+    let few : length (d.lines ++ line ∷ []) ≤ 65536 =
+    omega (
+      arith,
+      answered_count live_reader a c (d.lines ++ line ∷ []) new read,
+      most_stays live_reader a c (d.lines ++ line ∷ []) new read,
+      within,
+    ) in
     record {
       naming = d;
       read = read;
@@ -129,20 +140,24 @@ next_naming a b c old new number book line found is d next stays =
     }
 
 -- each script has room for it
-pub room_for : (a b c : Option (List ℕ)) (old new : LinesSeen) (number : ℕ) (book : BookSeen) (line : ScriptLine) → NextNaming a b c old new number book line → (caller : ℕ)
+pub room_for : (a b c : Option (List ℕ)) (old new : LinesSeen) (number : ℕ) (book : BookSeen) (line : ScriptLine)
+    → NextNaming a b c old new number book line → (caller : ℕ)
     → length (script_of book.scripts caller) < 65536
 room_for a b c old new number book line n caller =
     let lines = n.naming.lines in
-    let same : length (script_of book.scripts caller) ≡ length (script_of (scripts_of lines) caller) = ap (λ (k : BookSeen). length (script_of k.scripts caller)) n.naming.sent in
+    let same : length (script_of book.scripts caller) ≡ length (script_of (scripts_of lines) caller) =
+    ap (λ (k : BookSeen). length (script_of k.scripts caller)) n.naming.sent in
     omega (arith, n.room, scripts_short lines caller, same)
 
 -- the first of what was read
-read_first : (a c : Option (List ℕ)) (new : LinesSeen) (lines : List ScriptLine) → HasAnswered live_reader a lines new c → new.taken ≤ new.most_bytes → new.answered ≤ new.most_lines
+read_first : (a c : Option (List ℕ)) (new : LinesSeen) (lines : List ScriptLine) → HasAnswered live_reader a lines new c → new.taken ≤ new.most_bytes
+    → new.answered ≤ new.most_lines
     → ReadsFirst 16777216 65536 a lines c
 read_first a c new lines read bytes within = so_far_first live_reader new a c lines live_fresh refl refl bytes within read
 
 -- the line was sent
-pub naming_line : (a b c : Option (List ℕ)) (old new : LinesSeen) (number : ℕ) (book after : BookSeen) (line : ScriptLine) (named : Bool) → named ≡ true → NextNaming a b c old new number book line
+pub naming_line : (a b c : Option (List ℕ)) (old new : LinesSeen) (number : ℕ) (book after : BookSeen) (line : ScriptLine) (named : Bool)
+    → named ≡ true → NextNaming a b c old new number book line
     → IsSent book line after named → Naming a c new (number + 1) after
 naming_line a b c old new number book after line named is n s =
     let sent : IsSent book line after true = subst (IsSent book line after) is s in
@@ -159,7 +174,8 @@ naming_line a b c old new number book after line named is n s =
     }
 
 -- it names no caller
-pub no_caller : (a b c : Option (List ℕ)) (old new : LinesSeen) (number : ℕ) (book after : BookSeen) (line : ScriptLine) (named : Bool) → named ≡ false → NextNaming a b c old new number book line
+pub no_caller : (a b c : Option (List ℕ)) (old new : LinesSeen) (number : ℕ) (book after : BookSeen) (line : ScriptLine) (named : Bool)
+    → named ≡ false → NextNaming a b c old new number book line
     → IsSent book line after named → (lines : List ScriptLine) × HasNoCaller a c lines × (number + 1 ≡ length lines + 1)
 no_caller a b c old new number book after line named is n s =
     let sent : IsSent book line after false = subst (IsSent book line after) is s in
@@ -172,8 +188,10 @@ no_caller a b c old new number book after line named is n s =
 -- ---- endings
 
 -- the lines came to an end
-naming_ends : (a b c : Option (List ℕ)) (old new : LinesSeen) (number : ℕ) (book : BookSeen) (found : LineAnswer) → Naming a b old number book → IsNext old b new c found
-    → StaysEnded old b c found → ((line : ScriptLine) → found ≡ answer.Line line → ⊥) → (lines : List ScriptLine) × HasRead found a c lines × (book.scripts ≡ scripts_of lines)
+naming_ends : (a b c : Option (List ℕ)) (old new : LinesSeen) (number : ℕ) (book : BookSeen) (found : LineAnswer) → Naming a b old number book
+    → IsNext old b new c found
+    → StaysEnded old b c found → ((line : ScriptLine) → found ≡ answer.Line line → ⊥) → (lines : List ScriptLine) × HasRead found a c lines
+    × (book.scripts ≡ scripts_of lines)
 naming_ends a b c old new number book found d next stays unlike = (
   d.lines,
   record { read = so_far_ends live_reader old new a b c d.lines found live_fresh refl refl d.bytes d.within d.read next stays unlike; named = d.named },
@@ -181,7 +199,8 @@ naming_ends a b c old new number book found d next stays unlike = (
 )
 
 -- at this ending
-pub naming_ended : (a b c : Option (List ℕ)) (old new : LinesSeen) (number : ℕ) (book : BookSeen) (found ending : LineAnswer) → found ≡ ending → Naming a b old number book
+pub naming_ended : (a b c : Option (List ℕ)) (old new : LinesSeen) (number : ℕ) (book : BookSeen) (found ending : LineAnswer) → found ≡ ending
+    → Naming a b old number book
     → IsNext old b new c found → StaysEnded old b c found → ((line : ScriptLine) → ending ≡ answer.Line line → ⊥)
     → (lines : List ScriptLine) × HasRead ending a c lines × (book.scripts ≡ scripts_of lines)
 naming_ended a b c old new number book found ending is d next stays unlike =
@@ -195,13 +214,15 @@ some_none a =
     (d.lines, record { read = read_first a a live_reader d.lines d.read d.bytes d.within; named = d.named })
 
 -- where the reader read on for a line
-pub some_read : (a b c : Option (List ℕ)) (old new : LinesSeen) (number : ℕ) (book : BookSeen) → Naming a b old number book → ReadsOn old b [] new c → IsWithin new
+pub some_read : (a b c : Option (List ℕ)) (old new : LinesSeen) (number : ℕ) (book : BookSeen) → Naming a b old number book
+    → ReadsOn old b [] new c → IsWithin new
     → (old.ended ≡ true → IsFresh old → ⊥) → HasReadSome a c
 some_read a b c old new number book d more within goes_on =
     (d.lines, record { read = so_far_cut live_reader old new a b c d.lines live_fresh refl refl d.read more within goes_on; named = d.named })
 
 -- where a line was to be sent
-pub some_sent : (a b c : Option (List ℕ)) (old new : LinesSeen) (number : ℕ) (book : BookSeen) (line : ScriptLine) → NextNaming a b c old new number book line → HasReadSome a c
+pub some_sent : (a b c : Option (List ℕ)) (old new : LinesSeen) (number : ℕ) (book : BookSeen) (line : ScriptLine)
+    → NextNaming a b c old new number book line → HasReadSome a c
 some_sent a b c old new number book line n =
     let d = n.naming in
     (d.lines, record { read = one_fewer 16777216 65536 a c d.lines line (read_first a c new (d.lines ++ line ∷ []) n.read n.bytes n.within); named = d.named })

@@ -1,5 +1,6 @@
 -- Words that are numbers, and words that are too many.
-use Rattle.std.proofs.Common.{◌≡◌, ℕ, ◌<◌, ◌≤◌, ◌^◌, ◌&&◌, ◌==◌, nat_lt, nat_le, Bool, true, false, cond, List, [], ◌∷◌, length, drop, bytes_eq, codes, refl, sym, ◌∙◌, ap, subst, arith, Some, None, Result, Err, map, String, Global, string_bytes}
+use Rattle.std.proofs.Common.{◌≡◌, ℕ, ◌<◌, ◌≤◌, ◌^◌, ◌&&◌, ◌==◌, nat_lt, nat_le, Bool, true, false, cond, List, [], ◌∷◌, length, drop, bytes_eq, codes}
+use Rattle.std.proofs.Common.{refl, sym, ◌∙◌, ap, subst, arith, Some, None, Result, Err, map, String, Global, string_bytes}
 use Rattle.std.specs.List.{list_all}
 use Rattle.std.specs.Char.{digit_value, is_ascii_digit}
 use Rattle.std.specs.Result.{OkIff}
@@ -43,7 +44,8 @@ numeral word h =
 abbrev Parses : {E : Type 0} → List ℕ → Result ℕ E → Type 0
 Parses ds r = OkIff r (IsNumeral 10 ds × (digits_value 10 ds < 2 ^ 32)) (digits_value 10 ds)
 
-too_big : (word : List ℕ) (b : Bool) → is_numeral word ≡ true → nat_lt (digits_value 10 word) (2 ^ 32) ≡ b → ¬ (IsNumeral 10 word × (digits_value 10 word < 2 ^ 32)) → b ≡ false
+too_big : (word : List ℕ) (b : Bool) → is_numeral word ≡ true → nat_lt (digits_value 10 word) (2 ^ 32) ≡ b
+    → ¬ (IsNumeral 10 word × (digits_value 10 word < 2 ^ 32)) → b ≡ false
 too_big word false h is none = refl
 too_big word true h is none = absurd (none ((numeral word h).1, grind (arith, nat_tests, is)))
 

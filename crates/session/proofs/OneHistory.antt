@@ -1,5 +1,6 @@
 -- Whole, sound histories of one script, of which the last line alone may ask for a plan, are alike.
-use Rattle.std.proofs.Common.{◌≡◌, ℕ, ◌+◌, ◌-◌, ◌≤◌, ◌⊎◌, Bool, true, false, List, [], ◌∷◌, ◌++◌, length, slice_index_or, refl, sym, ◌∙◌, ap, subst, inl, inr, arith, Some, None, Result, Ok, nat_lt, append_assoc}
+use Rattle.std.proofs.Common.{◌≡◌, ℕ, ◌+◌, ◌-◌, ◌≤◌, ◌⊎◌, Bool, true, false, List, [], ◌∷◌, ◌++◌, length, slice_index_or, refl, sym, ◌∙◌, ap, subst}
+use Rattle.std.proofs.Common.{inl, inr, arith, Some, None, Result, Ok, nat_lt, append_assoc}
 use Rattle.std.specs.List.{last_or}
 use Rattle.std.proofs.lemmas.Bool.Decides.{nat_tests}
 use Rattle.plan_base.specs.declared.claim.Claim.{Claim}
@@ -43,7 +44,8 @@ one_snapshot s a b h g =
     let same : h.0 ≡ g.0 = cc in
     h.2 ∙ ap (snapshot_of s.version) same ∙ sym g.2
 
-planned_at : (s : StateSeen) (parts : Parts) (claim : Claim) (d : DeskSeen) → s.desk ≡ Some d → IsPlannedOver s parts claim → IsPlanned parts d.opening.settings claim
+planned_at : (s : StateSeen) (parts : Parts) (claim : Claim) (d : DeskSeen) → s.desk ≡ Some d → IsPlannedOver s parts claim
+    → IsPlanned parts d.opening.settings claim
 planned_at s parts claim d opened p =
     let both : Some p.0 ≡ Some d = sym p.1 ∙ opened in
     let same : p.0 ≡ d = cc in
@@ -54,9 +56,11 @@ record PlanSaid (s : StateSeen) (r : Reply) : Type 0 where
   said : IsPublication s s.version r
   planned : (claim : Claim) → r ≡ Published claim → (parts : Parts) × IsSnapshotOf s parts × IsPlannedOver s parts claim
 
-both_alike : (s : StateSeen) (r q : Reply) → PlanSaid s r → PlanSaid s q → TellsManyStarts s r ⊎ PublishesClaim s r → TellsManyStarts s q ⊎ PublishesClaim s q → AreAlike r q
+both_alike : (s : StateSeen) (r q : Reply) → PlanSaid s r → PlanSaid s q → TellsManyStarts s r ⊎ PublishesClaim s r
+    → TellsManyStarts s q ⊎ PublishesClaim s q → AreAlike r q
 both_alike s r q p t (inl h) (inl g) =
-    let same : h.0 ≡ g.0 = one_start_count h.2.0 h.0 g.0 h.2.2 (subst (λ (parts : Parts). IsStartCount parts g.0) (one_snapshot s g.2.0 h.2.0 g.2.1 h.2.1) g.2.2) in
+    let same : h.0 ≡ g.0 = one_start_count h.2.0 h.0 g.0 h.2.2
+    (subst (λ (parts : Parts). IsStartCount parts g.0) (one_snapshot s g.2.0 h.2.0 g.2.1 h.2.1) g.2.2) in
     inl (h.1 ∙ ap (λ (count : ℕ). Refused (TooManyStarts count)) same ∙ sym g.1)
 both_alike s r q p t (inl h) (inr g) =
     let few = subst (λ (parts : Parts). HasFewStarts parts) (one_snapshot s g.2.0 h.2.0 g.2.1 h.2.1) g.2.2 in
@@ -73,7 +77,14 @@ both_alike s r q p t (inr h) (inr g) =
     let first : IsPlanned a.0 d.opening.settings h.0 = a.2.2 in
     let second : IsPlanned a.0 d.opening.settings g.0 =
     subst (λ (parts : Parts). IsPlanned parts d.opening.settings g.0) (one_snapshot s b.0 a.0 b.1 a.1) (planned_at s b.0 g.0 d a.2.1 b.2) in
-    inr (h.0, g.0, h.1, g.1, one_bound a.0 d.opening.settings d.opening.settings h.0 g.0 (record { lanes = refl; rounds = refl }) first second, one_value a.0 d.opening.settings d.opening.settings h.0 g.0 (record { lanes = refl; rounds = refl }) first second)
+    inr (
+      h.0,
+      g.0,
+      h.1,
+      g.1,
+      one_bound a.0 d.opening.settings d.opening.settings h.0 g.0 (record { lanes = refl; rounds = refl }) first second,
+      one_value a.0 d.opening.settings d.opening.settings h.0 g.0 (record { lanes = refl; rounds = refl }) first second,
+    )
 
 one_plan : (s : StateSeen) (r q : Reply) → PlanSaid s r → PlanSaid s q → AreAlike r q
 one_plan s r q p t = both_alike s r q p t (told_or_published s r p.said) (told_or_published s q t.said)
@@ -93,7 +104,8 @@ record Rest (lines : List ScriptLine) (before h : List EventEntry) (n : ℕ) : T
 
 read_of : (lines : List ScriptLine) (x : EventEntry) (n : ℕ) → x.caller ≡ 0 → x.line ≡ n → read_at (lines ∷ []) x ≡ said_at lines n
 read_of lines x n caller line =
-    let script : List (List ScriptLine) → ℕ → ℕ → Result Command CommandFault = λ scripts c l. command_of_line (slice_index_or (slice_index_or scripts c []) (l - 1) TooLong) in
+    let script : List (List ScriptLine) → ℕ → ℕ → Result Command CommandFault =
+    λ scripts c l. command_of_line (slice_index_or (slice_index_or scripts c []) (l - 1) TooLong) in
     ap (λ (c : ℕ). script (lines ∷ []) c x.line) caller ∙ ap (λ (l : ℕ). script (lines ∷ []) 0 l) line
 
 entry_of : (lines : List ScriptLine) (before h : List EventEntry) (x : EventEntry) → IsSound (lines ∷ []) (before ++ x ∷ h) → IsEntry (lines ∷ []) before x
@@ -103,10 +115,12 @@ same_entry : (x y : EventEntry) → x.caller ≡ y.caller → x.line ≡ y.line 
 same_entry x y caller line what version reply =
     let make : ℕ → ℕ → What → ℕ → Reply → EventEntry = λ c l w v r. record { caller = c; line = l; what = w; version = v; reply = r } in
     ap (λ c. make c x.line x.what x.version x.reply) caller ∙ ap (λ l. make y.caller l x.what x.version x.reply) line
-    ∙ ap (λ w. make y.caller y.line w x.version x.reply) what ∙ ap (λ v. make y.caller y.line y.what v x.reply) version ∙ ap (λ r. make y.caller y.line y.what y.version r) reply
+    ∙ ap (λ w. make y.caller y.line w x.version x.reply) what ∙ ap (λ v. make y.caller y.line y.what v x.reply) version
+    ∙ ap (λ r. make y.caller y.line y.what y.version r) reply
 
 -- the rest after an entry that is a whole line
-rest_after : (lines : List ScriptLine) (before h : List EventEntry) (x : EventEntry) (n : ℕ) → Rest lines before (x ∷ h) n → AreTurnsOf (n + 1) (turns h) (length lines + 1) → Rest lines (before ++ x ∷ []) h (n + 1)
+rest_after : (lines : List ScriptLine) (before h : List EventEntry) (x : EventEntry) (n : ℕ) → Rest lines before (x ∷ h) n
+    → AreTurnsOf (n + 1) (turns h) (length lines + 1) → Rest lines (before ++ x ∷ []) h (n + 1)
 rest_after lines before h x n r answers = record {
   counted = omega arith;
   sound = subst (λ (es : List EventEntry). IsSound (lines ∷ []) es) (sym (append_assoc before (x ∷ []) h)) r.sound;
@@ -140,7 +154,8 @@ same_some : (a b : EventEntry) → Some a ≡ Some b → a ≡ b
 same_some a b h = cc
 
 -- what the Publish after a Take says
-publish_said : (lines : List ScriptLine) (before : List EventEntry) (x p : EventEntry) → IsSound (lines ∷ []) (before ++ x ∷ p ∷ []) → AreMine before → AreMine (x ∷ p ∷ []) → x.what ≡ Take → p.what ≡ Publish
+publish_said : (lines : List ScriptLine) (before : List EventEntry) (x p : EventEntry) → IsSound (lines ∷ []) (before ++ x ∷ p ∷ []) → AreMine before
+    → AreMine (x ∷ p ∷ []) → x.what ≡ Take → p.what ≡ Publish
     → PlanSaid (replay (lines ∷ []) before) p.reply
 publish_said lines before x p sound mine both take publish =
     let scripts : List (List ScriptLine) = lines ∷ [] in
@@ -171,7 +186,8 @@ abbrev LaterAlike : List ScriptLine → List EventEntry → EventEntry → List 
 LaterAlike lines before x h n = (k : List EventEntry) → Rest lines (before ++ x ∷ []) h (n + 1) → Rest lines (before ++ x ∷ []) k (n + 1) → AllAlike h k
 
 -- a Take stands for the last line alone
-take_last : (lines : List ScriptLine) (before h : List EventEntry) (x : EventEntry) (n : ℕ) → PlansLast lines → Rest lines before (x ∷ h) n → x.what ≡ Take → x.line ≡ n → n ≤ length lines → n ≡ length lines
+take_last : (lines : List ScriptLine) (before h : List EventEntry) (x : EventEntry) (n : ℕ) → PlansLast lines → Rest lines before (x ∷ h) n
+    → x.what ≡ Take → x.line ≡ n → n ≤ length lines → n ≡ length lines
 take_last lines before h x n plans r take line most =
     let e : IsEntry (lines ∷ []) before x = entry_of lines before h x r.sound in
     let asks : IsReply (lines ∷ []) before x Take = subst (λ (w : What). IsReply (lines ∷ []) before x w) take e.reply in
@@ -188,8 +204,10 @@ only_publish n l m h t last =
     let none : t.rest ≡ [] = no_turns t.rest (none_at (n + 1) (turns t.rest) (subst (λ (k : ℕ). AreTurnsOf (n + 1) (turns t.rest) k) last t.answers)) in
     t.is ∙ ap (λ (es : List EventEntry). t.entry ∷ es) none
 
-plans_alike : (lines : List ScriptLine) (before h k : List EventEntry) (x y : EventEntry) (n : ℕ) → PlansLast lines → AreMine before → Rest lines before (x ∷ h) n → Rest lines before (y ∷ k) n
-    → x.what ≡ Take → y.what ≡ Take → GoesOn n x.line Take (turns h) (length lines + 1) → GoesOn n y.line Take (turns k) (length lines + 1) → AllAlike (x ∷ h) (y ∷ k)
+plans_alike : (lines : List ScriptLine) (before h k : List EventEntry) (x y : EventEntry) (n : ℕ) → PlansLast lines → AreMine before
+    → Rest lines before (x ∷ h) n → Rest lines before (y ∷ k) n
+    → x.what ≡ Take → y.what ≡ Take → GoesOn n x.line Take (turns h) (length lines + 1) → GoesOn n y.line Take (turns k) (length lines + 1)
+    → AllAlike (x ∷ h) (y ∷ k)
 plans_alike lines before h k x y n plans mine r q is is' g g' =
     let scripts : List (List ScriptLine) = lines ∷ [] in
     let a = took n x.line (length lines + 1) h g in
@@ -207,11 +225,15 @@ plans_alike lines before h k x y n plans mine r q is is' g g' =
     let ry : IsReply scripts before y Take = subst (λ (w : What). IsReply scripts before y w) is' (entry_of lines before k y q.sound).reply in
     let takes : x.reply ≡ y.reply = rx.1 ∙ sym ry.1 in
     let plan : AreAlike a.entry.reply b.entry.reply =
-    one_plan (replay scripts before) a.entry.reply b.entry.reply (publish_said lines before x a.entry sx mine mx is a.what) (publish_said lines before y b.entry sy mine my is' b.what) in
-    subst (λ (es : List EventEntry). AllAlike (x ∷ es) (y ∷ k)) (sym eh) (subst (λ (es : List EventEntry). AllAlike (x ∷ a.entry ∷ []) (y ∷ es)) (sym ek) (inl takes, (plan, tt)))
+    one_plan (replay scripts before) a.entry.reply b.entry.reply (publish_said lines before x a.entry sx mine mx is a.what)
+    (publish_said lines before y b.entry sy mine my is' b.what) in
+    subst (λ (es : List EventEntry). AllAlike (x ∷ es) (y ∷ k)) (sym eh)
+    (subst (λ (es : List EventEntry). AllAlike (x ∷ a.entry ∷ []) (y ∷ es)) (sym ek) (inl takes, (plan, tt)))
 
-alike_by : (lines : List ScriptLine) (before h k : List EventEntry) (x y : EventEntry) (n : ℕ) (a b : What) → PlansLast lines → AreMine before → LaterAlike lines before x h n
-    → Rest lines before (x ∷ h) n → Rest lines before (y ∷ k) n → x.what ≡ a → y.what ≡ b → GoesOn n x.line a (turns h) (length lines + 1) → GoesOn n y.line b (turns k) (length lines + 1)
+alike_by : (lines : List ScriptLine) (before h k : List EventEntry) (x y : EventEntry) (n : ℕ) (a b : What) → PlansLast lines → AreMine before
+    → LaterAlike lines before x h n
+    → Rest lines before (x ∷ h) n → Rest lines before (y ∷ k) n → x.what ≡ a → y.what ≡ b → GoesOn n x.line a (turns h) (length lines + 1)
+    → GoesOn n y.line b (turns k) (length lines + 1)
     → AllAlike (x ∷ h) (y ∷ k)
 alike_by lines before h k x y n Line Line plans mine later r q is is' g g' =
     let scripts : List (List ScriptLine) = lines ∷ [] in
@@ -220,9 +242,13 @@ alike_by lines before h k x y n Line Line plans mine later r q is is' g g' =
     let rx : IsReply scripts before x Line = subst (λ (w : What). IsReply scripts before x w) is ex.reply in
     let ry : IsReply scripts before y Line = subst (λ (w : What). IsReply scripts before y w) is' ey.reply in
     let read : read_at scripts y ≡ read_at scripts x = read_of lines y n q.mine.0 g'.0 ∙ sym (read_of lines x n r.mine.0 g.0) in
-    let reply : x.reply ≡ y.reply = one_reply (replay scripts before) (read_at scripts x) x.reply y.reply rx.1 (subst (λ c. IsLineReply (replay scripts before) c y.reply) read ry.1) in
-    let same : y ≡ x = sym (same_entry x y (r.mine.0 ∙ sym q.mine.0) (g.0 ∙ sym g'.0) (is ∙ sym is') (ex.version ∙ sym ey.version) reply) in
-    (inl reply, later k (rest_after lines before h x n r g.1) (subst (λ (e : EventEntry). Rest lines (before ++ e ∷ []) k (n + 1)) same (rest_after lines before k y n q g'.1)))
+    let reply : x.reply ≡ y.reply = one_reply (replay scripts before) (read_at scripts x) x.reply y.reply rx.1
+    (subst (λ c. IsLineReply (replay scripts before) c y.reply) read ry.1) in
+    let same : y ≡ x = sym (same_entry x y (r.mine.0 ∙ sym q.mine.0) (g.0 ∙ sym g'.0) (is ∙ sym is') (ex.version ∙ sym ey.version) reply) in (
+      inl reply,
+      later k (rest_after lines before h x n r g.1)
+          (subst (λ (e : EventEntry). Rest lines (before ++ e ∷ []) k (n + 1)) same (rest_after lines before k y n q g'.1)),
+    )
 alike_by lines before h k x y n Line Take plans mine later r q is is' g g' =
     let scripts : List (List ScriptLine) = lines ∷ [] in
     let rx : IsReply scripts before x Line = subst (λ (w : What). IsReply scripts before x w) is (entry_of lines before h x r.sound).reply in
@@ -250,7 +276,8 @@ answers_more n l m Take ((k, Line) ∷ ts) h = absurd h
 answers_more n l m Take ((k, Take) ∷ ts) h = absurd h
 answers_more n l m Publish ts h = absurd h
 
-same_from : (lines : List ScriptLine) (before h k : List EventEntry) (n : ℕ) → PlansLast lines → AreMine before → Rest lines before h n → Rest lines before k n → AllAlike h k
+same_from : (lines : List ScriptLine) (before h k : List EventEntry) (n : ℕ) → PlansLast lines → AreMine before → Rest lines before h n
+    → Rest lines before k n → AllAlike h k
 same_from lines before [] [] n plans mine r q = tt
 same_from lines before [] (y ∷ k) n plans mine r q =
     let over : n ≡ length lines + 1 = r.answers in
@@ -262,9 +289,11 @@ same_from lines before (x ∷ h) [] n plans mine r q =
     absurd (omega (arith, over, more))
 same_from lines before (x ∷ h) (y ∷ k) n plans mine r q =
     let longer : AreMine (before ++ x ∷ []) = mine_more before (x ∷ []) mine (r.mine.0, tt) in
-    alike_by lines before h k x y n x.what y.what plans mine (λ ks s t. same_from lines (before ++ x ∷ []) h ks (n + 1) plans longer s t) r q refl refl r.answers q.answers
+    alike_by lines before h k x y n x.what y.what plans mine (λ ks s t. same_from lines (before ++ x ∷ []) h ks (n + 1) plans longer s t) r q
+    refl refl r.answers q.answers
 
-pub one_history : (lines : List ScriptLine) (h k : List EventEntry) → PlansLast lines → IsSound (lines ∷ []) h → IsWhole (lines ∷ []) h → IsSound (lines ∷ []) k → IsWhole (lines ∷ []) k → AllAlike h k
+pub one_history : (lines : List ScriptLine) (h k : List EventEntry) → PlansLast lines → IsSound (lines ∷ []) h → IsWhole (lines ∷ []) h
+    → IsSound (lines ∷ []) k → IsWhole (lines ∷ []) k → AllAlike h k
 one_history lines h k plans sound whole sound' whole' =
     let mine = whole_mine lines h whole in
     let mine' = whole_mine lines k whole' in

@@ -1,5 +1,6 @@
 -- What is known of the passes of several callers, step by step.
-use Rattle.std.proofs.Common.{◌≡◌, ◌≢◌, ℕ, zero, suc, ◌+◌, ◌<◌, ◌≤◌, List, [], ◌∷◌, ◌++◌, length, slice_get, slice_set, refl, sym, ◌∙◌, ap, subst, arith, Option, Some, None}
+use Rattle.std.proofs.Common.{◌≡◌, ◌≢◌, ℕ, zero, suc, ◌+◌, ◌<◌, ◌≤◌, List, [], ◌∷◌, ◌++◌, length, slice_get, slice_set, refl, sym, ◌∙◌, ap, subst}
+use Rattle.std.proofs.Common.{arith, Option, Some, None}
 use Rattle.std.proofs.Math.ListN.{get_or-append}
 use Rattle.std.proofs.Common.{length-append, get_or-set_other, ◌⊎◌, inl, inr}
 use Rattle.std.specs.Prelude.{slice_index_or}
@@ -45,12 +46,14 @@ agree_all (suc n) (l ∷ a) (m ∷ b) agree x y =
     let tail : a ≡ b = agree_all n a b (λ k low. agree (suc k) (omega (arith, low))) x y in
     ap (λ (h : ScriptLine). h ∷ a) head ∙ ap (λ (t : List ScriptLine). m ∷ t) tail
 
-agree_at : (n k : ℕ) (a b : List ScriptLine) (line : ScriptLine) → AgreeUpTo n a b → slice_get a n ≡ Some line → slice_get b n ≡ Some line → k < n + 1 → (k ≡ n) ⊎ (k ≢ n)
+agree_at : (n k : ℕ) (a b : List ScriptLine) (line : ScriptLine) → AgreeUpTo n a b → slice_get a n ≡ Some line → slice_get b n ≡ Some line
+    → k < n + 1 → (k ≡ n) ⊎ (k ≢ n)
     → (l : ScriptLine) × (slice_get a k ≡ Some l) × (slice_get b k ≡ Some l)
 agree_at n k a b line agree x y low (inl same) = (line, ap (slice_get a) same ∙ x, ap (slice_get b) same ∙ y)
 agree_at n k a b line agree x y low (inr differs) = agree k (omega (arith, low, differs))
 
-pub agree_more : (n : ℕ) (a b : List ScriptLine) (line other : ScriptLine) → AgreeUpTo n a b → slice_get a n ≡ Some line → slice_get b n ≡ Some other → line ≡ other → AgreeUpTo (n + 1) a b
+pub agree_more : (n : ℕ) (a b : List ScriptLine) (line other : ScriptLine) → AgreeUpTo n a b → slice_get a n ≡ Some line → slice_get b n ≡ Some other
+    → line ≡ other → AgreeUpTo (n + 1) a b
 agree_more n a b line other agree x y same k low =
     agree_at n k a b line agree x (y ∙ ap (λ (l : ScriptLine). Some l) (sym same)) low (same_or_other k n)
 
@@ -66,7 +69,8 @@ all_scripts (x ∷ a) (y ∷ b) count same =
 -- ---- a line
 
 -- what a call took is to be sought with settings in their ranges
-pub called_range : (v w : PassView) (line : ScriptLine) (a : CallAnswer) (taken : TakenParts) (receipt : Receipt) → a ≡ answer.Taken taken receipt → IsCalled v line a w → w.caller ≡ v.caller
+pub called_range : (v w : PassView) (line : ScriptLine) (a : CallAnswer) (taken : TakenParts) (receipt : Receipt) → a ≡ answer.Taken taken receipt
+    → IsCalled v line a w → w.caller ≡ v.caller
     → IsInRange taken.settings
 called_range v w line a taken receipt is called same =
     let told : IsCalled v line (answer.Taken taken receipt) w = subst (λ (x : CallAnswer). IsCalled v line x w) is called in
@@ -117,7 +121,8 @@ set_back [] (suc n) = refl
 set_back (x ∷ xs) zero = refl
 set_back (x ∷ xs) (suc n) = set_back xs n
 
-out_at : (passes : List PassPlace) (n caller : ℕ) → ((k : ℕ) → place_of passes k ≡ Out → k < n + 1) → place_of (slice_set passes n Back) caller ≡ Out → (caller ≡ n) ⊎ (caller ≢ n) → caller < n
+out_at : (passes : List PassPlace) (n caller : ℕ) → ((k : ℕ) → place_of passes k ≡ Out → k < n + 1) → place_of (slice_set passes n Back) caller ≡ Out
+    → (caller ≡ n) ⊎ (caller ≢ n) → caller < n
 out_at passes n caller only out (inl same) =
     let clash : Back ≡ Out = sym (set_back passes n) ∙ ap (place_of (slice_set passes n Back)) (sym same) ∙ out in absurd (cc)
 out_at passes n caller only out (inr differs) =

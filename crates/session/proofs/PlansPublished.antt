@@ -31,7 +31,8 @@ caller_mine [] e ys h = h.0
 caller_mine (x ∷ xs) e ys h = caller_mine xs e ys h.1
 
 -- the Take that a Publish is of is the entry before it, so it has the version of the state
-same_version : (lines : List ScriptLine) (before : List EventEntry) (v : ℕ) → EachAfter (IsEntry (lines ∷ [])) before → AreMine before → HasTaken before 0 v → v ≡ (replay (lines ∷ []) before).version
+same_version : (lines : List ScriptLine) (before : List EventEntry) (v : ℕ) → EachAfter (IsEntry (lines ∷ [])) before → AreMine before
+    → HasTaken before 0 v → v ≡ (replay (lines ∷ []) before).version
 same_version lines before v each mine (t, last, take, version) =
     let scripts : List (List ScriptLine) = lines ∷ [] in
     let found = ends_with before t (sym (ap (last_or None) (entries_mine before mine)) ∙ last) in
@@ -50,4 +51,5 @@ plans_are_published lines history before after e legal is publish =
     let told : IsReply scripts before e Publish = subst (λ (w : What). IsReply scripts before e w) publish ep.reply in
     let taken : HasTaken before 0 told.0 = subst (λ (c : ℕ). HasTaken before c told.0) (caller_mine before e after mine) told.1 in
     let each : EachAfter (IsEntry scripts) before = each_front (IsEntry scripts) before (e ∷ after) (subst (EachAfter (IsEntry scripts)) is legal.each) in
-    told_or_published s e.reply (subst (λ (v : ℕ). IsPublication s v e.reply) (same_version lines before told.0 each (front_mine before (e ∷ after) mine) taken) told.2)
+    told_or_published s e.reply (subst (λ (v : ℕ). IsPublication s v e.reply)
+    (same_version lines before told.0 each (front_mine before (e ∷ after) mine) taken) told.2)

@@ -107,16 +107,19 @@ submit_none ms =
 -- what these members say, by their `do`
 abbrev said_by : Members → Option Data → Result Command CommandFault
 said_by ms o =
-    (read_member (result_and_then (text_in member.Do) (ok_or (option_and_then unless_null o) (Missing member.Do))) >>= λ word. ok_or (verb_named word) (Refused refusal.UnknownCommand))
+    (read_member (result_and_then (text_in member.Do) (ok_or (option_and_then unless_null o) (Missing member.Do))) >>= λ word. ok_or (verb_named word)
+    (Refused refusal.UnknownCommand))
     >>= λ verb. command_of verb ms
 
 -- what bytes say that are read as an object with this `do`
 said : (bytes : List ℕ) (d : Data) (word : List ℕ) (asks : Asks word d) → data_of bytes ≡ Ok d → command_of_bytes bytes ≡ said_by asks.0 (Some (string word))
 said bytes d word asks read =
-    let in_object : Result Data JsonFault → Result Command CommandFault = λ r. result_and_then command_in (read_member (result_and_then (λ e. ok_or (as_object e) NotObject) r)) in
+    let in_object : Result Data JsonFault → Result Command CommandFault =
+    λ r. result_and_then command_in (read_member (result_and_then (λ e. ok_or (as_object e) NotObject) r)) in
     ap in_object (read ∙ ap (λ (e : Data). Ok e) asks.1) ∙ ap (said_by asks.0) asks.2
 
-none_by : (bytes : List ℕ) (d : Data) (word : List ℕ) (asks : Asks word d) → data_of bytes ≡ Ok d → NoPlan (said_by asks.0 (Some (string word))) → NoPlan (command_of_bytes bytes)
+none_by : (bytes : List ℕ) (d : Data) (word : List ℕ) (asks : Asks word d) → data_of bytes ≡ Ok d → NoPlan (said_by asks.0 (Some (string word)))
+    → NoPlan (command_of_bytes bytes)
 none_by bytes d word asks read none = λ h. none (sym (said bytes d word asks read) ∙ h)
 
 pub line_none : (bytes : List ℕ) (d : Data) → data_of bytes ≡ Ok d → AsksNoPlan d → NoPlan (command_of_bytes bytes)

@@ -1,5 +1,6 @@
 -- The scripts of the callers, and one line more.
-use Rattle.std.proofs.Common.{◌≡◌, ◌≢◌, ℕ, zero, suc, ◌+◌, ◌==◌, ◌≤◌, ◌<◌, List, [], ◌∷◌, ◌++◌, length, map, slice_index_or, Bool, true, false, cond, refl, sym, ◌∙◌, ap, arith, Some, None, append-nil}
+use Rattle.std.proofs.Common.{◌≡◌, ◌≢◌, ℕ, zero, suc, ◌+◌, ◌==◌, ◌≤◌, ◌<◌, List, [], ◌∷◌, ◌++◌, length, map, slice_index_or, Bool, true, false, cond}
+use Rattle.std.proofs.Common.{refl, sym, ◌∙◌, ap, arith, Some, None, append-nil}
 use Rattle.std.specs.declared.option.Option.{Option}
 use Rattle.std.specs.List.{filter}
 use Rattle.std.specs.Option.{is_some, option_map_or}
@@ -35,18 +36,21 @@ alone_not false line h = refl
 abbrev script : ℕ → List ScriptLine → List ScriptLine
 script caller lines = filter (names caller) lines
 
-script_more : (lines : List ScriptLine) (line : ScriptLine) (named caller : ℕ) → caller_of line ≡ Some named → named ≡ caller → script caller (lines ++ line ∷ []) ≡ script caller lines ++ line ∷ []
+script_more : (lines : List ScriptLine) (line : ScriptLine) (named caller : ℕ) → caller_of line ≡ Some named → named ≡ caller
+    → script caller (lines ++ line ∷ []) ≡ script caller lines ++ line ∷ []
 script_more lines line named caller is same =
     let test : names caller line ≡ true = ap (λ (o : Option ℕ). option_map_or (λ n. n == caller) o false) is ∙ eq-eqb named caller same in
     filter-append (names caller) lines (line ∷ []) ∙ ap (λ (ls : List ScriptLine). script caller lines ++ ls) (alone (names caller line) line test)
 
-script_same : (lines : List ScriptLine) (line : ScriptLine) (named caller : ℕ) → caller_of line ≡ Some named → named ≢ caller → script caller (lines ++ line ∷ []) ≡ script caller lines
+script_same : (lines : List ScriptLine) (line : ScriptLine) (named caller : ℕ) → caller_of line ≡ Some named → named ≢ caller
+    → script caller (lines ++ line ∷ []) ≡ script caller lines
 script_same lines line named caller is other =
     let test : names caller line ≡ false = ap (λ (o : Option ℕ). option_map_or (λ n. n == caller) o false) is ∙ ne_eqb named caller other in
     filter-append (names caller) lines (line ∷ []) ∙ ap (λ (ls : List ScriptLine). script caller lines ++ ls) (alone_not (names caller line) line test)
     ∙ append-nil (script caller lines)
 
-kept_short : (b : Bool) (line : ScriptLine) (rest lines : List ScriptLine) → length rest ≤ length lines → length (cond b (line ∷ rest) rest) ≤ length (line ∷ lines)
+kept_short : (b : Bool) (line : ScriptLine) (rest lines : List ScriptLine) → length rest ≤ length lines
+    → length (cond b (line ∷ rest) rest) ≤ length (line ∷ lines)
 kept_short true line rest lines h = omega arith
 kept_short false line rest lines h = omega arith
 
@@ -65,7 +69,8 @@ abbrev scripts_from : ℕ → ℕ → List ScriptLine → List (List ScriptLine)
 scripts_from n m lines = map (λ caller. filter (names caller) lines) (numbers n m)
 
 -- the line is another caller's
-others_same : (lines : List ScriptLine) (line : ScriptLine) (named n m : ℕ) → caller_of line ≡ Some named → named < n → scripts_from n m (lines ++ line ∷ []) ≡ scripts_from n m lines
+others_same : (lines : List ScriptLine) (line : ScriptLine) (named n m : ℕ) → caller_of line ≡ Some named → named < n
+    → scripts_from n m (lines ++ line ∷ []) ≡ scripts_from n m lines
 others_same lines line named n zero is low = refl
 others_same lines line named n (suc m) is low =
     let first : script n (lines ++ line ∷ []) ≡ script n lines = script_same lines line named n is (λ same. omega (arith, same, low)) in
@@ -79,7 +84,8 @@ sent_from lines line n zero place low is = absurd (omega arith)
 sent_from lines line n (suc m) zero low is =
     let mine : script n (lines ++ line ∷ []) ≡ script n lines ++ line ∷ [] = script_more lines line (n + 0) n is (omega arith) in
     let rest : scripts_from (n + 1) m (lines ++ line ∷ []) ≡ scripts_from (n + 1) m lines = others_same lines line (n + 0) (n + 1) m is (omega arith) in
-    ap (λ (s : List ScriptLine). s ∷ scripts_from (n + 1) m lines) (sym mine) ∙ ap (λ (ss : List (List ScriptLine)). script n (lines ++ line ∷ []) ∷ ss) (sym rest)
+    ap (λ (s : List ScriptLine). s ∷ scripts_from (n + 1) m lines) (sym mine)
+    ∙ ap (λ (ss : List (List ScriptLine)). script n (lines ++ line ∷ []) ∷ ss) (sym rest)
 sent_from lines line n (suc m) (suc place) low is =
     let first : script n (lines ++ line ∷ []) ≡ script n lines = script_same lines line (n + suc place) n is (λ same. omega (arith, same)) in
     let less : place < m = omega arith in
@@ -102,9 +108,11 @@ scripts_more lines line caller low is =
     let here : caller ≡ 0 + caller = omega arith in
     sent_from lines line 0 8 caller low (is ∙ ap (λ (k : ℕ). Some k) here)
 
-pub read_more : (lines : List ScriptLine) (line : ScriptLine) (caller : ℕ) → caller < 8 → caller_of line ≡ Some caller → with_line (read_book lines) caller line ≡ read_book (lines ++ line ∷ [])
+pub read_more : (lines : List ScriptLine) (line : ScriptLine) (caller : ℕ) → caller < 8 → caller_of line ≡ Some caller
+    → with_line (read_book lines) caller line ≡ read_book (lines ++ line ∷ [])
 read_more lines line caller low is =
-    ap (λ (scripts : List (List ScriptLine)). record { scripts = scripts; history = []; state = start; takes = replicate 8 None }) (scripts_more lines line caller low is)
+    ap (λ (scripts : List (List ScriptLine)). record { scripts = scripts; history = []; state = start; takes = replicate 8 None })
+    (scripts_more lines line caller low is)
 
 -- there are eight, and none has more lines than were read
 pub eight_scripts : (lines : List ScriptLine) → length (scripts_of lines) ≡ 8

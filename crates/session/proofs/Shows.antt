@@ -18,7 +18,8 @@ use Rattle.session.proofs.Telling.{line_shows, publication_shows}
 
 -- ---- each entry
 
-what_shows : (scripts : List (List ScriptLine)) (before : List EventEntry) (e : EventEntry) (what : What) → IsState (replay scripts before) → IsReply scripts before e what → ShowsGroup e.reply
+what_shows : (scripts : List (List ScriptLine)) (before : List EventEntry) (e : EventEntry) (what : What) → IsState (replay scripts before)
+    → IsReply scripts before e what → ShowsGroup e.reply
 what_shows scripts before e Line state h = line_shows (replay scripts before) (read_at scripts e) e.reply state h.1
 what_shows scripts before e Take state h = subst ShowsGroup (sym h.1) tt
 what_shows scripts before e Publish state h = publication_shows (replay scripts before) h.0 e.reply h.2
@@ -37,7 +38,8 @@ shows_after scripts before (e ∷ es) state each most =
     let low : (after_entry scripts s e).version ≤ 524288 = omega (arith, most, versions_rise scripts (after_entry scripts s e) es) in
     let after : IsState (after_entry scripts s e) = entry_state scripts before e state entry.reply low (what_goes s (read_at scripts e) e.what e.reply) in (
       what_shows scripts before e e.what state entry.reply,
-      shows_after scripts (before ++ e ∷ []) es (subst IsState (sym more) after) (subst (λ (h : List EventEntry). EachAfter (IsEntry scripts) h) (sym whole) each)
+      shows_after scripts (before ++ e ∷ []) es (subst IsState (sym more) after)
+          (subst (λ (h : List EventEntry). EachAfter (IsEntry scripts) h) (sym whole) each)
           (subst (λ (t : StateSeen). (fold (after_entry scripts) t es).version ≤ 524288) (sym more) most),
     )
 
@@ -61,5 +63,6 @@ telling_both (e ∷ es) h g = (record { writable = g.0; group = h.0 }, telling_b
 pub book_tells : (b : BookSeen) → IsBook b → IsState b.state → AllByRecursion IsWritableEntry b.history → AllByRecursion IsTelling b.history
 book_tells b k state writable = telling_both b.history (book_shows b k state) writable
 
-pub prefix_tells : (b : BookSeen) (n : ℕ) → IsBook b → IsState b.state → AllByRecursion IsWritableEntry (take n b.history) → AllByRecursion IsTelling (take n b.history)
+pub prefix_tells : (b : BookSeen) (n : ℕ) → IsBook b → IsState b.state → AllByRecursion IsWritableEntry (take n b.history)
+    → AllByRecursion IsTelling (take n b.history)
 prefix_tells b n k state writable = telling_both (take n b.history) (shown_first n b.history (book_shows b k state)) writable

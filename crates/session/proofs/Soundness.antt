@@ -22,9 +22,11 @@ prefix_sound b n k over =
     record {
       legal = record {
         order = λ caller. prefix_order b.scripts b.history n caller (over_is_whole b k over);
-        each = each_front (IsEntry b.scripts) (take n b.history) (drop n b.history) (subst (λ (es : List EventEntry). EachAfter (IsEntry b.scripts) es) cut k.legal.each);
+        each = each_front (IsEntry b.scripts) (take n b.history) (drop n b.history)
+            (subst (λ (es : List EventEntry). EachAfter (IsEntry b.scripts) es) cut k.legal.each);
       };
-      bounded = each_front (IsClaimEntry b.scripts) (take n b.history) (drop n b.history) (subst (λ (es : List EventEntry). EachAfter (IsClaimEntry b.scripts) es) cut k.claims);
+      bounded = each_front (IsClaimEntry b.scripts) (take n b.history) (drop n b.history)
+          (subst (λ (es : List EventEntry). EachAfter (IsClaimEntry b.scripts) es) cut k.claims);
     }
 
 -- no entry

@@ -1,5 +1,6 @@
 -- The text of what a line does tells it: a document that is shown is that of a group.
-use Rattle.std.proofs.Common.{◌≡◌, ℕ, List, [], ◌∷◌, ◌++◌, Bool, true, false, not, cond, nat_lt, nat_le, length, drop, find, IfSome, sym, ◌∙◌, ap, subst, Option, Some, None, Result, Ok, Err}
+use Rattle.std.proofs.Common.{◌≡◌, ℕ, List, [], ◌∷◌, ◌++◌, Bool, true, false, not, cond, nat_lt, nat_le, length, drop, find, IfSome, sym, ◌∙◌, ap}
+use Rattle.std.proofs.Common.{subst, Option, Some, None, Result, Ok, Err}
 use Rattle.std.specs.List.{AllByRecursion, AllZip, zip}
 use Rattle.plan_base.specs.declared.number.RequestNo.{RequestNo}
 use Rattle.plan_base.specs.declared.verdict.Verdict.{Verdict}
@@ -42,7 +43,8 @@ abbrev Shows : Option Stepped → Type 0
 Shows None = Unit {0}
 Shows (Some stepped) = ShowsGroup stepped.reply
 
-by_refusal : (s : StateSeen) (refusal : Option Refusal) (r : Reply) (e : DeskSeen) → ShowsGroup r → Shows (Some (decided s record { refusal = refusal; reply = r; desk = e }))
+by_refusal : (s : StateSeen) (refusal : Option Refusal) (r : Reply) (e : DeskSeen) → ShowsGroup r
+    → Shows (Some (decided s record { refusal = refusal; reply = r; desk = e }))
 by_refusal s None r e h = h
 by_refusal s (Some refusal) r e h = tt
 
@@ -55,15 +57,18 @@ made_shows d document (Err refusal) = tt
 
 reported_by : (d : DeskSeen) (request : RequestNo) (percent used : ℕ) (p : Submitted × (Request × Wanted)) (a b c : Bool)
     → ShowsGroup
-    (cond (not a) (on_refused d request NotRunning) (cond b (on_refused d request (UsedTooLong p.1.0.seconds used)) (cond c (on_completed d request used p.0 p.1.1) (on_failed d request)))).reply
+    (cond (not a) (on_refused d request NotRunning)
+    (cond b (on_refused d request (UsedTooLong p.1.0.seconds used)) (cond c (on_completed d request used p.0 p.1.1) (on_failed d request)))).reply
 reported_by d request percent used p false b c = tt
 reported_by d request percent used p true true c = tt
 reported_by d request percent used p true false true = tt
 reported_by d request percent used p true false false = tt
 
-reported_shows : (d : DeskSeen) (request : RequestNo) (percent used : ℕ) (o : Option (Submitted × (Request × Wanted))) → ShowsGroup (on_reported d request percent used o).reply
+reported_shows : (d : DeskSeen) (request : RequestNo) (percent used : ℕ) (o : Option (Submitted × (Request × Wanted)))
+    → ShowsGroup (on_reported d request percent used o).reply
 reported_shows d request percent used None = tt
-reported_shows d request percent used (Some p) = reported_by d request percent used p (is_placed d.progress.running request) (nat_lt p.1.0.seconds used) (nat_le p.1.1.threshold percent)
+reported_shows d request percent used (Some p) = reported_by d request percent used p (is_placed d.progress.running request)
+    (nat_lt p.1.0.seconds used) (nat_le p.1.1.threshold percent)
 
 export_shows : (s : StateSeen) (o : Option PublicationSeen) → Shows (Some (told s (on_export o)))
 export_shows s None = tt
@@ -97,7 +102,8 @@ step_shows v s (Some d) (command.Submit document) h = decision s (on_submit d do
 step_shows v s (Some d) (command.Amend old document) h = decision s (on_amend d old document) tt
 step_shows v s (Some d) (command.Withdraw group) h = decision s (on_withdraw d group) tt
 step_shows v s (Some d) (command.Clock at) h = decision s (on_clock d at) tt
-step_shows v s (Some d) (command.Report request percent used) h = decision s (on_report d request percent used) (reported_shows d request percent used (request_with d request))
+step_shows v s (Some d) (command.Report request percent used) h =
+    decision s (on_report d request percent used) (reported_shows d request percent used (request_with d request))
 step_shows v s (Some d) command.Plan h = tt
 step_shows v s (Some d) (command.Publish asked claim) h = decision s (on_publish v s.version d asked claim) tt
 step_shows v s (Some d) command.Export h = export_shows s d.published
@@ -130,4 +136,5 @@ same_after (b ∷ held) xs ys h = same_after held xs ys (ap (drop 1) h)
 -- of the same scripts, what is written tells what was done
 pub text_has_one : TextHasOneHistory
 text_has_one scripts held now a b =
-    text_tells_history scripts a.history b.history a.sound.legal b.sound.legal a.telling b.telling (same_after held (text_of_history a.history) (text_of_history b.history) (sym a.written ∙ b.written))
+    text_tells_history scripts a.history b.history a.sound.legal b.sound.legal a.telling b.telling
+    (same_after held (text_of_history a.history) (text_of_history b.history) (sym a.written ∙ b.written))

@@ -7,7 +7,8 @@ use Rattle.plan_io.specs.Sink.{Adds}
 use Rattle.session.specs.Session.{WritesPrefix}
 use Rattle.session.specs.Summary.{IsSummaryText, WritesSummary, IsWorkloadRun}
 
-pub told : (number : ℕ) (held held' : Option (List ℕ)) (text shown : List ℕ) (status : Status) → IsSummaryText number text → shown ≡ text → WritesSummary held held' shown status
+pub told : (number : ℕ) (held held' : Option (List ℕ)) (text shown : List ℕ) (status : Status) → IsSummaryText number text → shown ≡ text
+    → WritesSummary held held' shown status
     → IsWorkloadRun number held held' status
 told number held held' text shown Done is same written = (text, is, subst (λ (xs : List ℕ). Adds held held' xs) same written)
 told number held held' text shown WriteFault is same written = (text, is, subst (λ (xs : List ℕ). WritesPrefix held held' xs) same written)

@@ -1,5 +1,6 @@
 -- The entries of the only caller.
-use Rattle.std.proofs.Common.{◌≡◌, ℕ, zero, suc, ◌+◌, ◌≤◌, List, [], ◌∷◌, ◌++◌, length, map, Bool, true, false, cond, ◌==◌, inl, inr, refl, sym, ◌∙◌, ap, subst, arith}
+use Rattle.std.proofs.Common.{◌≡◌, ℕ, zero, suc, ◌+◌, ◌≤◌, List, [], ◌∷◌, ◌++◌, length, map, Bool, true, false, cond, ◌==◌, inl, inr, refl, sym, ◌∙◌}
+use Rattle.std.proofs.Common.{ap, subst, arith}
 use Rattle.std.specs.List.{AllByRecursion}
 use Rattle.std.proofs.lemmas.Bool.{eq-eqb, ne_eqb}
 use Rattle.plan_io.specs.declared.lines.ScriptLine.{ScriptLine}
@@ -82,7 +83,8 @@ mine_of [] none = tt
 mine_of (e ∷ es) none =
     let first : e.caller ≡ 0 = caller_none e.caller e es refl none in (
       first,
-      mine_of es (λ c. sym (passed_first (e.caller == suc c) e (entries_of (suc c) es) (ne_eqb e.caller (suc c) (λ same. absurd (omega (arith, first, same))))) ∙ none c),
+      mine_of es (λ c. sym (passed_first (e.caller == suc c) e (entries_of (suc c) es)
+          (ne_eqb e.caller (suc c) (λ same. absurd (omega (arith, first, same))))) ∙ none c),
     )
 
 pub whole_mine : (lines : List ScriptLine) (es : List EventEntry) → IsWhole (lines ∷ []) es → AreMine es

@@ -1,5 +1,6 @@
 -- What was written, and more after it.
-use Rattle.std.proofs.Common.{◌≡◌, ℕ, ◌+◌, ◌≤◌, ◌<◌, List, [], ◌∷◌, ◌++◌, length, take, refl, sym, ◌∙◌, ap, subst, arith, append_assoc, append-nil, length-append}
+use Rattle.std.proofs.Common.{◌≡◌, ℕ, ◌+◌, ◌≤◌, ◌<◌, List, [], ◌∷◌, ◌++◌, length, take, refl, sym, ◌∙◌, ap, subst, arith, append_assoc, append-nil}
+use Rattle.std.proofs.Common.{length-append}
 use Rattle.std.specs.declared.option.Option.{Option}
 use Rattle.std.specs.declared.option.Option.TheVariants.{Some, None}
 use Rattle.std.proofs.Math.Seq.{take-append-add}
@@ -31,8 +32,11 @@ prefix_all a b text h = (length text, omega arith, subst (λ (xs : List ℕ). Ad
 -- a whole text, and then a prefix of another
 pub prefix_after : (a b c : Option (List ℕ)) (xs ys : List ℕ) → Adds a b xs → WritesPrefix b c ys → WritesPrefix a c (xs ++ ys)
 prefix_after a b c xs ys h w =
-    let within : w.0 ≤ length ys = w.1 in
-    (length xs + w.0, omega (arith, length-append xs ys, within), subst (λ (zs : List ℕ). Adds a c zs) (sym (take-append-add xs ys w.0)) (adds_twice a b c xs (take w.0 ys) h w.2))
+    let within : w.0 ≤ length ys = w.1 in (
+      length xs + w.0,
+      omega (arith, length-append xs ys, within),
+      subst (λ (zs : List ℕ). Adds a c zs) (sym (take-append-add xs ys w.0)) (adds_twice a b c xs (take w.0 ys) h w.2),
+    )
 
 pub prefix_put : (a b : Option (List ℕ)) (text : List ℕ) → Puts a b put.WriteFault text → WritesPrefix a b text
 prefix_put a b text h = let within : h.0 < length text = h.1 in (h.0, omega arith, h.2)

@@ -18,10 +18,12 @@ use Rattle.site_model.specs.Network.{NetworkSeen, HaveNoSky, ChangesClosures, Cl
 use Rattle.site_model.proofs.Visibility.{network_of}
 
 -- the telescopes of the list are those in the scope
-pub listed_in_scope : (r : RegistrySeen) (scope : Scope) (numbers : List TelescopeNo) → IsScopeList r scope numbers → (t : ℕ) → IsListed numbers t → InScope r scope t
+pub listed_in_scope : (r : RegistrySeen) (scope : Scope) (numbers : List TelescopeNo) → IsScopeList r scope numbers → (t : ℕ)
+    → IsListed numbers t → InScope r scope t
 listed_in_scope r scope numbers list t listed = All-contains (λ (n : TelescopeNo). InScope r scope n.0) numbers record { 0 = t } list.each listed
 
-pub line_in_scope : (r : RegistrySeen) (scope : Scope) (numbers : List TelescopeNo) (change : Change) (spans : List Span) (old new : List (List Span)) → IsScopeList r scope numbers → IsClosureLine change (IsListed numbers) spans old new
+pub line_in_scope : (r : RegistrySeen) (scope : Scope) (numbers : List TelescopeNo) (change : Change) (spans : List Span) (old new : List (List Span))
+    → IsScopeList r scope numbers → IsClosureLine change (IsListed numbers) spans old new
     → IsClosureLine change (InScope r scope) spans old new
 line_in_scope r scope numbers change spans old new list line = record {
   inside = λ t in'. line.inside t (list.all t in');
@@ -30,7 +32,8 @@ line_in_scope r scope numbers change spans old new list line = record {
   places = line.places;
 }
 
-pub full_in_scope : (r : RegistrySeen) (scope : Scope) (numbers : List TelescopeNo) (change : Change) (spans : List Span) (old : List (List Span)) (fault : SiteFault) → IsScopeList r scope numbers → IsFullClosure change (IsListed numbers) spans old fault
+pub full_in_scope : (r : RegistrySeen) (scope : Scope) (numbers : List TelescopeNo) (change : Change) (spans : List Span) (old : List (List Span))
+    (fault : SiteFault) → IsScopeList r scope numbers → IsFullClosure change (IsListed numbers) spans old fault
     → IsFullClosure change (InScope r scope) spans old fault
 full_in_scope r scope numbers change spans old fault list full = record {
   telescope = full.telescope;
@@ -44,8 +47,10 @@ pub skies_stay : (from : ℕ) (old new : CalendarSeen) → new ≡ record old { 
 skies_stay from old new rest unseen key le = ap (λ (c : CalendarSeen). sky_of c.skies key) rest ∙ unseen key le
 
 -- what an accepted line leaves
-pub line_accepted : (n : NetworkSeen) (change : Change) (scope : Scope) (spans : List Span) (numbers : List TelescopeNo) (new : CalendarSeen) → IsScopeList n.registry scope numbers → scope_refusal n.registry scope ≡ None
-    → new ≡ record n.calendar { closures = new.closures } → IsClosureLine change (IsListed numbers) spans n.calendar.closures new.closures → ChangesClosures change scope spans n (network_of n.registry new)
+pub line_accepted : (n : NetworkSeen) (change : Change) (scope : Scope) (spans : List Span) (numbers : List TelescopeNo) (new : CalendarSeen)
+    → IsScopeList n.registry scope numbers → scope_refusal n.registry scope ≡ None
+    → new ≡ record n.calendar { closures = new.closures } → IsClosureLine change (IsListed numbers) spans n.calendar.closures new.closures
+    → ChangesClosures change scope spans n (network_of n.registry new)
 line_accepted n change scope spans numbers new list allowed rest line = record {
   closures = line_in_scope n.registry scope numbers change spans n.calendar.closures new.closures list line;
   rest = ap (λ (c : CalendarSeen). network_of n.registry c) rest;
@@ -53,7 +58,8 @@ line_accepted n change scope spans numbers new list allowed rest line = record {
 }
 
 -- why a line is refused that has telescopes in its scope
-pub line_refused : (n : NetworkSeen) (change : Change) (scope : Scope) (spans : List Span) (numbers : List TelescopeNo) (fault : SiteFault) → IsScopeList n.registry scope numbers → scope_refusal n.registry scope ≡ None
+pub line_refused : (n : NetworkSeen) (change : Change) (scope : Scope) (spans : List Span) (numbers : List TelescopeNo) (fault : SiteFault)
+    → IsScopeList n.registry scope numbers → scope_refusal n.registry scope ≡ None
     → IsFullClosure change (IsListed numbers) spans n.calendar.closures fault → IsClosureRefusal change scope spans n fault
 line_refused n change scope spans numbers fault list allowed full = inr (record {
   allowed = allowed;
@@ -61,7 +67,8 @@ line_refused n change scope spans numbers fault list allowed full = inr (record 
 })
 
 -- a refusal of another call is passed on
-pub passes_refusal : (change : Change) (scope : Scope) (spans : List Span) (old new : NetworkSeen) (fault : SiteFault) (result : Result Unit SiteFault) → IsErrAnd result (λ f. f ≡ fault)
+pub passes_refusal : (change : Change) (scope : Scope) (spans : List Span) (old new : NetworkSeen) (fault : SiteFault)
+    (result : Result Unit SiteFault) → IsErrAnd result (λ f. f ≡ fault)
     → (fault ≢ NoMemory → IsClosureRefusal change scope spans old fault) → new ≡ old → ClosesOrRefuses change scope spans old new result
 passes_refusal change scope spans old new fault (Ok v) is refused unchanged = absurd is
 passes_refusal change scope spans old new fault (Err f) is refused unchanged =
@@ -69,4 +76,5 @@ passes_refusal change scope spans old new fault (Err f) is refused unchanged =
 
 -- the number of a telescope's site is that of a site
 pub site_number_within : (r : RegistrySeen) (t s : ℕ) → site_number r t ≡ Some s → s < length r.sites
-site_number_within r t s at = option_and_then_some (λ (c : Code). number_of r.sites c.site) (slice_get (codes_of r) t) s at (λ c _ number. (position-Some (is_name c.site) r.sites s [] number).0)
+site_number_within r t s at = option_and_then_some (λ (c : Code). number_of r.sites c.site) (slice_get (codes_of r) t) s at
+    (λ c _ number. (position-Some (is_name c.site) r.sites s [] number).0)

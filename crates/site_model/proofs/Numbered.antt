@@ -1,5 +1,6 @@
 -- What the number of a name says, and what tells whether it has one.
-use Rattle.std.proofs.Common.{◌≡◌, ℕ, ◌+◌, ◌<◌, ◌||◌, Bool, true, false, cond, if◌then◌else◌, List, [], ◌∷◌, ◌++◌, Option, Some, None, refl, sym, ap, subst, ◌∙◌, length, get_or, nat_eq, nat_lt, is_some, inl, inr, true≢false, arith}
+use Rattle.std.proofs.Common.{◌≡◌, ℕ, ◌+◌, ◌<◌, ◌||◌, Bool, true, false, cond, if◌then◌else◌, List, [], ◌∷◌, ◌++◌, Option, Some, None, refl, sym, ap}
+use Rattle.std.proofs.Common.{subst, ◌∙◌, length, get_or, nat_eq, nat_lt, is_some, inl, inr, true≢false, arith}
 use Rattle.std.specs.List.{list_any, position, position_from, IsDistinct}
 use Rattle.std.specs.Cmp.Lexicographic.{same_text}
 use Rattle.std.proofs.lemmas.Bool.{cases_order, eq-eqb, eqb-true, le-ltb, lt-ltb}
@@ -37,7 +38,9 @@ from_kept : {X : Type 0} (p : X → Bool) (n i : ℕ) (xs ys : List X) → posit
 from_kept p n i [] ys e = grind arith
 from_kept p n i (x ∷ xs) ys e = by (p x) e (from_kept p (n + 1) i xs ys)
   where
-    by : (b : Bool) → cond b (Some n) (position_from p (n + 1) xs) ≡ Some i → (position_from p (n + 1) xs ≡ Some i → position_from p (n + 1) (xs ++ ys) ≡ Some i) → cond b (Some n) (position_from p (n + 1) (xs ++ ys)) ≡ Some i
+    by : (b : Bool) → cond b (Some n) (position_from p (n + 1) xs) ≡ Some i
+        → (position_from p (n + 1) xs ≡ Some i → position_from p (n + 1) (xs ++ ys) ≡ Some i)
+        → cond b (Some n) (position_from p (n + 1) (xs ++ ys)) ≡ Some i
     by true h k = h
     by false h k = k h
 
@@ -56,7 +59,8 @@ name_same a b h = same_text a b (sym h)
 -- a number belongs to one name
 pub same_number : (names : List (List ℕ)) (a b : List ℕ) (n : ℕ) → number_of names a ≡ Some n → number_of names b ≡ Some n → a ≡ b
 same_number names a b n p q =
-    name_same a (get_or names n []) (position-Some (is_name a) names n [] p).1 ∙ sym (name_same b (get_or names n []) (position-Some (is_name b) names n [] q).1)
+    name_same a (get_or names n []) (position-Some (is_name a) names n [] p).1
+    ∙ sym (name_same b (get_or names n []) (position-Some (is_name b) names n [] q).1)
 
 -- a number is below the count of the names
 pub number_within : (names : List (List ℕ)) (name : List ℕ) (n : ℕ) → number_of names name ≡ Some n → n < length names
@@ -77,13 +81,15 @@ position_none p xs d fails =
     ∙ ap (λ b. cond b (Some (length xs)) None) (le-ltb (length xs) (length xs) (omega arith))
 
 -- the first place that passes
-pub position_some : {X : Type 0} (p : X → Bool) (xs : List X) (i : ℕ) (d : X) → i < length xs → ((k : ℕ) → k < i → p (get_or xs k d) ≡ false) → p (get_or xs i d) ≡ true → position p xs ≡ Some i
+pub position_some : {X : Type 0} (p : X → Bool) (xs : List X) (i : ℕ) (d : X) → i < length xs → ((k : ℕ) → k < i → p (get_or xs k d) ≡ false)
+    → p (get_or xs i d) ≡ true → position p xs ≡ Some i
 position_some p xs i d l fails passes =
     ap (λ n. cond (nat_lt n (length xs)) (Some n) None) (position_or_len_is p xs i d (omega (arith, l)) fails (λ _. passes))
     ∙ ap (λ b. cond b (Some i) None) (lt-ltb i (length xs) l)
 
 -- where no name is given twice, a name's number is its only place
-pub only_number : (names : List (List ℕ)) (name : List ℕ) (n i : ℕ) → IsDistinct is_name names → number_of names name ≡ Some n → i < length names → is_name name (get_or names i []) ≡ nat_eq n i
+pub only_number : (names : List (List ℕ)) (name : List ℕ) (n i : ℕ) → IsDistinct is_name names → number_of names name ≡ Some n → i < length names
+    → is_name name (get_or names i []) ≡ nat_eq n i
 only_number names name n i distinct at l = same_truth (is_name name (get_or names i [])) (nat_eq n i) there back
   where
     first : (n < length names) × (is_name name (get_or names n []) ≡ true) × ((k : ℕ) → k < n → is_name name (get_or names k []) ≡ false)
@@ -93,7 +99,8 @@ only_number names name n i distinct at l = same_truth (is_name name (get_or name
     at_least h below = true≢false (sym h ∙ first.2 i below)
 
     at_most : is_name name (get_or names i []) ≡ true → n < i → ⊥
-    at_most h above = true≢false (sym (subst (λ x. is_name x (get_or names i []) ≡ true) (name_same name (get_or names n []) first.1) h) ∙ apart_from_distinct is_name names n i [] distinct above l)
+    at_most h above = true≢false (sym (subst (λ x. is_name x (get_or names i []) ≡ true) (name_same name (get_or names n []) first.1) h)
+        ∙ apart_from_distinct is_name names n i [] distinct above l)
 
     there : is_name name (get_or names i []) ≡ true → nat_eq n i ≡ true
     there h = elim (cases_order n i) [

@@ -28,27 +28,38 @@ below_full what n h =
 -- what is left of the refusals once the instruments are known
 known : (a : Inside) (code : Code) (given : List (List ℕ)) → unknown_of (keys_of a.instruments.entries) given ≡ None
     → telescope_refusal (seen_registry a) code given
-    ≡ (if is_some (lookup (is_code code) a.telescopes.entries) then Some Repeated else option_or (full_of Telescopes (length a.telescopes.entries)) (full_sites (seen_registry a) code.site))
+    ≡ (if is_some (lookup (is_code code) a.telescopes.entries) then Some Repeated
+    else option_or (full_of Telescopes (length a.telescopes.entries)) (full_sites (seen_registry a) code.site))
 known a code given unknown =
     (λ j. option_or (unknown j)
-    (if is_coded-seen a code j then Some Repeated else option_or (full_of Telescopes (length-map a.telescopes.entries (seen_telescope (keys_of a.instruments.entries)) j)) (full_sites (seen_registry a) code.site)))
+    (if is_coded-seen a code j then Some Repeated
+    else option_or (full_of Telescopes (length-map a.telescopes.entries (seen_telescope (keys_of a.instruments.entries)) j))
+    (full_sites (seen_registry a) code.site)))
 
-pub repeated : (a : Inside) (code : Code) (given : List (List ℕ)) → unknown_of (keys_of a.instruments.entries) given ≡ None → is_some (lookup (is_code code) a.telescopes.entries) ≡ true
+pub repeated : (a : Inside) (code : Code) (given : List (List ℕ)) → unknown_of (keys_of a.instruments.entries) given ≡ None
+    → is_some (lookup (is_code code) a.telescopes.entries) ≡ true
     → telescope_refusal (seen_registry a) code given ≡ Some Repeated
 repeated a code given unknown there =
-    known a code given unknown ∙ ap (λ b. if b then Some Repeated else option_or (full_of Telescopes (length a.telescopes.entries)) (full_sites (seen_registry a) code.site)) there
+    known a code given unknown ∙ ap (λ b. if b then Some Repeated
+    else option_or (full_of Telescopes (length a.telescopes.entries)) (full_sites (seen_registry a) code.site)) there
 
 -- and once the code is new
-new_code : (a : Inside) (code : Code) (given : List (List ℕ)) → unknown_of (keys_of a.instruments.entries) given ≡ None → is_some (lookup (is_code code) a.telescopes.entries) ≡ false
+new_code : (a : Inside) (code : Code) (given : List (List ℕ)) → unknown_of (keys_of a.instruments.entries) given ≡ None
+    → is_some (lookup (is_code code) a.telescopes.entries) ≡ false
     → telescope_refusal (seen_registry a) code given ≡ option_or (full_of Telescopes (length a.telescopes.entries)) (full_sites (seen_registry a) code.site)
 new_code a code given unknown new =
-    known a code given unknown ∙ ap (λ b. if b then Some Repeated else option_or (full_of Telescopes (length a.telescopes.entries)) (full_sites (seen_registry a) code.site)) new
+    known a code given unknown ∙ ap (λ b. if b then Some Repeated
+    else option_or (full_of Telescopes (length a.telescopes.entries)) (full_sites (seen_registry a) code.site)) new
 
-pub too_many : (a : Inside) (code : Code) (given : List (List ℕ)) (fault : SiteFault) → unknown_of (keys_of a.instruments.entries) given ≡ None → is_some (lookup (is_code code) a.telescopes.entries) ≡ false
+pub too_many : (a : Inside) (code : Code) (given : List (List ℕ)) (fault : SiteFault) → unknown_of (keys_of a.instruments.entries) given ≡ None
+    → is_some (lookup (is_code code) a.telescopes.entries) ≡ false
     → full_of Telescopes (length a.telescopes.entries) ≡ Some fault → telescope_refusal (seen_registry a) code given ≡ Some fault
 too_many a code given fault unknown new full = new_code a code given unknown new ∙ ap (λ o. option_or o (full_sites (seen_registry a) code.site)) full
 
-pub by_sites : (a : Inside) (code : Code) (given : List (List ℕ)) (refusal : Option SiteFault) → unknown_of (keys_of a.instruments.entries) given ≡ None → is_some (lookup (is_code code) a.telescopes.entries) ≡ false
-    → full_of Telescopes (length a.telescopes.entries) ≡ None → (if is_named a.sites.keys code.site then None else full_of Sites (length a.sites.keys)) ≡ refusal
+pub by_sites : (a : Inside) (code : Code) (given : List (List ℕ)) (refusal : Option SiteFault)
+    → unknown_of (keys_of a.instruments.entries) given ≡ None → is_some (lookup (is_code code) a.telescopes.entries) ≡ false
+    → full_of Telescopes (length a.telescopes.entries) ≡ None
+    → (if is_named a.sites.keys code.site then None else full_of Sites (length a.sites.keys)) ≡ refusal
     → telescope_refusal (seen_registry a) code given ≡ refusal
-by_sites a code given refusal unknown new room sites = new_code a code given unknown new ∙ ap (λ o. option_or o (full_sites (seen_registry a) code.site)) room ∙ sites
+by_sites a code given refusal unknown new room sites = new_code a code given unknown new
+    ∙ ap (λ o. option_or o (full_sites (seen_registry a) code.site)) room ∙ sites

@@ -14,12 +14,14 @@ use Rattle.site_model.specs.Limits.{most_visibility, most_spans, full}
 use Rattle.site_model.specs.Calendar.{CalendarSeen, is_sky, sky_of, pieces_of, sky_refusal, SkiesAreCounted}
 
 -- the pieces of a sky count in the place of those of the one before it
-pub pieces_with : (skies : List (SkyKey × List Span)) (key : SkyKey) (spans : List Span) → pieces_of (insert_entry is_sky skies key spans) + length (sky_of skies key) ≡ pieces_of skies + length spans
+pub pieces_with : (skies : List (SkyKey × List Span)) (key : SkyKey) (spans : List Span)
+    → pieces_of (insert_entry is_sky skies key spans) + length (sky_of skies key) ≡ pieces_of skies + length spans
 pieces_with [] key spans = grind (arith, common_steps)
 pieces_with (sky ∷ skies) key spans = grind (arith, common_steps, pieces_with skies key spans)
 
 -- a sky of another target stays
-pub other_target : (skies : List (SkyKey × List Span)) (key other : SkyKey) (spans : List Span) → key.target.0 < other.target.0 → sky_of (insert_entry is_sky skies key spans) other ≡ sky_of skies other
+pub other_target : (skies : List (SkyKey × List Span)) (key other : SkyKey) (spans : List Span) → key.target.0 < other.target.0
+    → sky_of (insert_entry is_sky skies key spans) other ≡ sky_of skies other
 other_target [] key other spans lt = grind (arith, nat_tests)
 other_target (sky ∷ skies) key other spans lt = grind (arith, nat_tests, other_target skies key other spans lt)
 
@@ -31,27 +33,36 @@ sky_within skies key = omega (arith, pieces_with skies key [])
 pub sky_few : (skies : List (SkyKey × List Span)) (key : SkyKey) (most : ℕ) → All (λ sky. length sky.1 ≤ most) skies → length (sky_of skies key) ≤ most
 sky_few [] key most few = omega arith
 sky_few (sky ∷ skies) key most few =
-    grind (arith, All-head (λ (sky : SkyKey × List Span). length sky.1 ≤ most) sky skies few, sky_few skies key most (All-tail (λ (sky : SkyKey × List Span). length sky.1 ≤ most) sky skies few))
+    grind (
+      arith,
+      All-head (λ (sky : SkyKey × List Span). length sky.1 ≤ most) sky skies few,
+      sky_few skies key most (All-tail (λ (sky : SkyKey × List Span). length sky.1 ≤ most) sky skies few),
+    )
 
 -- and so it stays with another sky
-pub skies_few : (skies : List (SkyKey × List Span)) (key : SkyKey) (spans : List Span) → length spans ≤ most_spans → All (λ sky. length sky.1 ≤ most_spans) skies
+pub skies_few : (skies : List (SkyKey × List Span)) (key : SkyKey) (spans : List Span) → length spans ≤ most_spans
+    → All (λ sky. length sky.1 ≤ most_spans) skies
     → All (λ sky. length sky.1 ≤ most_spans) (insert_entry is_sky skies key spans)
 skies_few [] key spans new few = All-cons (λ (sky : SkyKey × List Span). length sky.1 ≤ most_spans) (key, spans) [] new few
-skies_few (sky ∷ skies) key spans new few = by (is_sky key sky.0) (skies_few skies key spans new (All-tail (λ (sky : SkyKey × List Span). length sky.1 ≤ most_spans) sky skies few))
+skies_few (sky ∷ skies) key spans new few =
+    by (is_sky key sky.0) (skies_few skies key spans new (All-tail (λ (sky : SkyKey × List Span). length sky.1 ≤ most_spans) sky skies few))
   where
     IsFew : SkyKey × List Span → Type 0
     IsFew s = length s.1 ≤ most_spans
 
-    by : (b : Bool) → All IsFew (insert_entry is_sky skies key spans) → All IsFew (if b then (sky.0, spans) ∷ skies else sky ∷ insert_entry is_sky skies key spans)
+    by : (b : Bool) → All IsFew (insert_entry is_sky skies key spans)
+        → All IsFew (if b then (sky.0, spans) ∷ skies else sky ∷ insert_entry is_sky skies key spans)
     by true later = All-cons IsFew (sky.0, spans) skies new (All-tail IsFew sky skies few)
     by false later = All-cons IsFew sky (insert_entry is_sky skies key spans) (All-head IsFew sky skies few) later
 
 -- there is no room for a sky's pieces
-pub sky_refused : (c : CalendarSeen) (key : SkyKey) (spans : List Span) → most_visibility - (pieces_of c.skies - length (sky_of c.skies key)) < length spans → sky_refusal c key spans ≡ Some (full Visibility)
+pub sky_refused : (c : CalendarSeen) (key : SkyKey) (spans : List Span)
+    → most_visibility - (pieces_of c.skies - length (sky_of c.skies key)) < length spans → sky_refusal c key spans ≡ Some (full Visibility)
 sky_refused c key spans many = grind (arith, nat_tests, pieces_with c.skies key spans, sky_within c.skies key)
 
 -- there is room for them
-pub sky_allowed : (c : CalendarSeen) (key : SkyKey) (spans : List Span) → pieces_of c.skies ≤ most_visibility → length spans ≤ most_visibility - (pieces_of c.skies - length (sky_of c.skies key)) → sky_refusal c key spans ≡ None
+pub sky_allowed : (c : CalendarSeen) (key : SkyKey) (spans : List Span) → pieces_of c.skies ≤ most_visibility
+    → length spans ≤ most_visibility - (pieces_of c.skies - length (sky_of c.skies key)) → sky_refusal c key spans ≡ None
 sky_allowed c key spans few room = grind (arith, nat_tests, pieces_with c.skies key spans, sky_within c.skies key)
 
 -- the pieces of the skies that are asked for
@@ -91,7 +102,8 @@ asked_once sky skies (key ∷ keys) apart = by (is_sky key sky.0) refl (asked_on
         → sum_by (pieces_at (sky ∷ skies)) (key ∷ keys) ≤ length sky.1 + sum_by (pieces_at skies) (key ∷ keys)
     by true same _ =
         let here : pieces_at (sky ∷ skies) key ≡ length sky.1 = rw same refl in
-        let others : All (λ other. is_sky other sky.0 ≡ false) keys = λ k d lt. other_sky key _ sky.0 same (pairs_head (λ a b. is_sky a b ≡ false) key keys apart k d lt) in
+        let others : All (λ other. is_sky other sky.0 ≡ false) keys =
+        λ k d lt. other_sky key _ sky.0 same (pairs_head (λ a b. is_sky a b ≡ false) key keys apart k d lt) in
         omega (arith, here, not_asked sky skies keys others, sum_by-cons (pieces_at (sky ∷ skies)) key keys, sum_by-cons (pieces_at skies) key keys)
     by false other later =
         let here : pieces_at (sky ∷ skies) key ≡ pieces_at skies key = rw other refl in

@@ -12,7 +12,8 @@ use Rattle.site_model.specs.declared.fault.SiteFault.TheVariants.{NoSuchSite}
 use Rattle.site_model.specs.Names.{is_name, number_of, numbered}
 use Rattle.site_model.specs.Registry.{RegistrySeen, with_target, without_targets, target_refusal}
 use Rattle.site_model.specs.Calendar.{CalendarSeen, with_night, with_sky, sky_of, sky_refusal}
-use Rattle.site_model.specs.Network.{NetworkSeen, adds_target, forgets_targets, site_refusal, sets_night, sky_key, sets_visibility, visibility_refusal, HaveNoSky}
+use Rattle.site_model.specs.Network.{NetworkSeen, adds_target, forgets_targets, site_refusal, sets_night, sky_key, sets_visibility, visibility_refusal}
+use Rattle.site_model.specs.Network.{HaveNoSky}
 use Rattle.site_model.proofs.Numbered.{list_any-none, list_any-some}
 use Rattle.site_model.proofs.Skies.{other_target}
 
@@ -32,13 +33,16 @@ refuses_site r site none = ap (λ (b : Bool). if b then None else Some NoSuchSit
 pub allows_site : (r : RegistrySeen) (site : List ℕ) (s : ℕ) → number_of r.sites site ≡ Some s → site_refusal r site ≡ None
 allows_site r site s some = ap (λ (b : Bool). if b then None else Some NoSuchSite) (list_any-some (is_name site) r.sites s some)
 
-pub night_set : (n : NetworkSeen) (site : List ℕ) (s : ℕ) (spans : List Span) → number_of n.registry.sites site ≡ Some s → sets_night n site spans ≡ record n { calendar = with_night n.calendar s spans }
+pub night_set : (n : NetworkSeen) (site : List ℕ) (s : ℕ) (spans : List Span) → number_of n.registry.sites site ≡ Some s
+    → sets_night n site spans ≡ record n { calendar = with_night n.calendar s spans }
 night_set n site s spans some = ap (λ (o : Option ℕ). option_map_or (λ t. record n { calendar = with_night n.calendar t spans }) o n) some
 
 -- the numbers of a target and of a site
-pub key_is : (r : RegistrySeen) (target site : List ℕ) (t : TargetNo) (s : SiteNo) → number_of r.targets target ≡ Some t.0 → number_of r.sites site ≡ Some s.0 → sky_key r target site ≡ Some record { target = t; site = s }
+pub key_is : (r : RegistrySeen) (target site : List ℕ) (t : TargetNo) (s : SiteNo) → number_of r.targets target ≡ Some t.0
+    → number_of r.sites site ≡ Some s.0 → sky_key r target site ≡ Some record { target = t; site = s }
 key_is r target site t s at_t at_s =
-    ap (λ (o : Option ℕ). option_and_then (λ t. option_map (λ s. record { target = record { 0 = t }; site = record { 0 = s } }) (number_of r.sites site)) o) at_t
+    ap (λ (o : Option ℕ). option_and_then
+    (λ t. option_map (λ s. record { target = record { 0 = t }; site = record { 0 = s } }) (number_of r.sites site)) o) at_t
     ∙ ap (λ (o : Option ℕ). option_map (λ s. record { target = t; site = record { 0 = s } }) o) at_s
 
 -- what is known once the site was found and the target has its number
@@ -55,38 +59,57 @@ numbered_in n m target site t s site_at added target_at allowed =
     record { site_at = site_at; targets = ap (λ (m : NetworkSeen). m.registry) added; target_at = target_at; allowed = allowed }
 
 -- its key
-pub numbered_key : (n : NetworkSeen) (target site : List ℕ) (r : RegistrySeen) (t : TargetNo) (s : SiteNo) → IsNumbered n target site r t s → sky_key (with_target n.registry target) target site ≡ Some record { target = t; site = s }
-numbered_key n target site r t s is = key_is (with_target n.registry target) target site t s (subst (λ (q : RegistrySeen). number_of q.targets target ≡ Some t.0) is.targets is.target_at) is.site_at
+pub numbered_key : (n : NetworkSeen) (target site : List ℕ) (r : RegistrySeen) (t : TargetNo) (s : SiteNo) → IsNumbered n target site r t s
+    → sky_key (with_target n.registry target) target site ≡ Some record { target = t; site = s }
+numbered_key n target site r t s is =
+    key_is (with_target n.registry target) target site t s
+    (subst (λ (q : RegistrySeen). number_of q.targets target ≡ Some t.0) is.targets is.target_at) is.site_at
 
 -- what is seen of a registry and a calendar
 abbrev pub network_of : RegistrySeen → CalendarSeen → NetworkSeen
 network_of r c = record { registry = r; calendar = c }
 
-pub sky_set : (n : NetworkSeen) (target site : List ℕ) (spans : List Span) (r : RegistrySeen) (t : TargetNo) (s : SiteNo) (c : CalendarSeen) → IsNumbered n target site r t s → c ≡ with_sky n.calendar record { target = t; site = s } spans
+pub sky_set : (n : NetworkSeen) (target site : List ℕ) (spans : List Span) (r : RegistrySeen) (t : TargetNo) (s : SiteNo) (c : CalendarSeen)
+    → IsNumbered n target site r t s → c ≡ with_sky n.calendar record { target = t; site = s } spans
     → network_of r c ≡ sets_visibility n target site spans
 sky_set n target site spans r t s c is with =
     ap (λ (q : RegistrySeen). network_of q c) is.targets ∙ ap (λ (d : CalendarSeen). network_of (with_target n.registry target) d) with
-    ∙ sym (ap (λ (o : Option SkyKey). option_map_or (λ key. record { registry = with_target n.registry target; calendar = with_sky n.calendar key spans }) o n) (numbered_key n target site r t s is))
+    ∙ sym (ap (λ (o : Option SkyKey). option_map_or
+    (λ key. record { registry = with_target n.registry target; calendar = with_sky n.calendar key spans }) o n)
+    (numbered_key n target site r t s is))
 
 -- the refusal is that of the pieces
 pub refusal_is : (n : NetworkSeen) (target site : List ℕ) (spans : List Span) (r : RegistrySeen) (t : TargetNo) (s : SiteNo) → IsNumbered n target site r t s
     → visibility_refusal n target site spans ≡ sky_refusal n.calendar record { target = t; site = s } spans
 refusal_is n target site spans r t s is =
-    ap (λ (o : Option SiteFault). option_or o (option_or (target_refusal n.registry target) (option_and_then (λ key. sky_refusal n.calendar key spans) (sky_key (with_target n.registry target) target site)))) (allows_site n.registry site s.0 is.site_at)
-    ∙ ap (λ (o : Option SiteFault). option_or o (option_and_then (λ key. sky_refusal n.calendar key spans) (sky_key (with_target n.registry target) target site))) is.allowed
+    ap (λ (o : Option SiteFault). option_or o
+    (option_or (target_refusal n.registry target)
+    (option_and_then (λ key. sky_refusal n.calendar key spans) (sky_key (with_target n.registry target) target site))))
+    (allows_site n.registry site s.0 is.site_at)
+    ∙ ap (λ (o : Option SiteFault). option_or o
+    (option_and_then (λ key. sky_refusal n.calendar key spans) (sky_key (with_target n.registry target) target site))) is.allowed
     ∙ ap (λ (o : Option SkyKey). option_and_then (λ key. sky_refusal n.calendar key spans) o) (numbered_key n target site r t s is)
 
 -- the refusal is that of the target
-pub refuses_target : (n : NetworkSeen) (target site : List ℕ) (spans : List Span) (s : ℕ) (fault : SiteFault) → number_of n.registry.sites site ≡ Some s → target_refusal n.registry target ≡ Some fault
+pub refuses_target : (n : NetworkSeen) (target site : List ℕ) (spans : List Span) (s : ℕ) (fault : SiteFault)
+    → number_of n.registry.sites site ≡ Some s → target_refusal n.registry target ≡ Some fault
     → visibility_refusal n target site spans ≡ Some fault
 refuses_target n target site spans s fault some refused =
-    ap (λ (o : Option SiteFault). option_or o (option_or (target_refusal n.registry target) (option_and_then (λ key. sky_refusal n.calendar key spans) (sky_key (with_target n.registry target) target site)))) (allows_site n.registry site s some)
-    ∙ ap (λ (o : Option SiteFault). option_or o (option_and_then (λ key. sky_refusal n.calendar key spans) (sky_key (with_target n.registry target) target site))) refused
+    ap (λ (o : Option SiteFault). option_or o
+    (option_or (target_refusal n.registry target)
+    (option_and_then (λ key. sky_refusal n.calendar key spans) (sky_key (with_target n.registry target) target site))))
+    (allows_site n.registry site s some)
+    ∙ ap (λ (o : Option SiteFault). option_or o
+    (option_and_then (λ key. sky_refusal n.calendar key spans) (sky_key (with_target n.registry target) target site))) refused
 
 -- the refusal is that of the site
-pub refuses_unknown : (n : NetworkSeen) (target site : List ℕ) (spans : List Span) → number_of n.registry.sites site ≡ None → visibility_refusal n target site spans ≡ Some NoSuchSite
+pub refuses_unknown : (n : NetworkSeen) (target site : List ℕ) (spans : List Span) → number_of n.registry.sites site ≡ None
+    → visibility_refusal n target site spans ≡ Some NoSuchSite
 refuses_unknown n target site spans none =
-    ap (λ (o : Option SiteFault). option_or o (option_or (target_refusal n.registry target) (option_and_then (λ key. sky_refusal n.calendar key spans) (sky_key (with_target n.registry target) target site)))) (refuses_site n.registry site none)
+    ap (λ (o : Option SiteFault). option_or o
+    (option_or (target_refusal n.registry target)
+    (option_and_then (λ key. sky_refusal n.calendar key spans) (sky_key (with_target n.registry target) target site))))
+    (refuses_site n.registry site none)
 
 -- a new name goes last
 length_numbered : (names : List (List ℕ)) (name : List ℕ) → length names ≤ length (numbered names name)
@@ -103,16 +126,19 @@ pub forgotten : (r : RegistrySeen) (target : List ℕ) → without_targets (leng
 forgotten r target = ap (λ (ts : List (List ℕ)). with_targets r ts) (take_numbered r.targets target)
 
 -- a network whose new target is forgotten is as before
-pub as_before : (n m : NetworkSeen) (target : List ℕ) (known : ℕ) (c : CalendarSeen) → m ≡ adds_target n target → known ≡ length n.registry.targets → c ≡ m.calendar
+pub as_before : (n m : NetworkSeen) (target : List ℕ) (known : ℕ) (c : CalendarSeen) → m ≡ adds_target n target
+    → known ≡ length n.registry.targets → c ≡ m.calendar
     → forgets_targets known (network_of m.registry c) ≡ n
 as_before n m target known c added count same =
     (λ j. network_of (without_targets (count j) (added j).registry) ((same ∙ ap (λ (m : NetworkSeen). m.calendar) added) j))
     ∙ ap (λ (r : RegistrySeen). network_of r n.calendar) (forgotten n.registry target)
 
 -- targets without a number have no sky
-pub still_unseen : (n : NetworkSeen) (target site : List ℕ) (spans : List Span) (r : RegistrySeen) (t : TargetNo) (s : SiteNo) (c : CalendarSeen) → IsNumbered n target site r t s → c ≡ with_sky n.calendar record { target = t; site = s } spans
+pub still_unseen : (n : NetworkSeen) (target site : List ℕ) (spans : List Span) (r : RegistrySeen) (t : TargetNo) (s : SiteNo) (c : CalendarSeen)
+    → IsNumbered n target site r t s → c ≡ with_sky n.calendar record { target = t; site = s } spans
     → HaveNoSky (length n.registry.targets) n.calendar → HaveNoSky (length r.targets) c
 still_unseen n target site spans r t s c is with unseen key from =
     let more : length n.registry.targets ≤ length r.targets = rw is.targets (length_numbered n.registry.targets target) in
     let below : t.0 < length r.targets = (position-Some (is_name target) r.targets t.0 [] is.target_at).0 in
-    ap (λ (d : CalendarSeen). sky_of d.skies key) with ∙ other_target n.calendar.skies record { target = t; site = s } key spans (omega arith) ∙ unseen key (omega arith)
+    ap (λ (d : CalendarSeen). sky_of d.skies key) with ∙ other_target n.calendar.skies record { target = t; site = s } key spans (omega arith)
+    ∙ unseen key (omega arith)

@@ -1,5 +1,6 @@
 -- Spans that have the same seconds within some times, and parts of snapshots that are alike.
-use Rattle.std.proofs.Common.{◌≡◌, ℕ, ◌+◌, ◌<◌, ◌≤◌, inl, inr, min, max, true, nat_eq, List, [], ◌∷◌, ◌++◌, length, slice_index_or, take, sym, ◌∙◌, ap, subst, arith}
+use Rattle.std.proofs.Common.{◌≡◌, ℕ, ◌+◌, ◌<◌, ◌≤◌, inl, inr, min, max, true, nat_eq, List, [], ◌∷◌, ◌++◌, length, slice_index_or, take, sym, ◌∙◌, ap}
+use Rattle.std.proofs.Common.{subst, arith}
 use Rattle.std.specs.Prelude.{◌&&◌, ◌↔◌}
 use Rattle.std.proofs.lemmas.Bool.{and_parts}
 use Rattle.std.proofs.lemmas.List.{take_more}
@@ -18,7 +19,8 @@ use Rattle.snapshot_starts.proofs.Sets.{any_left, any_last, any_cases}
 pub pairs_same : (a b : Pair) → (nat_eq a.request.0 b.request.0 && nat_eq a.telescope.0 b.telescope.0) ≡ true → a ≡ b
 pairs_same a b told =
     let both = and_parts (nat_eq a.request.0 b.request.0) (nat_eq a.telescope.0 b.telescope.0) told in
-    ap (λ (r : RequestNo). pair_of r a.telescope) ((requests_decide a.request b.request).0 both.0) ∙ ap (λ (t : TelescopeNo). pair_of b.request t) ((telescopes_decide a.telescope b.telescope).0 both.1)
+    ap (λ (r : RequestNo). pair_of r a.telescope) ((requests_decide a.request b.request).0 both.0)
+    ∙ ap (λ (t : TelescopeNo). pair_of b.request t) ((telescopes_decide a.telescope b.telescope).0 both.1)
 
 -- ---- the same within some times
 
@@ -31,13 +33,15 @@ pub record IsPartOf (w times part : Span) : Type 0 where
   pub to : part.to.0 ≡ min w.to.0 times.to.0
 
 -- what lies within the times lies inside a span where it lies inside this part of it
-part_has : (w times part : Span) (a b : ℕ) → IsPartOf w times part → times.from.0 ≤ a → b ≤ times.to.0 → (w.from.0 ≤ a) × (b ≤ w.to.0) ↔ (part.from.0 ≤ a) × (b ≤ part.to.0)
+part_has : (w times part : Span) (a b : ℕ) → IsPartOf w times part → times.from.0 ≤ a → b ≤ times.to.0 → (w.from.0 ≤ a) × (b ≤ w.to.0)
+    ↔ (part.from.0 ≤ a) × (b ≤ part.to.0)
 part_has w times part a b is from to = (
   λ (h, g). (omega (arith, is.from, h, from), omega (arith, is.to, g, to)),
   λ (h, g). (omega (arith, is.from, h), omega (arith, is.to, g)),
 )
 
-more_same : (times w part : Span) (xs parts : List Span) → IsPartOf w times part → IsSameWithin times xs parts → IsSameWithin times (xs ++ w ∷ []) (parts ++ part ∷ [])
+more_same : (times w part : Span) (xs parts : List Span) → IsPartOf w times part → IsSameWithin times xs parts
+    → IsSameWithin times (xs ++ w ∷ []) (parts ++ part ∷ [])
 more_same times w part xs parts is so_far a b some from to =
     let P : Span → Type 0 = λ v. (v.from.0 ≤ a) × (b ≤ v.to.0) in
     let before = so_far a b some from to in
@@ -53,7 +57,8 @@ more_same times w part xs parts is so_far a b some from to =
     )
 
 -- a span with no part in the times
-none_same : (times w part : Span) (xs parts : List Span) → IsPartOf w times part → part.to.0 ≤ part.from.0 → IsSameWithin times xs parts → IsSameWithin times (xs ++ w ∷ []) parts
+none_same : (times w part : Span) (xs parts : List Span) → IsPartOf w times part → part.to.0 ≤ part.from.0 → IsSameWithin times xs parts
+    → IsSameWithin times (xs ++ w ∷ []) parts
 none_same times w part xs parts is none so_far a b some from to =
     let P : Span → Type 0 = λ v. (v.from.0 ≤ a) × (b ≤ v.to.0) in
     let before = so_far a b some from to in
@@ -71,15 +76,18 @@ taken_more spans i w l at = take_more spans i w l ∙ ap (λ (v : Span). take i 
 pub more_within : (times w part : Span) (spans parts : List Span) (i : ℕ) → i < length spans → slice_index_or spans i w ≡ w → IsPartOf w times part
     → IsSameWithin times (take i spans) parts → IsSameWithin times (take (i + 1) spans) (parts ++ part ∷ [])
 more_within times w part spans parts i l at is so_far =
-    subst (λ (xs : List Span). IsSameWithin times xs (parts ++ part ∷ [])) (sym (taken_more spans i w l at)) (more_same times w part (take i spans) parts is so_far)
+    subst (λ (xs : List Span). IsSameWithin times xs (parts ++ part ∷ [])) (sym (taken_more spans i w l at))
+    (more_same times w part (take i spans) parts is so_far)
 
-pub none_within : (times w part : Span) (spans parts : List Span) (i : ℕ) → i < length spans → slice_index_or spans i w ≡ w → IsPartOf w times part → part.to.0 ≤ part.from.0
+pub none_within : (times w part : Span) (spans parts : List Span) (i : ℕ) → i < length spans → slice_index_or spans i w ≡ w → IsPartOf w times part
+    → part.to.0 ≤ part.from.0
     → IsSameWithin times (take i spans) parts → IsSameWithin times (take (i + 1) spans) parts
 none_within times w part spans parts i l at is none so_far =
     subst (λ (xs : List Span). IsSameWithin times xs parts) (sym (taken_more spans i w l at)) (none_same times w part (take i spans) parts is none so_far)
 
 -- with the same parts, both have the same
-pub same_through : (times : Span) (xs ys parts others : List Span) → parts ≡ others → IsSameWithin times xs parts → IsSameWithin times ys others → IsSameWithin times xs ys
+pub same_through : (times : Span) (xs ys parts others : List Span) → parts ≡ others → IsSameWithin times xs parts → IsSameWithin times ys others
+    → IsSameWithin times xs ys
 same_through times xs ys parts others e left right a b some from to =
     let mine = left a b some from to in
     let theirs = right a b some from to in (

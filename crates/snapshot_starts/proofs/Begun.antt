@@ -35,7 +35,8 @@ last_has spans a b i sorted begun (k, w, l, e, (from, to)) =
     let within : i ≤ length spans = begun.within in
     let ends : (slice_index_or spans k w).to.0 ≤ (slice_index_or spans (i - 1) w).to.0 = ends_rise spans sorted k (i - 1) w (omega arith) (omega arith) in
     let same : (slice_index_or spans k w).to.0 ≡ w.to.0 = ap (λ (v : Span). v.to.0) e in
-    let other : (slice_index_or spans (i - 1) w).to.0 ≡ (slice_index_or spans (i - 1) nothing).to.0 = ap (λ (v : Span). v.to.0) (get_or_default spans (i - 1) w nothing (omega arith)) in
+    let other : (slice_index_or spans (i - 1) w).to.0 ≡ (slice_index_or spans (i - 1) nothing).to.0 =
+    ap (λ (v : Span). v.to.0) (get_or_default spans (i - 1) w nothing (omega arith)) in
     omega arith
 
 pub in_last : (spans : List Span) (a b i : ℕ) → IsSortedApart spans → IsBegunBy spans a i → 0 < i

@@ -1,5 +1,6 @@
 -- The pairs of a snapshot, and the slices that are found for them.
-use Rattle.std.proofs.Common.{◌≡◌, ℕ, ◌+◌, ◌*◌, ◌<◌, ◌≤◌, inl, inr, List, [], ◌∷◌, ◌++◌, length, map, take, slice_index_or, All, AllPairs, Contains, None, Ok, Err, Result, refl, sym, ◌∙◌, ap, subst, arith}
+use Rattle.std.proofs.Common.{◌≡◌, ℕ, ◌+◌, ◌*◌, ◌<◌, ◌≤◌, inl, inr, List, [], ◌∷◌, ◌++◌, length, map, take, slice_index_or, All, AllPairs, Contains}
+use Rattle.std.proofs.Common.{None, Ok, Err, Result, refl, sym, ◌∙◌, ap, subst, arith}
 use Rattle.std.specs.Prelude.{flat_map, sum_by, HoldsAt, IfOk, MatchResult}
 use Rattle.std.specs.List.{AllZip}
 use Rattle.std.specs.declared.vec.Vec.{Vec}
@@ -34,21 +35,25 @@ abbrev of_listed : Listed → List Pair
 of_listed x = pairs_of_request x.request
 
 pub more_pairs : (s : Parts) (place : ℕ) (q : RequestPart) (pairs new : List Pair) → place < length (listed s) → HoldsAt (λ x. x.request ≡ q) (listed s) place
-    → pairs ≡ flat_map (λ x. pairs_of_request x.request) (take place (listed s)) → new ≡ pairs ++ pairs_of_request q → new ≡ flat_map (λ x. pairs_of_request x.request) (take (place + 1) (listed s))
+    → pairs ≡ flat_map (λ x. pairs_of_request x.request) (take place (listed s)) → new ≡ pairs ++ pairs_of_request q
+    → new ≡ flat_map (λ x. pairs_of_request x.request) (take (place + 1) (listed s))
 more_pairs s place q pairs new l at so_far e =
     let x : Listed = record { group = 0; quota = None; request = q } in
     let y : Listed = slice_index_or (listed s) place x in
     let one : of_listed y ≡ pairs_of_request q = ap pairs_of_request (at x) in
-    let split : flat_map of_listed (take (place + 1) (listed s)) ≡ flat_map of_listed (take place (listed s)) ++ (of_listed y ++ []) = ap (flat_map of_listed) (take_more (listed s) place x l) ∙ flat_map-append of_listed (take place (listed s)) (y ∷ []) in
+    let split : flat_map of_listed (take (place + 1) (listed s)) ≡ flat_map of_listed (take place (listed s)) ++ (of_listed y ++ []) =
+    ap (flat_map of_listed) (take_more (listed s) place x l) ∙ flat_map-append of_listed (take place (listed s)) (y ∷ []) in
     let last : of_listed y ++ [] ≡ pairs_of_request q = append-nil (of_listed y) ∙ one in
     e ∙ ap (λ (ps : List Pair). ps ++ pairs_of_request q) so_far ∙ sym (split ∙ ap (λ (ps : List Pair). flat_map of_listed (take place (listed s)) ++ ps) last)
 
 -- ---- the slices of one pair
 
-pub known_pair_slices : (s : Parts) (pair : Pair) (place : ℕ) (q : RequestPart) (slices : List Span) → IsOrderly s → IsKnown s pair.request.0 → place ≡ place_of s pair.request.0
+pub known_pair_slices : (s : Parts) (pair : Pair) (place : ℕ) (q : RequestPart) (slices : List Span) → IsOrderly s → IsKnown s pair.request.0
+    → place ≡ place_of s pair.request.0
     → HoldsAt (λ x. x.request ≡ q) (listed s) place → AreSlices (CanStart s q pair.telescope) slices → ArePairSlices s (record { pair = pair; slices = slices })
 known_pair_slices s pair place q slices o known at holds are = record {
-  starts = λ k. let both = possible_iff s (pair_start pair k) place q o known at holds in (λ is_in. both.1 ((are.each k).0 is_in), λ possible. (are.each k).1 (both.0 possible));
+  starts = λ k. let both = possible_iff s (pair_start pair k) place q o known at holds in
+      (λ is_in. both.1 ((are.each k).0 is_in), λ possible. (are.each k).1 (both.0 possible));
   sorted = are.sorted;
 }
 
@@ -65,7 +70,8 @@ before_by_telescope r ts rise = AllPairs-map IsPairBefore (pair_of r) ts (λ i j
 pub pairs_in_order : (s : Parts) → IsOrderly s → AllPairs IsPairBefore (pairs_of s)
 pairs_in_order s o =
     pairs_flat_map (λ x y. x.request.request.0 < y.request.request.0) IsPairBefore of_listed (listed s) o.requests_rise
-    (λ x c. before_by_telescope x.request.request x.request.telescopes (All-contains (λ y. AllPairs (λ t u. t.0 < u.0) y.request.telescopes) (listed s) x o.telescopes_rise c))
+    (λ x c. before_by_telescope x.request.request x.request.telescopes
+    (All-contains (λ y. AllPairs (λ t u. t.0 < u.0) y.request.telescopes) (listed s) x o.telescopes_rise c))
     (λ x y a b less in_x in_y.
     let first = contains_from_map (pair_of x.request.request) x.request.telescopes a in_x in
     let second = contains_from_map (pair_of y.request.request) y.request.telescopes b in_y in
@@ -90,13 +96,15 @@ pair_is_listed s r t known able =
 few_telescopes : (s : Parts) → IsOrderly s → All (λ x. length x.request.telescopes ≤ 32) (listed s)
 few_telescopes s o i d l =
     let counts : List ℕ = map (λ x. length x.request.telescopes) (listed s) in
-    All-contains (λ n. n ≤ 32) counts (length (slice_index_or (listed s) i d).request.telescopes) (o.within Fits) (contains_map (λ x. length x.request.telescopes) (listed s) (slice_index_or (listed s) i d) (Contains-get_or (listed s) i d l))
+    All-contains (λ n. n ≤ 32) counts (length (slice_index_or (listed s) i d).request.telescopes) (o.within Fits)
+    (contains_map (λ x. length x.request.telescopes) (listed s) (slice_index_or (listed s) i d) (Contains-get_or (listed s) i d l))
 
 pub few_pairs : (s : Parts) → IsOrderly s → length (pairs_of s) ≤ 32768
 few_pairs s o =
     let most : length (listed s) ≤ 1024 = o.within Requests 0 0 (omega arith) in
     let each : All (λ x. length (of_listed x) ≤ 32) (listed s) = λ i d l.
-    let same : length (of_listed (slice_index_or (listed s) i d)) ≡ length (slice_index_or (listed s) i d).request.telescopes = length-map (slice_index_or (listed s) i d).request.telescopes (pair_of (slice_index_or (listed s) i d).request.request) in
+    let same : length (of_listed (slice_index_or (listed s) i d)) ≡ length (slice_index_or (listed s) i d).request.telescopes =
+    length-map (slice_index_or (listed s) i d).request.telescopes (pair_of (slice_index_or (listed s) i d).request.request) in
     let few : length (slice_index_or (listed s) i d).request.telescopes ≤ 32 = few_telescopes s o i d l in
     omega arith in
     let count : length (pairs_of s) ≡ sum_by (λ x. length (of_listed x)) (listed s) = length-flat_map of_listed (listed s) in
@@ -105,7 +113,8 @@ few_pairs s o =
 
 -- ---- what was found for all pairs
 
-pub found_pairs : (s : Parts) (pairs : List Pair) (found : List PairSlices) → AllZip (IsFoundFor s) pairs found → (map (λ x. x.pair) found ≡ pairs) × All (ArePairSlices s) found
+pub found_pairs : (s : Parts) (pairs : List Pair) (found : List PairSlices) → AllZip (IsFoundFor s) pairs found → (map (λ x. x.pair) found ≡ pairs)
+    × All (ArePairSlices s) found
 found_pairs s [] [] z = (refl, All-nil (ArePairSlices s))
 found_pairs s [] (x ∷ found) z = absurd z
 found_pairs s (pair ∷ pairs) [] z = absurd z
@@ -116,7 +125,9 @@ found_pairs s (pair ∷ pairs) (x ∷ found) (here, rest) =
 pub are_found : (s : Parts) (pairs : List Pair) (found : List PairSlices) → pairs ≡ pairs_of s → AllZip (IsFoundFor s) pairs found → AreFound s found
 are_found s pairs found e z = let both = found_pairs s pairs found z in record { pairs = both.0 ∙ e; each = both.1 }
 
-through_ok : (s : Parts) (pairs : List Pair) (found : List PairSlices) → AllZip (λ pair r. IfOk r (IsFoundFor s pair)) pairs (map (λ x. let r : Result PairSlices AllocError = Ok x in r) found) → AllZip (IsFoundFor s) pairs found
+through_ok : (s : Parts) (pairs : List Pair) (found : List PairSlices)
+    → AllZip (λ pair r. IfOk r (IsFoundFor s pair)) pairs (map (λ x. let r : Result PairSlices AllocError = Ok x in r) found)
+    → AllZip (IsFoundFor s) pairs found
 through_ok s [] [] z = tt
 through_ok s [] (x ∷ found) z = absurd z
 through_ok s (pair ∷ pairs) [] z = absurd z
@@ -124,7 +135,8 @@ through_ok s (pair ∷ pairs) (x ∷ found) (here, rest) = (here, through_ok s p
 
 -- what was collected of answers that are all there
 pub collected : (s : Parts) (pairs : List Pair) (answers : List (Result PairSlices AllocError)) (all : Result (Vec PairSlices Global) AllocError)
-    → AllZip (λ pair r. IfOk r (IsFoundFor s pair)) pairs answers → MatchResult all (λ v. (found : List PairSlices) × (answers ≡ map Ok found) × (v.items ≡ found)) (λ e. Contains answers (Err e))
+    → AllZip (λ pair r. IfOk r (IsFoundFor s pair)) pairs answers
+    → MatchResult all (λ v. (found : List PairSlices) × (answers ≡ map Ok found) × (v.items ≡ found)) (λ e. Contains answers (Err e))
     → IfOk all (λ v. AllZip (IsFoundFor s) pairs v.items)
 collected s pairs answers (Ok v) z (found, e, same) =
     subst (AllZip (IsFoundFor s) pairs) (sym same) (through_ok s pairs found (subst (AllZip (λ pair r. IfOk r (IsFoundFor s pair)) pairs) e z))

@@ -1,5 +1,6 @@
 -- The runs of the slices that were found are those of all possible starts.
-use Rattle.std.proofs.Common.{◌≡◌, ℕ, ◌+◌, ◌-◌, ◌^◌, ◌<◌, ◌≤◌, inl, inr, true, List, [], ◌∷◌, length, map, slice_index_or, All, AllPairs, Contains, refl, sym, ◌∙◌, ap, subst, arith}
+use Rattle.std.proofs.Common.{◌≡◌, ℕ, ◌+◌, ◌-◌, ◌^◌, ◌<◌, ◌≤◌, inl, inr, true, List, [], ◌∷◌, length, map, slice_index_or, All, AllPairs, Contains}
+use Rattle.std.proofs.Common.{refl, sym, ◌∙◌, ap, subst, arith}
 use Rattle.std.specs.Prelude.{sum_by, IsTrue}
 use Rattle.std.proofs.lemmas.Bool.Decides.{nat_tests}
 use Rattle.std.proofs.lemmas.List.{length-map}
@@ -67,7 +68,8 @@ lies_within : (s : Parts) (x : PairSlices) (w : Span) → IsOrderly s → ArePai
 lies_within s x w o are c =
     let some : w.from.0 < w.to.0 = All-contains (λ v. v.from.0 < v.to.0) x.slices w are.sorted.nonempty c in
     let first : IsPossibleStart s (pair_start x.pair w.from.0) = (are.starts w.from.0).0 (has_in x.slices w w.from.0 c (omega arith) some) in
-    let last : IsPossibleStart s (pair_start x.pair (w.to.0 - 1)) = (are.starts (w.to.0 - 1)).0 (has_in x.slices w (w.to.0 - 1) c (omega arith) (omega arith)) in
+    let last : IsPossibleStart s (pair_start x.pair (w.to.0 - 1)) =
+    (are.starts (w.to.0 - 1)).0 (has_in x.slices w (w.to.0 - 1) c (omega arith) (omega arith)) in
     let size : 0 < size_of s x.pair.request.0 = start_size_above s o (pair_start x.pair (w.to.0 - 1)) last in
     let ends : w.to.0 - 1 + size_of s x.pair.request.0 ≤ s.first.0 + s.slices = last.ends in
     record { some = some; from = first.begins; to = omega arith }
@@ -86,7 +88,9 @@ widths_within a b (w ∷ spans) sorted from to =
     let one : w.from.0 < w.to.0 = parts.nonempty in
     let low : a ≤ w.from.0 = All-head (λ v. a ≤ v.from.0) w spans from in
     let high : w.to.0 ≤ b = All-head (λ v. v.to.0 ≤ b) w spans to in
-    let rest : slice_count spans ≤ b - w.to.0 = widths_within w.to.0 b spans parts.sorted (λ i d l. let gap : w.to.0 < (slice_index_or spans i d).from.0 = parts.apart i d l in omega arith) (All-tail (λ v. v.to.0 ≤ b) w spans to) in
+    let rest : slice_count spans ≤ b - w.to.0 =
+    widths_within w.to.0 b spans parts.sorted (λ i d l. let gap : w.to.0 < (slice_index_or spans i d).from.0 = parts.apart i d l in
+    omega arith) (All-tail (λ v. v.to.0 ≤ b) w spans to) in
     let sum : slice_count (w ∷ spans) ≡ (w.to.0 - w.from.0) + slice_count spans = sum_by-cons (λ v. v.to.0 - v.from.0) w spans in
     omega arith
 
@@ -94,11 +98,13 @@ few_slices : (s : Parts) (x : PairSlices) → IsOrderly s → ArePairSlices s x 
 few_slices s x o are =
     let slices : s.slices ≤ 1440 = o.ranges.slices_most in
     let within : slice_count x.slices ≤ s.first.0 + s.slices - s.first.0 = widths_within s.first.0 (s.first.0 + s.slices) x.slices are.sorted
-    (all_of (λ w. s.first.0 ≤ w.from.0) x.slices (λ w c. (lies_within s x w o are c).from)) (all_of (λ w. w.to.0 ≤ s.first.0 + s.slices) x.slices (λ w c. (lies_within s x w o are c).to)) in
+    (all_of (λ w. s.first.0 ≤ w.from.0) x.slices (λ w c. (lies_within s x w o are c).from))
+    (all_of (λ w. w.to.0 ≤ s.first.0 + s.slices) x.slices (λ w c. (lies_within s x w o are c).to)) in
     omega arith
 
 pub run_spans : (s : Parts) (found : List PairSlices) → IsOrderly s → AreFound s found → AreRunSpans found
-run_spans s found o are = all_of (λ x. All IsRunSpan x.slices) found (λ x c. all_of IsRunSpan x.slices (λ w d. run_span s w o (lies_within s x w o (All-contains (ArePairSlices s) found x are.each c) d)))
+run_spans s found o are = all_of (λ x. All IsRunSpan x.slices) found
+    (λ x c. all_of IsRunSpan x.slices (λ w d. run_span s w o (lies_within s x w o (All-contains (ArePairSlices s) found x are.each c) d)))
 
 pub are_few : (s : Parts) (found : List PairSlices) → IsOrderly s → AreFound s found → AreFew found
 are_few s found o are =
@@ -118,7 +124,9 @@ apart_runs pair v w some gap = inr (refl, inr (refl, omega arith))
 
 runs_of_pair_in_order : (pair : Pair) (spans : List Span) → IsSortedApart spans → AllPairs IsRunBefore (map (run_of pair) spans)
 runs_of_pair_in_order pair spans sorted =
-    AllPairs-map IsRunBefore (run_of pair) spans (λ i j d l m. apart_runs pair (slice_index_or spans i d) (slice_index_or spans j d) (sorted.nonempty i d (omega arith)) (sorted.apart i j d l m))
+    AllPairs-map IsRunBefore (run_of pair) spans
+    (λ i j d l m. apart_runs pair (slice_index_or spans i d) (slice_index_or spans j d) (sorted.nonempty i d (omega arith))
+    (sorted.apart i j d l m))
 
 across_made : (p q : Pair) (v w : Span) (a b : Run) → run_of p v ≡ a → run_of q w ≡ b → IsPairBefore p q → IsRunBefore a b
 across_made p q v w a b e f (inl less) =
@@ -138,8 +146,10 @@ across x y a b before c d =
 
 runs_in_order : (s : Parts) (found : List PairSlices) → IsOrderly s → AreFound s found → AllPairs IsRunBefore (runs_of found)
 runs_in_order s found o are =
-    let pairs : AllPairs (λ x y. IsPairBefore x.pair y.pair) found = pairs_from_map IsPairBefore (λ x. x.pair) found (subst (AllPairs IsPairBefore) (sym are.pairs) (pairs_in_order s o)) in
-    pairs_flat_map (λ x y. IsPairBefore x.pair y.pair) IsRunBefore runs_of_one found pairs (λ x c. runs_of_pair_in_order x.pair x.slices (All-contains (ArePairSlices s) found x are.each c).sorted)
+    let pairs : AllPairs (λ x y. IsPairBefore x.pair y.pair) found =
+    pairs_from_map IsPairBefore (λ x. x.pair) found (subst (AllPairs IsPairBefore) (sym are.pairs) (pairs_in_order s o)) in
+    pairs_flat_map (λ x y. IsPairBefore x.pair y.pair) IsRunBefore runs_of_one found pairs
+    (λ x c. runs_of_pair_in_order x.pair x.slices (All-contains (ArePairSlices s) found x are.each c).sorted)
     (λ x y a b before c d. across x y a b before c d)
 
 -- ---- the starts of the runs
@@ -147,7 +157,8 @@ runs_in_order s found o are =
 start_of_pair : (pair : Pair) (p : Placement) → p.request ≡ pair.request → p.telescope ≡ pair.telescope → pair_start pair p.slice.0 ≡ p
 start_of_pair pair p r t i = record { request = sym r i; telescope = sym t i; slice = p.slice }
 
-possible_in : (s : Parts) (found : List PairSlices) (run : Run) (p : Placement) → AreFound s found → Contains (runs_of found) run → IsIn run p → IsPossibleStart s p
+possible_in : (s : Parts) (found : List PairSlices) (run : Run) (p : Placement) → AreFound s found → Contains (runs_of found) run
+    → IsIn run p → IsPossibleStart s p
 possible_in s found run p are c h =
     let made = made_of found run c in
     let x : PairSlices = made.0 in
@@ -155,13 +166,17 @@ possible_in s found run p are c h =
     let here : IsIn (run_of x.pair w) p = subst (λ (r : Run). IsIn r p) (sym made.2.same) h in
     let from : w.from.0 ≤ p.slice.0 = here.from in
     let to : p.slice.0 < w.from.0 + (w.to.0 - w.from.0) = here.to in
-    let possible : IsPossibleStart s (pair_start x.pair p.slice.0) = ((All-contains (ArePairSlices s) found x are.each made.2.in_found).starts p.slice.0).0 (has_in x.slices w p.slice.0 made.2.in_slices from (omega arith)) in
+    let possible : IsPossibleStart s (pair_start x.pair p.slice.0) =
+    ((All-contains (ArePairSlices s) found x are.each made.2.in_found).starts p.slice.0).0
+    (has_in x.slices w p.slice.0 made.2.in_slices from (omega arith)) in
     subst (IsPossibleStart s) (start_of_pair x.pair p here.request here.telescope) possible
 
-run_with : (s : Parts) (found : List PairSlices) (p : Placement) → AreFound s found → IsPossibleStart s p → (run : Run) × Contains (runs_of found) run × IsIn run p
+run_with : (s : Parts) (found : List PairSlices) (p : Placement) → AreFound s found → IsPossibleStart s p
+    → (run : Run) × Contains (runs_of found) run × IsIn run p
 run_with s found p are possible =
     let listed : Contains (pairs_of s) (pair_of p.request p.telescope) = pair_is_listed s p.request p.telescope possible.known possible.able in
-    let mapped : Contains (map (λ x. x.pair) found) (pair_of p.request p.telescope) = subst (λ (ps : List Pair). Contains ps (pair_of p.request p.telescope)) (sym are.pairs) listed in
+    let mapped : Contains (map (λ x. x.pair) found) (pair_of p.request p.telescope) =
+    subst (λ (ps : List Pair). Contains ps (pair_of p.request p.telescope)) (sym are.pairs) listed in
     let one = contains_from_map (λ x. x.pair) found (pair_of p.request p.telescope) mapped in
     let x : PairSlices = one.0 in
     let request : p.request ≡ x.pair.request = ap (λ (q : Pair). q.request) (sym one.2) in
@@ -188,7 +203,8 @@ count_of_one : (pair : Pair) (spans : List Span) → count_of (map (run_of pair)
 count_of_one pair [] = refl
 count_of_one pair (w ∷ spans) =
     let rest : count_of (map (run_of pair) spans) ≡ slice_count spans = count_of_one pair spans in
-    let left : count_of (map (run_of pair) (w ∷ spans)) ≡ (w.to.0 - w.from.0) + count_of (map (run_of pair) spans) = sum_by-cons (λ run. run.count) (run_of pair w) (map (run_of pair) spans) in
+    let left : count_of (map (run_of pair) (w ∷ spans)) ≡ (w.to.0 - w.from.0) + count_of (map (run_of pair) spans) =
+    sum_by-cons (λ run. run.count) (run_of pair w) (map (run_of pair) spans) in
     let right : slice_count (w ∷ spans) ≡ (w.to.0 - w.from.0) + slice_count spans = sum_by-cons (λ v. v.to.0 - v.from.0) w spans in
     omega arith
 
@@ -197,11 +213,14 @@ count_of_runs [] = refl
 count_of_runs (x ∷ found) =
     let rest : count_of (runs_of found) ≡ sum_by (λ y. slice_count y.slices) found = count_of_runs found in
     let one : count_of (runs_of_one x) ≡ slice_count x.slices = count_of_one x.pair x.slices in
-    let left : count_of (runs_of (x ∷ found)) ≡ count_of (runs_of_one x) + count_of (runs_of found) = sum_by-append (λ run. run.count) (runs_of_one x) (runs_of found) in
-    let right : sum_by (λ y. slice_count y.slices) (x ∷ found) ≡ slice_count x.slices + sum_by (λ y. slice_count y.slices) found = sum_by-cons (λ y. slice_count y.slices) x found in
+    let left : count_of (runs_of (x ∷ found)) ≡ count_of (runs_of_one x) + count_of (runs_of found) =
+    sum_by-append (λ run. run.count) (runs_of_one x) (runs_of found) in
+    let right : sum_by (λ y. slice_count y.slices) (x ∷ found) ≡ slice_count x.slices + sum_by (λ y. slice_count y.slices) found =
+    sum_by-cons (λ y. slice_count y.slices) x found in
     omega arith
 
-pub can_keep : (s : Parts) (found : List PairSlices) (n : ℕ) → IsOrderly s → AreFound s found → n ≡ sum_by (λ x. slice_count x.slices) found → n ≤ 1048576 → CanKeep (runs_of found)
+pub can_keep : (s : Parts) (found : List PairSlices) (n : ℕ) → IsOrderly s → AreFound s found → n ≡ sum_by (λ x. slice_count x.slices) found
+    → n ≤ 1048576 → CanKeep (runs_of found)
 can_keep s found n o are e few =
     let count : count_of (runs_of found) ≡ sum_by (λ x. slice_count x.slices) found = count_of_runs found in
     record {
@@ -214,8 +233,12 @@ can_keep s found n o are e few =
     span_of : (run : Run) → Contains (runs_of found) run → (x : PairSlices) × (w : Span) × IsRunSpan w × (run_of x.pair w ≡ run)
     span_of run c =
         let made = made_of found run c in
-        let x : PairSlices = made.0 in
-        (x, made.1, run_span s made.1 o (lies_within s x made.1 o (All-contains (ArePairSlices s) found x are.each made.2.in_found) made.2.in_slices), made.2.same)
+        let x : PairSlices = made.0 in (
+          x,
+          made.1,
+          run_span s made.1 o (lies_within s x made.1 o (All-contains (ArePairSlices s) found x are.each made.2.in_found) made.2.in_slices),
+          made.2.same,
+        )
 
     some_slices : (run : Run) → Contains (runs_of found) run → 0 < run.count
     some_slices run c =
@@ -234,5 +257,6 @@ can_keep s found n o are e few =
         omega arith
 
 -- above the limit the count is that of all starts
-pub start_count : (s : Parts) (found : List PairSlices) (n : ℕ) → IsOrderly s → AreFound s found → n ≡ sum_by (λ x. slice_count x.slices) found → IsStartCount s n
+pub start_count : (s : Parts) (found : List PairSlices) (n : ℕ) → IsOrderly s → AreFound s found
+    → n ≡ sum_by (λ x. slice_count x.slices) found → IsStartCount s n
 start_count s found n o are e = (starts_of (runs_of found), (all_found s found o are).all, length_of_starts (runs_of found) ∙ count_of_runs found ∙ sym e)

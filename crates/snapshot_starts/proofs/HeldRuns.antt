@@ -1,5 +1,6 @@
 -- The slices of a pair, by the runs of its request.
-use Rattle.std.proofs.Common.{◌≡◌, ℕ, ◌+◌, ◌<◌, ◌≤◌, ◌⊎◌, inl, inr, min, max, true, List, [], ◌∷◌, ◌++◌, length, slice_index_or, take, Contains, sym, ◌∙◌, ap, subst, arith}
+use Rattle.std.proofs.Common.{◌≡◌, ℕ, ◌+◌, ◌<◌, ◌≤◌, ◌⊎◌, inl, inr, min, max, true, List, [], ◌∷◌, ◌++◌, length, slice_index_or, take, Contains, sym}
+use Rattle.std.proofs.Common.{◌∙◌, ap, subst, arith}
 use Rattle.std.specs.Prelude.{◌↔◌, ◌==◌, filter, IsTrue, Any}
 use Rattle.std.specs.List.Sorted.{IsNonDecreasingBy}
 use Rattle.std.proofs.lemmas.Bool.{eqb-true, false≢true}
@@ -37,7 +38,8 @@ pub none_told : (t : ℕ) (slices : Span) → AreToldBy t slices [] []
 none_told t slices = record { each = λ k. (λ found. absurd (false≢true found), λ told. absurd (omega (arith, told.2))) }
 
 -- the slices that a run has in common with others
-part_tells : (t : ℕ) (slices run_slices part : Span) (run : Run) (k : ℕ) → run.telescope.0 ≡ t → run_slices.from.0 ≡ run.first.0 → run_slices.to.0 ≡ run.first.0 + run.count
+part_tells : (t : ℕ) (slices run_slices part : Span) (run : Run) (k : ℕ) → run.telescope.0 ≡ t → run_slices.from.0 ≡ run.first.0
+    → run_slices.to.0 ≡ run.first.0 + run.count
     → IsPartOf run_slices slices part → IsTrue (span_has part k) ↔ Tells t slices k run
 part_tells t slices run_slices part run k same from to is = (
   λ found. record {
@@ -70,7 +72,8 @@ part_tells t slices run_slices part run k same from to is = (
 taken_more : (runs : List Run) (i : ℕ) (run : Run) → i < length runs → run ≡ slice_index_or runs i run → take (i + 1) runs ≡ take i runs ++ run ∷ []
 taken_more runs i run l at = take_more runs i run l ∙ ap (λ (x : Run). take i runs ++ x ∷ []) (sym at)
 
-pub more_told : (t : ℕ) (slices run_slices part : Span) (runs : List Run) (i : ℕ) (run : Run) (within : List Span) → i < length runs → run ≡ slice_index_or runs i run
+pub more_told : (t : ℕ) (slices run_slices part : Span) (runs : List Run) (i : ℕ) (run : Run) (within : List Span) → i < length runs
+    → run ≡ slice_index_or runs i run
     → run.telescope.0 ≡ t → run_slices.from.0 ≡ run.first.0 → run_slices.to.0 ≡ run.first.0 + run.count → IsPartOf run_slices slices part
     → AreToldBy t slices (take i runs) within → AreToldBy t slices (take (i + 1) runs) (within ++ part ∷ [])
 more_told t slices run_slices part runs i run within l at same from to is so_far =
@@ -89,15 +92,19 @@ more_told t slices run_slices part runs i run within l at same from to is so_far
     })
 
 -- runs on other telescopes tell nothing
-pub all_told : (t : ℕ) (slices : Span) (runs : List Run) (within : List Span) → AreToldBy t slices (filter (λ run. run.telescope.0 == t) runs) within → AreToldBy t slices runs within
+pub all_told : (t : ℕ) (slices : Span) (runs : List Run) (within : List Span) → AreToldBy t slices (filter (λ run. run.telescope.0 == t) runs) within
+    → AreToldBy t slices runs within
 all_told t slices runs within told = record {
   each = λ k. (
     λ found.
         let (place, run, l, at, tells) = (told.each k).0 found in
-        let there : Contains runs run = All-contains (Contains runs) (filter (λ x. x.telescope.0 == t) runs) run (All-filter (λ x. x.telescope.0 == t) (Contains runs) runs (All-contains_itself runs)) (place, l, at) in
+        let there : Contains runs run =
+        All-contains (Contains runs) (filter (λ x. x.telescope.0 == t) runs) run
+        (All-filter (λ x. x.telescope.0 == t) (Contains runs) runs (All-contains_itself runs)) (place, l, at) in
         (there.0, run, there.1, there.2, tells),
     λ (place, run, l, at, tells).
-        let there : Contains (filter (λ x. x.telescope.0 == t) runs) run = contains_filter (λ x. x.telescope.0 == t) runs run (place, l, at) (same_number run.telescope.0 t tells.telescope) in
+        let there : Contains (filter (λ x. x.telescope.0 == t) runs) run =
+        contains_filter (λ x. x.telescope.0 == t) runs run (place, l, at) (same_number run.telescope.0 t tells.telescope) in
         (told.each k).1 (there.0, run, there.1, there.2, tells),
   );
 }
@@ -114,7 +121,8 @@ of_request starts r p there = (
 )
 
 -- the runs of a request are in the order of telescopes
-pub telescopes_rise : (starts : List Placement) (r : ℕ) (runs : List Run) → AreRuns (starts_with starts r) runs → IsNonDecreasingBy (λ run. run.telescope.0) runs
+pub telescopes_rise : (starts : List Placement) (r : ℕ) (runs : List Run) → AreRuns (starts_with starts r) runs
+    → IsNonDecreasingBy (λ run. run.telescope.0) runs
 telescopes_rise starts r runs are i j d le l = by (below_or_same i j le)
   where
     below_or_same : (a b : ℕ) → a ≤ b → (a < b) ⊎ (a ≡ b)
@@ -134,21 +142,25 @@ telescopes_rise starts r runs are i j d le l = by (below_or_same i j le)
 
     by : (i < j) ⊎ (i ≡ j) → (slice_index_or runs i d).telescope.0 ≤ (slice_index_or runs j d).telescope.0
     by (inl below) = before (slice_index_or runs i d) (slice_index_or runs j d) (one_request i (omega arith)) (one_request j l) (are.order i j d below l)
-    by (inr same) = let e : (slice_index_or runs i d).telescope.0 ≡ (slice_index_or runs j d).telescope.0 = ap (λ (k : ℕ). (slice_index_or runs k d).telescope.0) same in omega arith
+    by (inr same) = let e : (slice_index_or runs i d).telescope.0 ≡ (slice_index_or runs j d).telescope.0 =
+        ap (λ (k : ℕ). (slice_index_or runs k d).telescope.0) same in omega arith
 
 same_start : (run : Run) (pair : Pair) (k : ℕ) → run.request.0 ≡ pair.request.0 → run.telescope.0 ≡ pair.telescope.0 → start_at run k ≡ pair_start pair k
 same_start run pair k r t =
     ap (λ (n : ℕ). let p : Placement = record { request = record { 0 = n }; telescope = run.telescope; slice = record { 0 = k } } in p) r
     ∙ ap (λ (n : ℕ). let p : Placement = record { request = pair.request; telescope = record { 0 = n }; slice = record { 0 = k } } in p) t
 
-run_told : (s : Parts) (starts : List Placement) (runs : List Run) (pair : Pair) (slices : Span) (k : ℕ) (run : Run) → AreAllStarts s starts → AreRuns (starts_with starts pair.request.0) runs
+run_told : (s : Parts) (starts : List Placement) (runs : List Run) (pair : Pair) (slices : Span) (k : ℕ) (run : Run) → AreAllStarts s starts
+    → AreRuns (starts_with starts pair.request.0) runs
     → Contains runs run → Tells pair.telescope.0 slices k run → IsPossibleStart s (pair_start pair k)
 run_told s starts runs pair slices k run all are there tells =
     let row = All-contains (IsGreatestRow (starts_with starts pair.request.0)) runs run are.greatest there in
     let start = of_request starts pair.request.0 (start_at run k) (row.row k tells.from tells.to) in
-    subst (IsPossibleStart s) (same_start run pair k start.1 tells.telescope) (All-contains (IsPossibleStart s) starts (start_at run k) all.all.possible start.0)
+    subst (IsPossibleStart s) (same_start run pair k start.1 tells.telescope)
+    (All-contains (IsPossibleStart s) starts (start_at run k) all.all.possible start.0)
 
-start_told : (s : Parts) (starts : List Placement) (runs : List Run) (pair : Pair) (slices : Span) (k : ℕ) → AreAllStarts s starts → AreRuns (starts_with starts pair.request.0) runs
+start_told : (s : Parts) (starts : List Placement) (runs : List Run) (pair : Pair) (slices : Span) (k : ℕ) → AreAllStarts s starts
+    → AreRuns (starts_with starts pair.request.0) runs
     → IsPossibleStart s (pair_start pair k) → IsTrue (span_has slices k) → Any (Tells pair.telescope.0 slices k) runs
 start_told s starts runs pair slices k all are possible one =
     let r : ℕ = pair.request.0 in

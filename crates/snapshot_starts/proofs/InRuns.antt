@@ -25,12 +25,15 @@ from_flat_map f (y ∷ ys) a c = elim (Contains-append_cases (f y) (flat_map f y
   | inr later ↦ let rest = from_flat_map f ys a later in (rest.0, contains_rest y rest.0 ys rest.1, rest.2)
 ]
 
-pub pairs_flat_map : {X A : Type 0} (Q : X → X → Type 0) (R : A → A → Type 0) (f : X → List A) (xs : List X) → AllPairs Q xs → ((x : X) → Contains xs x → AllPairs R (f x))
+pub pairs_flat_map : {X A : Type 0} (Q : X → X → Type 0) (R : A → A → Type 0) (f : X → List A) (xs : List X) → AllPairs Q xs
+    → ((x : X) → Contains xs x → AllPairs R (f x))
     → ((x y : X) (a b : A) → Q x y → Contains (f x) a → Contains (f y) b → R a b) → AllPairs R (flat_map f xs)
 pairs_flat_map Q R f [] q each across = λ i j d l m. absurd (omega arith)
 pairs_flat_map Q R f (x ∷ xs) q each across =
-    pairs_append R (f x) (flat_map f xs) (each x (contains_first x xs)) (pairs_flat_map Q R f xs (pairs_tail Q x xs q) (λ y c. each y (contains_rest x y xs c)) across)
-    (λ a b in_first in_rest. let found = from_flat_map f xs b in_rest in across x found.0 a b (All-contains (Q x) xs found.0 (pairs_head Q x xs q) found.1) in_first found.2)
+    pairs_append R (f x) (flat_map f xs) (each x (contains_first x xs))
+    (pairs_flat_map Q R f xs (pairs_tail Q x xs q) (λ y c. each y (contains_rest x y xs c)) across)
+    (λ a b in_first in_rest. let found = from_flat_map f xs b in_rest in
+    across x found.0 a b (All-contains (Q x) xs found.0 (pairs_head Q x xs q) found.1) in_first found.2)
 
 -- ---- the starts of runs
 

@@ -1,5 +1,6 @@
 -- The slices of a pair, by those that are kept and those that are found.
-use Rattle.std.proofs.Common.{◌≡◌, ℕ, ◌+◌, ◌<◌, ◌≤◌, ◌⊎◌, inl, inr, Bool, true, false, List, [], ◌∷◌, ◌++◌, length, slice_index_or, All, Contains, refl, sym, ◌∙◌, ap, subst, arith}
+use Rattle.std.proofs.Common.{◌≡◌, ℕ, ◌+◌, ◌<◌, ◌≤◌, ◌⊎◌, inl, inr, Bool, true, false, List, [], ◌∷◌, ◌++◌, length, slice_index_or, All, Contains}
+use Rattle.std.proofs.Common.{refl, sym, ◌∙◌, ap, subst, arith}
 use Rattle.std.specs.Prelude.{◌↔◌, HoldsAt, IsTrue, ◌||◌}
 use Rattle.std.proofs.lemmas.Bool.{cases_lt, false≢true}
 use Rattle.std.proofs.lemmas.List.Elements.{All-contains}
@@ -19,7 +20,8 @@ use Rattle.interval_set.specs.Spans.{span_has, has, IsSetOf, IsSortedApart}
 use Rattle.snapshot_starts.specs.declared.steady.Steady.{Steady}
 use Rattle.snapshot_starts.specs.Slices.{AreSlices, IsHorizonFor}
 use Rattle.snapshot_starts.specs.Pairs.{CanStart, pair_start, pair_of}
-use Rattle.snapshot_starts.specs.Mending.{IsRequest, AgreeIn, AreSteady, IsSteadyRequest, IsSteadyTelescope, IsSteadySky, IsSteadyPair, IsWithinHorizon, sky_key}
+use Rattle.snapshot_starts.specs.Mending.{IsRequest, AgreeIn, AreSteady, IsSteadyRequest, IsSteadyTelescope, IsSteadySky, IsSteadyPair}
+use Rattle.snapshot_starts.specs.Mending.{IsWithinHorizon, sky_key}
 use Rattle.snapshot_starts.proofs.Open.{site_is}
 use Rattle.snapshot_starts.proofs.Pairing.{is_part, possible_iff}
 use Rattle.std.proofs.lemmas.Bool.Decides.{nat_tests}
@@ -33,7 +35,8 @@ some_seconds : (s : Parts) (r : ℕ) → IsOrderly s → IsKnown s r → 1 ≤ s
 some_seconds s r o known = known_has (λ d. 1 ≤ d) (λ x. x.request.seconds) 0 s r (λ i d l. (o.ranges.seconds i d l).0) known
 
 -- a request with the number that was looked for, where it was found
-pub is_request : (s : Parts) (r place : ℕ) (q : RequestPart) → IsOrderly s → IsKnown s r → place ≡ place_of s r → HoldsAt (λ x. x.request ≡ q) (listed s) place → IsRequest s q
+pub is_request : (s : Parts) (r place : ℕ) (q : RequestPart) → IsOrderly s → IsKnown s r → place ≡ place_of s r
+    → HoldsAt (λ x. x.request ≡ q) (listed s) place → IsRequest s q
 is_request s r place q o known at holds =
     let found = known_as s r known in
     let x : Listed = found.0 in
@@ -55,7 +58,8 @@ steady_pair was s x q t part steady is l at in_requests in_telescopes in_skies =
     record {
       request = All-contains (λ r. IsSteadyRequest was s r.0) x.requests.items q.request steady.requests in_requests;
       telescope = All-contains (λ u. IsSteadyTelescope was s u.0) x.telescopes.items t steady.telescopes in_telescopes;
-      skies = subst (λ (ts : List TargetNo). All (λ target. AgreeIn was s (IsVisibleThrough was target.0 (site_of s t.0)) (IsVisibleThrough s target.0 (site_of s t.0))) ts) (sym same)
+      skies = subst (λ (ts : List TargetNo). All
+          (λ target. AgreeIn was s (IsVisibleThrough was target.0 (site_of s t.0)) (IsVisibleThrough s target.0 (site_of s t.0))) ts) (sym same)
           (λ i d m.
           let target : TargetNo = slice_index_or q.targets i d in
           subst (λ (place : ℕ). AgreeIn was s (IsVisibleThrough was target.0 place) (IsVisibleThrough s target.0 place)) (sym site)
@@ -67,22 +71,29 @@ abbrev start_of : RequestPart → TelescopeNo → ℕ → Placement
 start_of q t k = pair_start (pair_of q.request t) k
 
 -- the starts that a request had are those that it has, of all slices within both horizons
-pub stay_slices : (was s : Parts) (q : RequestPart) (t : TelescopeNo) (horizon earlier : Span) (stay : List Span) → IsOrderly was → IsOrderly s → IsRequest s q → IsSteadyPair was s q.request.0 t.0
-    → IsHorizonFor s q.seconds horizon → IsHorizonFor was q.seconds earlier → AreSlices (λ k. IsPossibleStart was (start_of q t k) × IsTrue (span_has horizon k)) stay
+pub stay_slices : (was s : Parts) (q : RequestPart) (t : TelescopeNo) (horizon earlier : Span) (stay : List Span) → IsOrderly was → IsOrderly s
+    → IsRequest s q → IsSteadyPair was s q.request.0 t.0
+    → IsHorizonFor s q.seconds horizon → IsHorizonFor was q.seconds earlier
+    → AreSlices (λ k. IsPossibleStart was (start_of q t k) × IsTrue (span_has horizon k)) stay
     → AreSlices (λ k. CanStart s q t k × IsTrue (span_has earlier k)) stay
 stay_slices was s q t horizon earlier stay was_orderly o is steady is_horizon is_earlier are =
     let r : ℕ = q.request.0 in
     let seconds : seconds_of s r ≡ q.seconds = (is_part s r (place_of s r) q is.known refl is.listed).seconds in
     let before : seconds_of was r ≡ q.seconds = steady.request.seconds ∙ seconds in
-    let same : (k : ℕ) → IsTrue (span_has earlier k) → IsTrue (span_has horizon k) → IsPossibleStart was (start_of q t k) ↔ IsPossibleStart s (start_of q t k) = λ k told now.
+    let same : (k : ℕ) → IsTrue (span_has earlier k) → IsTrue (span_has horizon k) → IsPossibleStart was (start_of q t k)
+    ↔ IsPossibleStart s (start_of q t k) = λ k told now.
     same_start was s (start_of q t k) was_orderly o is.known (some_seconds s r o is.known) steady
-    (subst (λ (d : ℕ). IsWithinHorizon was d k) (sym before) ((is_earlier.each k).0 told)) (subst (λ (d : ℕ). IsWithinHorizon s d k) (sym seconds) ((is_horizon.each k).0 now)) in
-    let can : (k : ℕ) → IsPossibleStart s (start_of q t k) ↔ CanStart s q t k = λ k. possible_iff s (start_of q t k) (place_of s r) q o is.known refl is.listed in
+    (subst (λ (d : ℕ). IsWithinHorizon was d k) (sym before) ((is_earlier.each k).0 told))
+    (subst (λ (d : ℕ). IsWithinHorizon s d k) (sym seconds) ((is_horizon.each k).0 now)) in
+    let can : (k : ℕ) → IsPossibleStart s (start_of q t k) ↔ CanStart s q t k =
+    λ k. possible_iff s (start_of q t k) (place_of s r) q o is.known refl is.listed in
     same_slices (λ k. IsPossibleStart was (start_of q t k) × IsTrue (span_has horizon k)) (λ k. CanStart s q t k × IsTrue (span_has earlier k)) stay are
     (λ k (possible, now).
-    let told : IsTrue (span_has earlier k) = (is_earlier.each k).1 (possible.begins, subst (λ (d : ℕ). k + slices_for was.len d ≤ was.first.0 + was.slices) before possible.ends) in
+    let told : IsTrue (span_has earlier k) =
+    (is_earlier.each k).1 (possible.begins, subst (λ (d : ℕ). k + slices_for was.len d ≤ was.first.0 + was.slices) before possible.ends) in
     ((can k).0 ((same k told now).0 possible), told))
-    (λ k (start, told). let now : IsTrue (span_has horizon k) = (is_horizon.each k).1 (start.timely.begins, start.timely.ends) in ((same k told now).1 ((can k).1 start), now))
+    (λ k (start, told). let now : IsTrue (span_has horizon k) = (is_horizon.each k).1 (start.timely.begins, start.timely.ends) in
+    ((same k told now).1 ((can k).1 start), now))
 
 -- ---- kept and found together
 
@@ -120,7 +131,8 @@ more_tried s q t from k slices above can so_far = record {
   );
 }
 
-pub not_tried : (s : Parts) (q : RequestPart) (t : TelescopeNo) (from k : ℕ) (slices : List Span) → ¬ (CanStart s q t k) → AreTried s q t from k slices → AreTried s q t from (k + 1) slices
+pub not_tried : (s : Parts) (q : RequestPart) (t : TelescopeNo) (from k : ℕ) (slices : List Span) → ¬ (CanStart s q t k)
+    → AreTried s q t from k slices → AreTried s q t from (k + 1) slices
 not_tried s q t from k slices cannot so_far = record {
   each = λ j. (
     λ found. let before = (so_far.each j).0 found in (before.0, before.1, omega (arith, before.2)),
@@ -135,7 +147,8 @@ not_tried s q t from k slices cannot so_far = record {
   );
 }
 
-pub all_tried : (s : Parts) (q : RequestPart) (t : TelescopeNo) (from last to : ℕ) (slices set : List Span) → to ≤ last → (from ≤ to → last ≤ to) → (to ≤ from → last ≡ from) → AreTried s q t from last slices → IsSetOf (has slices) set
+pub all_tried : (s : Parts) (q : RequestPart) (t : TelescopeNo) (from last to : ℕ) (slices set : List Span) → to ≤ last → (from ≤ to → last ≤ to)
+    → (to ≤ from → last ≡ from) → AreTried s q t from last slices → IsSetOf (has slices) set
     → AreSlices (λ k. CanStart s q t k × (from ≤ k) × (k < to)) set
 all_tried s q t from last to slices set past end still tried is_set =
     set_slices (λ k. CanStart s q t k × (from ≤ k) × (k < to)) slices set
@@ -156,11 +169,13 @@ either true = inl refl
 either false = inr refl
 
 -- what the earlier horizon hasn't, though the later one has it, lies after it
-after_earlier : (horizon earlier : Span) (k : ℕ) → earlier.from.0 ≤ horizon.from.0 → IsTrue (span_has horizon k) → span_has earlier k ≡ false → (earlier.to.0 ≤ k) × (k < horizon.to.0)
+after_earlier : (horizon earlier : Span) (k : ℕ) → earlier.from.0 ≤ horizon.from.0 → IsTrue (span_has horizon k) → span_has earlier k ≡ false
+    → (earlier.to.0 ≤ k) × (k < horizon.to.0)
 after_earlier horizon earlier k order now told = (grind (arith, nat_tests), grind (arith, nat_tests))
 
 -- those that stay and those that are new are all
-pub stay_and_new : (s : Parts) (q : RequestPart) (t : TelescopeNo) (horizon earlier : Span) (stay new all : List Span) → IsHorizonFor s q.seconds horizon → earlier.from.0 ≤ horizon.from.0
+pub stay_and_new : (s : Parts) (q : RequestPart) (t : TelescopeNo) (horizon earlier : Span) (stay new all : List Span)
+    → IsHorizonFor s q.seconds horizon → earlier.from.0 ≤ horizon.from.0
     → AreSlices (λ k. CanStart s q t k × IsTrue (span_has earlier k)) stay → AreSlices (λ k. CanStart s q t k × (earlier.to.0 ≤ k) × (k < horizon.to.0)) new
     → ((k : ℕ) → has all k ≡ (has stay k || has new k)) → IsSortedApart all → AreSlices (CanStart s q t) all
 stay_and_new s q t horizon earlier stay new all is_horizon order are_stay are_new each sorted = record {

@@ -1,5 +1,6 @@
 -- Starts that stay from one snapshot to the next.
-use Rattle.std.proofs.Common.{◌≡◌, ℕ, ◌+◌, ◌-◌, ◌*◌, ◌/◌, ◌%◌, ◌<◌, ◌≤◌, List, [], length, slice_index_or, All, Contains, None, refl, sym, ◌∙◌, ap, subst, arith}
+use Rattle.std.proofs.Common.{◌≡◌, ℕ, ◌+◌, ◌-◌, ◌*◌, ◌/◌, ◌%◌, ◌<◌, ◌≤◌, List, [], length, slice_index_or, All, Contains, None, refl, sym, ◌∙◌, ap}
+use Rattle.std.proofs.Common.{subst, arith}
 use Rattle.std.specs.Prelude.{◌↔◌, HoldsAt}
 use Rattle.std.proofs.Math.Nat.{mul-le-mul_right}
 use Rattle.std.proofs.lemmas.List.Elements.{Contains-get_or}
@@ -20,7 +21,8 @@ use Rattle.plan_base.proofs.Known.{IsListedAs, known_or_is}
 use Rattle.plan_base.proofs.Members.{listed_known, listed_as}
 use Rattle.plan_base.proofs.Skies.{seen_by, seen_one}
 use Rattle.plan_base.proofs.SpanStarts.{by_spans_from_possible, possible_from_by_spans}
-use Rattle.snapshot_starts.specs.Mending.{IsInHorizon, AreShared, IsSameWithin, IsAskedAlike, IsSeenAlike, IsSteadyRequest, IsSteadyTelescope, IsSteadySky, IsSteadyPair, IsWithinHorizon, sky_key}
+use Rattle.snapshot_starts.specs.Mending.{IsInHorizon, AreShared, IsSameWithin, IsAskedAlike, IsSeenAlike, IsSteadyRequest, IsSteadyTelescope}
+use Rattle.snapshot_starts.specs.Mending.{IsSteadySky, IsSteadyPair, IsWithinHorizon, sky_key}
 use Rattle.snapshot_starts.proofs.Open.{usable_is, site_is}
 use Rattle.snapshot_starts.proofs.Pairing.{IsPart, is_part}
 
@@ -72,8 +74,11 @@ moved was s p o known (begins, ends) alike possible =
     let spans : IsPossibleBySpans was p = by_spans_from_possible was p o possible in
     let at : (P : ℕ → ℕ → Type 0) → P (k * was.len) (k * was.len + seconds_of was p.request.0) → P (k * s.len) (k * s.len + d) =
     λ P h. subst (λ (n : ℕ). P (k * n) (k * n + d)) alike.len (subst (λ (e : ℕ). P (k * was.len) (k * was.len + e)) alike.seconds h) in
-    let seen : All (λ target. IsVisibleThrough was target.0 (site_of was p.telescope.0) (k * was.len) (k * was.len + seconds_of was p.request.0)) (targets_of s p.request.0) =
-    subst (λ (ts : List TargetNo). All (λ target. IsVisibleThrough was target.0 (site_of was p.telescope.0) (k * was.len) (k * was.len + seconds_of was p.request.0)) ts) alike.targets spans.visible in
+    let seen : All (λ target. IsVisibleThrough was target.0 (site_of was p.telescope.0) (k * was.len) (k * was.len + seconds_of was p.request.0))
+    (targets_of s p.request.0) =
+    subst (λ (ts : List TargetNo). All
+    (λ target. IsVisibleThrough was target.0 (site_of was p.telescope.0) (k * was.len) (k * was.len + seconds_of was p.request.0)) ts)
+    alike.targets spans.visible in
     possible_from_by_spans s p (record {
       known = known;
       able = subst (λ (ts : List TelescopeNo). Contains ts p.telescope) alike.telescopes spans.able;
@@ -81,13 +86,15 @@ moved was s p o known (begins, ends) alike possible =
       ends = ends;
       window = subst (λ (ws : List Span). OneHasAll ws (k * s.len) (k * s.len + d)) alike.windows (at (OneHasAll (windows_of was p.request.0)) spans.window);
       usable = alike.usable (at (OneHasAll (usable_of was p.telescope.0)) spans.usable);
-      visible = λ i t l. alike.visible i t l (at (λ a b. IsVisibleThrough was (slice_index_or (targets_of s p.request.0) i t).0 (site_of was p.telescope.0) a b) (seen i t l));
+      visible = λ i t l. alike.visible i t l
+          (at (λ a b. IsVisibleThrough was (slice_index_or (targets_of s p.request.0) i t).0 (site_of was p.telescope.0) a b) (seen i t l));
     })
 
 -- ---- all that the starts of a request on a telescope depend on
 
 alike_there : (was s : Parts) (p : Placement) → IsSteadyPair was s p.request.0 p.telescope.0
-    → IsInHorizon was (p.slice.0 * s.len) (p.slice.0 * s.len + seconds_of s p.request.0) → IsInHorizon s (p.slice.0 * s.len) (p.slice.0 * s.len + seconds_of s p.request.0) → IsAlike was s p
+    → IsInHorizon was (p.slice.0 * s.len) (p.slice.0 * s.len + seconds_of s p.request.0)
+    → IsInHorizon s (p.slice.0 * s.len) (p.slice.0 * s.len + seconds_of s p.request.0) → IsAlike was s p
 alike_there was s p steady before now =
     let a : ℕ = p.slice.0 * s.len in
     let b : ℕ = a + seconds_of s p.request.0 in
@@ -103,7 +110,8 @@ alike_there was s p steady before now =
     }
 
 alike_back : (was s : Parts) (p : Placement) → IsSteadyPair was s p.request.0 p.telescope.0
-    → IsInHorizon was (p.slice.0 * was.len) (p.slice.0 * was.len + seconds_of was p.request.0) → IsInHorizon s (p.slice.0 * was.len) (p.slice.0 * was.len + seconds_of was p.request.0) → IsAlike s was p
+    → IsInHorizon was (p.slice.0 * was.len) (p.slice.0 * was.len + seconds_of was p.request.0)
+    → IsInHorizon s (p.slice.0 * was.len) (p.slice.0 * was.len + seconds_of was p.request.0) → IsAlike s was p
 alike_back was s p steady before now =
     let a : ℕ = p.slice.0 * was.len in
     let b : ℕ = a + seconds_of was p.request.0 in
@@ -114,16 +122,22 @@ alike_back was s p steady before now =
       telescopes = sym steady.request.telescopes;
       targets = sym steady.request.targets;
       usable = (steady.telescope.usable a b before now).1;
-      visible = subst (λ (ts : List TargetNo). All (λ target. IsVisibleThrough s target.0 (site_of s p.telescope.0) a b → IsVisibleThrough was target.0 (site_of was p.telescope.0) a b) ts) (sym steady.request.targets)
-          (λ i d l seen. subst (λ (site : ℕ). IsVisibleThrough was (slice_index_or (targets_of s p.request.0) i d).0 site a b) (sym steady.telescope.site) ((steady.skies i d l a b before now).1 seen));
+      visible = subst (λ (ts : List TargetNo). All (λ target. IsVisibleThrough s target.0 (site_of s p.telescope.0) a b
+          → IsVisibleThrough was target.0 (site_of was p.telescope.0) a b) ts) (sym steady.request.targets)
+          (λ i d l seen. subst (λ (site : ℕ). IsVisibleThrough was (slice_index_or (targets_of s p.request.0) i d).0 site a b)
+          (sym steady.telescope.site) ((steady.skies i d l a b before now).1 seen));
     }
 
 -- the same times, by the slices and seconds of the other snapshot
-same_times : (was s : Parts) (t : Parts) (k d e : ℕ) → was.len ≡ s.len → d ≡ e → IsInHorizon t (k * was.len) (k * was.len + d) → IsInHorizon t (k * s.len) (k * s.len + e)
-same_times was s t k d e len seconds h = subst (λ (n : ℕ). IsInHorizon t (k * n) (k * n + e)) len (subst (λ (x : ℕ). IsInHorizon t (k * was.len) (k * was.len + x)) seconds h)
+same_times : (was s : Parts) (t : Parts) (k d e : ℕ) → was.len ≡ s.len → d ≡ e → IsInHorizon t (k * was.len) (k * was.len + d)
+    → IsInHorizon t (k * s.len) (k * s.len + e)
+same_times was s t k d e len seconds h =
+    subst (λ (n : ℕ). IsInHorizon t (k * n) (k * n + e)) len (subst (λ (x : ℕ). IsInHorizon t (k * was.len) (k * was.len + x)) seconds h)
 
-pub same_start : (was s : Parts) (p : Placement) → IsOrderly was → IsOrderly s → IsKnown s p.request.0 → 1 ≤ seconds_of s p.request.0 → IsSteadyPair was s p.request.0 p.telescope.0
-    → IsWithinHorizon was (seconds_of was p.request.0) p.slice.0 → IsWithinHorizon s (seconds_of s p.request.0) p.slice.0 → IsPossibleStart was p ↔ IsPossibleStart s p
+pub same_start : (was s : Parts) (p : Placement) → IsOrderly was → IsOrderly s → IsKnown s p.request.0 → 1 ≤ seconds_of s p.request.0
+    → IsSteadyPair was s p.request.0 p.telescope.0
+    → IsWithinHorizon was (seconds_of was p.request.0) p.slice.0 → IsWithinHorizon s (seconds_of s p.request.0) p.slice.0
+    → IsPossibleStart was p ↔ IsPossibleStart s p
 same_start was s p was_orderly orderly known some steady before now =
     let q = steady.request in
     let k : ℕ = p.slice.0 in
@@ -136,14 +150,22 @@ same_start was s p was_orderly orderly known some steady before now =
 -- ---- requests that are asked for alike
 
 -- what the earlier snapshot has as a request
-pub asked_alike : (was : Parts) (place : ℕ) (p q : RequestPart) → IsKnown was q.request.0 → place ≡ place_of was q.request.0 → HoldsAt (λ x. x.request ≡ p) (listed was) place
+pub asked_alike : (was : Parts) (place : ℕ) (p q : RequestPart) → IsKnown was q.request.0 → place ≡ place_of was q.request.0
+    → HoldsAt (λ x. x.request ≡ p) (listed was) place
     → p.seconds ≡ q.seconds → p.windows ≡ q.windows → p.telescopes ≡ q.telescopes → p.targets ≡ q.targets → IsAskedAlike was q
 asked_alike was place p q known at holds seconds windows telescopes targets =
     let part = is_part was q.request.0 place p known at holds in
-    record { known = known; seconds = part.seconds ∙ seconds; windows = part.windows ∙ windows; telescopes = part.telescopes ∙ telescopes; targets = part.targets ∙ targets }
+    record {
+      known = known;
+      seconds = part.seconds ∙ seconds;
+      windows = part.windows ∙ windows;
+      telescopes = part.telescopes ∙ telescopes;
+      targets = part.targets ∙ targets;
+    }
 
 -- what is listed at a place is what is known of its number
-part_at : (s : Parts) (place : ℕ) (q : RequestPart) → IsOrderly s → place < length (listed s) → HoldsAt (λ x. x.request ≡ q) (listed s) place → IsPart s q.request.0 q
+part_at : (s : Parts) (place : ℕ) (q : RequestPart) → IsOrderly s → place < length (listed s)
+    → HoldsAt (λ x. x.request ≡ q) (listed s) place → IsPart s q.request.0 q
 part_at s place q o within holds =
     let none : Listed = record { group = 0; quota = None; request = q } in
     let x : Listed = slice_index_or (listed s) place none in
@@ -159,7 +181,8 @@ part_at s place q o within holds =
       targets = known_or_is (λ y. y.request.targets) [] s q.request.0 x known found ∙ ap (λ (p : RequestPart). p.targets) same;
     }
 
-pub steady_request : (was s : Parts) (place : ℕ) (q : RequestPart) → IsOrderly s → was.len ≡ s.len → place < length (listed s) → HoldsAt (λ x. x.request ≡ q) (listed s) place
+pub steady_request : (was s : Parts) (place : ℕ) (q : RequestPart) → IsOrderly s → was.len ≡ s.len → place < length (listed s)
+    → HoldsAt (λ x. x.request ≡ q) (listed s) place
     → IsAskedAlike was q → IsSteadyRequest was s q.request.0
 steady_request was s place q o len within holds alike =
     let part = part_at s place q o within holds in
@@ -174,8 +197,10 @@ steady_request was s place q o len within holds alike =
 
 -- ---- telescopes and skies that are the same
 
-pub steady_telescope : (was s : Parts) (t : ℕ) (times : Span) (before now : TelescopePart) → AreShared was s times → t < length was.telescopes → HoldsAt (λ x. x ≡ before) was.telescopes t
-    → t < length s.telescopes → HoldsAt (λ x. x ≡ now) s.telescopes t → before.site.0 ≡ now.site.0 → IsSameWithin times before.usable now.usable → IsSteadyTelescope was s t
+pub steady_telescope : (was s : Parts) (t : ℕ) (times : Span) (before now : TelescopePart) → AreShared was s times → t < length was.telescopes
+    → HoldsAt (λ x. x ≡ before) was.telescopes t
+    → t < length s.telescopes → HoldsAt (λ x. x ≡ now) s.telescopes t → before.site.0 ≡ now.site.0 → IsSameWithin times before.usable now.usable
+    → IsSteadyTelescope was s t
 steady_telescope was s t times before now shared l at m here site same =
     let mine = usable_is was t before l at in
     let theirs = usable_is s t now m here in
@@ -189,7 +214,8 @@ steady_telescope was s t times before now shared l at m here site same =
           );
     }
 
-pub seen_alike : (was : Parts) (sky earlier : Sky) (times : Span) → IsOrderly was → Contains was.skies earlier → IsSkyOf sky.target.0 sky.site.0 earlier → IsSameWithin times earlier.spans sky.spans
+pub seen_alike : (was : Parts) (sky earlier : Sky) (times : Span) → IsOrderly was → Contains was.skies earlier
+    → IsSkyOf sky.target.0 sky.site.0 earlier → IsSameWithin times earlier.spans sky.spans
     → IsSeenAlike was sky times
 seen_alike was sky earlier times o there is_sky same = record {
   each = λ a b some from to.
@@ -199,7 +225,8 @@ seen_alike was sky earlier times o there is_sky same = record {
       );
 }
 
-pub steady_sky : (was s : Parts) (sky : Sky) (times : Span) → IsOrderly s → AreShared was s times → Contains s.skies sky → IsSeenAlike was sky times → IsSteadySky was s (sky_key sky.target sky.site)
+pub steady_sky : (was s : Parts) (sky : Sky) (times : Span) → IsOrderly s → AreShared was s times → Contains s.skies sky → IsSeenAlike was sky times
+    → IsSteadySky was s (sky_key sky.target sky.site)
 steady_sky was s sky times o shared here alike a b first second =
     let within = shared a b first second in
     let each = alike.each a b first.some within.0 within.1 in (

@@ -24,12 +24,15 @@ or_false b = grind arith
 pub has_one : (w : Span) (k : ℕ) → has (w ∷ []) k ≡ span_has w k
 has_one w k = or_false (span_has w k)
 
-pub timely_set : (s : Parts) (q : RequestPart) (horizon : Span) (within inside meet : List Span) → IsHorizonFor s q.seconds horizon → IsSetOf (has (horizon ∷ [])) within
+pub timely_set : (s : Parts) (q : RequestPart) (horizon : Span) (within inside meet : List Span) → IsHorizonFor s q.seconds horizon
+    → IsSetOf (has (horizon ∷ [])) within
     → AreSlices (λ k. OneHasAll q.windows (k * s.len) (k * s.len + q.seconds)) inside → IsMeet within inside meet → AreSlices (IsTimely s q) meet
 timely_set s q horizon within inside meet is_horizon is_within are_inside is_meet =
     let Within : ℕ → Type 0 = λ k. (s.first.0 ≤ k) × (k + slices_for s.len q.seconds ≤ s.first.0 + s.slices) in
     let Inside : ℕ → Type 0 = λ k. OneHasAll q.windows (k * s.len) (k * s.len + q.seconds) in
-    let are_within : AreSlices Within within = set_slices Within (horizon ∷ []) within (λ k. (λ yes. (is_horizon.each k).0 (sym (has_one horizon k) ∙ yes), λ p. has_one horizon k ∙ (is_horizon.each k).1 p)) is_within in
+    let are_within : AreSlices Within within =
+    set_slices Within (horizon ∷ []) within
+    (λ k. (λ yes. (is_horizon.each k).0 (sym (has_one horizon k) ∙ yes), λ p. has_one horizon k ∙ (is_horizon.each k).1 p)) is_within in
     same_slices (λ k. Within k × Inside k) (IsTimely s q) meet (meet_slices Within Inside within inside meet are_within.each are_inside.each is_meet)
     (λ k (p, window). record { begins = p.0; ends = p.1; window = window }) (λ k t. ((t.begins, t.ends), t.window))
 
@@ -48,7 +51,8 @@ under_set s target site d sky slices seen meet o in_skies is_sky are_seen is_mee
 abbrev pub AreSeen : (TargetNo → ℕ → Type 0) → List TargetNo → ℕ → ℕ → Type 0
 AreSeen V targets n k = (i : ℕ) → i < n → HoldsAt (λ target. V target k) targets i
 
-pub none_seen : (V : TargetNo → ℕ → Type 0) (targets : List TargetNo) (slices : List Span) → IsSortedApart slices → AreSlices (λ k. IsTrue (has slices k) × AreSeen V targets 0 k) slices
+pub none_seen : (V : TargetNo → ℕ → Type 0) (targets : List TargetNo) (slices : List Span) → IsSortedApart slices
+    → AreSlices (λ k. IsTrue (has slices k) × AreSeen V targets 0 k) slices
 none_seen V targets slices sorted = record { each = λ k. (λ is_in. (is_in, λ i l. absurd (omega arith)), λ (is_in, all). is_in); sorted = sorted }
 
 pub more_seen : (V : TargetNo → ℕ → Type 0) (targets : List TargetNo) (i : ℕ) (d : TargetNo) (slices left less : List Span) → i < length targets
@@ -56,11 +60,16 @@ pub more_seen : (V : TargetNo → ℕ → Type 0) (targets : List TargetNo) (i :
     → AreSlices (λ k. IsTrue (has slices k) × AreSeen V targets (i + 1) k) less
 more_seen V targets i d slices left less l so_far next =
     same_slices (λ k. IsTrue (has left k) × V (slice_index_or targets i d) k) (λ k. IsTrue (has slices k) × AreSeen V targets (i + 1) k) less next
-    (λ k (is_in, here). let before = (so_far.each k).0 is_in in (before.0, below_more (λ j. HoldsAt (λ target. V target k) targets j) i before.1 (λ e. subst (λ (t : TargetNo). V t k) (get_or_default targets i d e l) here)))
+    (λ k (is_in, here). let before = (so_far.each k).0 is_in in (
+      before.0,
+      below_more (λ j. HoldsAt (λ target. V target k) targets j) i before.1
+          (λ e. subst (λ (t : TargetNo). V t k) (get_or_default targets i d e l) here),
+    ))
     (λ k (is_in, all). ((so_far.each k).1 (is_in, λ j below. all j (omega arith)), all i (omega arith) d))
 
 pub all_seen : (V : TargetNo → ℕ → Type 0) (targets : List TargetNo) (n : ℕ) (slices left : List Span) → length targets ≤ n
-    → AreSlices (λ k. IsTrue (has slices k) × AreSeen V targets n k) left → n ≤ length targets → AreSlices (λ k. IsTrue (has slices k) × All (λ target. V target k) targets) left
+    → AreSlices (λ k. IsTrue (has slices k) × AreSeen V targets n k) left → n ≤ length targets
+    → AreSlices (λ k. IsTrue (has slices k) × All (λ target. V target k) targets) left
 all_seen V targets n slices left past so_far within =
     same_slices (λ k. IsTrue (has slices k) × AreSeen V targets n k) (λ k. IsTrue (has slices k) × All (λ target. V target k) targets) left so_far
     (λ k (is_in, seen). (is_in, λ i d l. seen i (omega arith) d)) (λ k (is_in, all). (is_in, λ i l d. all i d (omega arith)))
@@ -70,7 +79,8 @@ pub open_set : (s : Parts) (q : RequestPart) (part : TelescopePart) (timely usab
     → AreSlices (λ k. IsTrue (has slices k) × All (λ target. IsVisibleThrough s target.0 part.site.0 (k * s.len) (k * s.len + q.seconds)) q.targets) left
     → AreSlices (λ k. IsTimely s q k × IsOpen s part q.targets (k * s.len) (k * s.len + q.seconds)) left
 open_set s q part timely usable slices left are_timely are_usable is_meet are_left =
-    let both = meet_slices (IsTimely s q) (λ k. OneHasAll part.usable (k * s.len) (k * s.len + q.seconds)) timely usable slices are_timely.each are_usable.each is_meet in
+    let both = meet_slices (IsTimely s q) (λ k. OneHasAll part.usable (k * s.len) (k * s.len + q.seconds)) timely usable slices are_timely.each
+    are_usable.each is_meet in
     same_slices (λ k. IsTrue (has slices k) × All (λ target. IsVisibleThrough s target.0 part.site.0 (k * s.len) (k * s.len + q.seconds)) q.targets)
     (λ k. IsTimely s q k × IsOpen s part q.targets (k * s.len) (k * s.len + q.seconds)) left are_left
     (λ k (is_in, visible). let here = (both.each k).0 is_in in (here.0, record { usable = here.1; visible = visible }))

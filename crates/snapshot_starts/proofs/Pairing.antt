@@ -55,25 +55,35 @@ spans_fit : (s : Parts) (p : Placement) → IsPossibleBySpans s p
 spans_fit s p b = record { able = b.able; begins = b.begins; ends = b.ends; window = b.window; usable = b.usable; visible = b.visible }
 
 fit_spans : (s : Parts) (p : Placement) → IsKnown s p.request.0
-    → Fits s (seconds_of s p.request.0) (windows_of s p.request.0) (telescopes_of s p.request.0) (targets_of s p.request.0) p.telescope p.slice.0 → IsPossibleBySpans s p
+    → Fits s (seconds_of s p.request.0) (windows_of s p.request.0) (telescopes_of s p.request.0) (targets_of s p.request.0) p.telescope p.slice.0
+    → IsPossibleBySpans s p
 fit_spans s p known f = record { known = known; able = f.able; begins = f.begins; ends = f.ends; window = f.window; usable = f.usable; visible = f.visible }
 
-same_fits : (s : Parts) (t : TelescopeNo) (k d e : ℕ) (ws vs : List Span) (ts us : List TelescopeNo) (gs hs : List TargetNo) → d ≡ e → ws ≡ vs → ts ≡ us → gs ≡ hs
+same_fits : (s : Parts) (t : TelescopeNo) (k d e : ℕ) (ws vs : List Span) (ts us : List TelescopeNo) (gs hs : List TargetNo) → d ≡ e
+    → ws ≡ vs → ts ≡ us → gs ≡ hs
     → Fits s d ws ts gs t k → Fits s e vs us hs t k
 same_fits s t k d e ws vs ts us gs hs p q r u f =
-    subst (λ (x : ℕ). Fits s x vs us hs t k) p (subst (λ (x : List Span). Fits s d x us hs t k) q (subst (λ (x : List TelescopeNo). Fits s d ws x hs t k) r (subst (λ (x : List TargetNo). Fits s d ws ts x t k) u f)))
+    subst (λ (x : ℕ). Fits s x vs us hs t k) p
+    (subst (λ (x : List Span). Fits s d x us hs t k) q
+    (subst (λ (x : List TelescopeNo). Fits s d ws x hs t k) r (subst (λ (x : List TargetNo). Fits s d ws ts x t k) u f)))
 
 -- a placement of a known request is a possible start exactly where the request may start there
-pub possible_iff : (s : Parts) (p : Placement) (place : ℕ) (q : RequestPart) → IsOrderly s → IsKnown s p.request.0 → place ≡ place_of s p.request.0 → HoldsAt (λ x. x.request ≡ q) (listed s) place
+pub possible_iff : (s : Parts) (p : Placement) (place : ℕ) (q : RequestPart) → IsOrderly s → IsKnown s p.request.0 → place ≡ place_of s p.request.0
+    → HoldsAt (λ x. x.request ≡ q) (listed s) place
     → IsPossibleStart s p ↔ CanStart s q p.telescope p.slice.0
 possible_iff s p place q o known at holds =
     let part = is_part s p.request.0 place q known at holds in (
-      λ possible. fits_can s q p.telescope p.slice.0 (same_fits s p.telescope p.slice.0 _ _ _ _ _ _ _ _ part.seconds part.windows part.telescopes part.targets (spans_fit s p (by_spans_from_possible s p o possible))),
-      λ can. possible_from_by_spans s p (fit_spans s p known (same_fits s p.telescope p.slice.0 _ _ _ _ _ _ _ _ (sym part.seconds) (sym part.windows) (sym part.telescopes) (sym part.targets) (can_fits s q p.telescope p.slice.0 can))),
+      λ possible. fits_can s q p.telescope p.slice.0
+          (same_fits s p.telescope p.slice.0 _ _ _ _ _ _ _ _ part.seconds part.windows part.telescopes part.targets
+          (spans_fit s p (by_spans_from_possible s p o possible))),
+      λ can. possible_from_by_spans s p
+          (fit_spans s p known (same_fits s p.telescope p.slice.0 _ _ _ _ _ _ _ _ (sym part.seconds) (sym part.windows) (sym part.telescopes)
+          (sym part.targets) (can_fits s q p.telescope p.slice.0 can))),
     )
 
 -- what a snapshot says of the seconds of its requests
-pub few_seconds : (s : Parts) (place : ℕ) (q : RequestPart) → IsOrderly s → place < length (listed s) → HoldsAt (λ x. x.request ≡ q) (listed s) place → q.seconds ≤ 86400
+pub few_seconds : (s : Parts) (place : ℕ) (q : RequestPart) → IsOrderly s → place < length (listed s)
+    → HoldsAt (λ x. x.request ≡ q) (listed s) place → q.seconds ≤ 86400
 few_seconds s place q o within holds =
     let x : Listed = record { group = 0; quota = None; request = q } in
     let most : (slice_index_or (listed s) place x).request.seconds ≤ 86400 = (o.ranges.seconds place x within).1 in

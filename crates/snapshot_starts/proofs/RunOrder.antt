@@ -1,5 +1,6 @@
 -- Runs in order: the order of their starts, and that each is a greatest row.
-use Rattle.std.proofs.Common.{◌≡◌, ◌≢◌, ℕ, suc, ◌+◌, ◌<◌, ◌≤◌, ◌⊎◌, inl, inr, List, [], ◌∷◌, length, slice_index_or, AllPairs, Contains, refl, sym, ◌∙◌, ap, subst, arith}
+use Rattle.std.proofs.Common.{◌≡◌, ◌≢◌, ℕ, suc, ◌+◌, ◌<◌, ◌≤◌, ◌⊎◌, inl, inr, List, [], ◌∷◌, length, slice_index_or, AllPairs, Contains, refl, sym}
+use Rattle.std.proofs.Common.{◌∙◌, ap, subst, arith}
 use Rattle.std.specs.Prelude.{sum_by}
 use Rattle.std.proofs.lemmas.List.{get_or_default}
 use Rattle.std.proofs.lemmas.List.Elements.{All-contains}
@@ -38,7 +39,8 @@ run_in_order run i j d l m =
     let first : slice_index_or (starts_of_run run) i d ≡ start_at run (run.first.0 + i) = at_in_run run i d (omega arith) in
     let second : slice_index_or (starts_of_run run) j d ≡ start_at run (run.first.0 + j) = at_in_run run j d (omega arith) in
     let here : IsStartBefore (start_at run (run.first.0 + i)) (start_at run (run.first.0 + j)) = inr (refl, inr (refl, omega arith)) in
-    subst (λ (p : Placement). IsStartBefore p (slice_index_or (starts_of_run run) j d)) (sym first) (subst (IsStartBefore (start_at run (run.first.0 + i))) (sym second) here)
+    subst (λ (p : Placement). IsStartBefore p (slice_index_or (starts_of_run run) j d)) (sym first)
+    (subst (IsStartBefore (start_at run (run.first.0 + i))) (sym second) here)
 
 pub starts_in_order : (runs : List Run) → AllPairs IsRunBefore runs → AllPairs IsStartBefore (starts_of runs)
 starts_in_order runs order =
@@ -47,7 +49,8 @@ starts_in_order runs order =
 
 -- ---- greatest rows
 
-pair_at : (runs : List Run) (i j : ℕ) (a b : Run) → AllPairs IsRunBefore runs → i < j → j < length runs → slice_index_or runs i a ≡ a → slice_index_or runs j b ≡ b → IsRunBefore a b
+pair_at : (runs : List Run) (i j : ℕ) (a b : Run) → AllPairs IsRunBefore runs → i < j → j < length runs → slice_index_or runs i a ≡ a
+    → slice_index_or runs j b ≡ b → IsRunBefore a b
 pair_at runs i j a b order below l e d =
     let pair : IsRunBefore (slice_index_or runs i a) (slice_index_or runs j a) = order i j a below l in
     subst (IsRunBefore a) (get_or_default runs j a b l ∙ d) (subst (λ (x : Run). IsRunBefore x (slice_index_or runs j a)) e pair)
@@ -87,7 +90,8 @@ greatest_row runs run order c some = record {
   some = some;
   row = λ k from to. in_starts runs run (start_at run k) c (record { request = refl; telescope = refl; from = from; to = to });
   before = λ k e. beside runs run k order c (omega arith) (omega arith) (λ h. let from : run.first.0 ≤ k = h.from in omega arith);
-  after = beside runs run (run.first.0 + run.count) order c (omega arith) (omega arith) (λ h. let to : run.first.0 + run.count < run.first.0 + run.count = h.to in omega arith);
+  after = beside runs run (run.first.0 + run.count) order c (omega arith) (omega arith)
+      (λ h. let to : run.first.0 + run.count < run.first.0 + run.count = h.to in omega arith);
 }
 
 pub are_runs : (runs : List Run) → CanKeep runs → AreRuns (starts_of runs) runs
@@ -104,7 +108,8 @@ same_sums [] = refl
 same_sums (run ∷ runs) =
     let one : length (starts_of_run run) ≡ run.count = length_of_run run in
     let rest : sum_by (λ r. length (starts_of_run r)) runs ≡ count_of runs = same_sums runs in
-    let left : sum_by (λ r. length (starts_of_run r)) (run ∷ runs) ≡ length (starts_of_run run) + sum_by (λ r. length (starts_of_run r)) runs = sum_by-cons (λ r. length (starts_of_run r)) run runs in
+    let left : sum_by (λ r. length (starts_of_run r)) (run ∷ runs) ≡ length (starts_of_run run) + sum_by (λ r. length (starts_of_run r)) runs =
+    sum_by-cons (λ r. length (starts_of_run r)) run runs in
     let right : count_of (run ∷ runs) ≡ run.count + count_of runs = sum_by-cons (λ r. r.count) run runs in
     omega arith
 

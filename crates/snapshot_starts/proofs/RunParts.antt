@@ -1,5 +1,6 @@
 -- The runs of one request are a part of all runs, and those of its starts.
-use Rattle.std.proofs.Common.{◌≡◌, ℕ, zero, suc, ◌+◌, ◌^◌, ◌<◌, ◌≤◌, ◌⊎◌, inl, inr, Bool, true, false, cond, not, ◌&&◌, ◌==◌, nat_lt, nat_le, List, [], ◌∷◌, ◌++◌, length, map, take, drop, slice_index_or, filter, AllPairs, refl, sym, ◌∙◌, ap, subst, arith}
+use Rattle.std.proofs.Common.{◌≡◌, ℕ, zero, suc, ◌+◌, ◌^◌, ◌<◌, ◌≤◌, ◌⊎◌, inl, inr, Bool, true, false, cond, not, ◌&&◌, ◌==◌, nat_lt, nat_le, List, []}
+use Rattle.std.proofs.Common.{◌∷◌, ◌++◌, length, map, take, drop, slice_index_or, filter, AllPairs, refl, sym, ◌∙◌, ap, subst, arith}
 use Rattle.std.specs.List.{range_with_len}
 use Rattle.std.specs.List.Sorted.{IsNonDecreasingBy}
 use Rattle.std.proofs.lemmas.Bool.Decides.{nat_tests}
@@ -59,7 +60,8 @@ module _ {X : Type 0} (p q : X → Bool) where
   part_of [] a n hp hq = ap (λ (ys : List X). take n ys) (drop_nothing a) ∙ none_taken n
   part_of (x ∷ xs) zero zero hp hq =
       let out : q x ≡ false = hq.others 0 x (omega arith) (omega arith) in
-      part_of xs zero zero (unshifted p x xs hp) (unshifted q x xs hq) ∙ sym (dropped (not (p x) && q x) x (filter (λ y. not (p y) && q y) xs) (beyond (p x) (q x) out))
+      part_of xs zero zero (unshifted p x xs hp) (unshifted q x xs hq)
+      ∙ sym (dropped (not (p x) && q x) x (filter (λ y. not (p y) && q y) xs) (beyond (p x) (q x) out))
   part_of (x ∷ xs) zero (suc n) hp hq =
       let before : p x ≡ false = hp.others 0 x (omega arith) (omega arith) in
       let within : q x ≡ true = hq.below 0 x (omega arith) (omega arith) in
@@ -78,7 +80,8 @@ abbrev pub runs_with : List Run → ℕ → List Run
 runs_with runs r = filter (λ run. run.request.0 == r) runs
 
 -- from the first place on of which a number isn't below n, up to the first of which it is above, stand those whose number is n
-pub part_with : {X : Type 0} (number : X → ℕ) (xs : List X) (n a count : ℕ) → HoldsBelow (λ x. nat_lt (number x) n) xs a → HoldsBelow (λ x. nat_le (number x) n) xs (count + a)
+pub part_with : {X : Type 0} (number : X → ℕ) (xs : List X) (n a count : ℕ) → HoldsBelow (λ x. nat_lt (number x) n) xs a
+    → HoldsBelow (λ x. nat_le (number x) n) xs (count + a)
     → take count (drop a xs) ≡ filter (λ x. number x == n) xs
 part_with {X} number xs n a count low high =
     part_of (λ x. nat_lt (number x) n) (λ x. nat_le (number x) n) xs a count low high
@@ -148,10 +151,12 @@ requests_rise runs order i j d le l = by (below_or_same i j le)
 
     by : (i < j) ⊎ (i ≡ j) → (slice_index_or runs i d).request.0 ≤ (slice_index_or runs j d).request.0
     by (inl below) = before (slice_index_or runs i d) (slice_index_or runs j d) (order i j d below l)
-    by (inr same) = let e : (slice_index_or runs i d).request.0 ≡ (slice_index_or runs j d).request.0 = ap (λ (k : ℕ). (slice_index_or runs k d).request.0) same in omega arith
+    by (inr same) = let e : (slice_index_or runs i d).request.0 ≡ (slice_index_or runs j d).request.0 =
+        ap (λ (k : ℕ). (slice_index_or runs k d).request.0) same in omega arith
 
 -- no fewer have a number up to n than one below it
-pub no_fewer : {X : Type 0} (number : X → ℕ) (xs : List X) (n a b : ℕ) (d : X) → a ≤ length xs → HoldsBelow (λ x. nat_lt (number x) n) xs a → HoldsBelow (λ x. nat_le (number x) n) xs b → a ≤ b
+pub no_fewer : {X : Type 0} (number : X → ℕ) (xs : List X) (n a b : ℕ) (d : X) → a ≤ length xs → HoldsBelow (λ x. nat_lt (number x) n) xs a
+    → HoldsBelow (λ x. nat_le (number x) n) xs b → a ≤ b
 no_fewer number xs n a b d within low high = elim (at_most_or_above a b) [
   | inl le ↦ le
   | inr above ↦ absurd (not_both (number (slice_index_or xs b d)) n (low.below b d above (omega arith)) (high.others b d (omega arith) (omega arith)))

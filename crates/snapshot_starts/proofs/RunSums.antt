@@ -1,5 +1,6 @@
 -- Where a start stands among those of runs.
-use Rattle.std.proofs.Common.{◌≡◌, ℕ, zero, suc, ◌+◌, ◌-◌, ◌^◌, ◌<◌, ◌≤◌, inl, inr, List, [], ◌∷◌, length, take, slice_index_or, refl, sym, ◌∙◌, ap, subst, arith}
+use Rattle.std.proofs.Common.{◌≡◌, ℕ, zero, suc, ◌+◌, ◌-◌, ◌^◌, ◌<◌, ◌≤◌, inl, inr, List, [], ◌∷◌, length, take, slice_index_or, refl, sym, ◌∙◌, ap}
+use Rattle.std.proofs.Common.{subst, arith}
 use Rattle.std.specs.List.Sorted.{IsNonDecreasingBy}
 use Rattle.std.proofs.lemmas.Bool.{cases_lt}
 use Rattle.std.proofs.lemmas.List.{get_or_default, take_all, take_more, take-take}
@@ -46,7 +47,8 @@ pub record StandsIn (runs : List Run) (index place before : ℕ) : Type 0 where
   pub begun : before ≤ index
   pub not_past : (d : Run) → index - before < (slice_index_or runs place d).count
 
-before_is : (runs : List Run) (sums : List ℕ) (place : ℕ) → AreSums runs sums → place ≤ length sums → slice_index_or (0 ∷ sums) place 0 ≡ count_of (take place runs)
+before_is : (runs : List Run) (sums : List ℕ) (place : ℕ) → AreSums runs sums → place ≤ length sums
+    → slice_index_or (0 ∷ sums) place 0 ≡ count_of (take place runs)
 before_is runs sums zero are le = refl
 before_is runs sums (suc place) are le =
     let same : place + 1 ≡ suc place = omega arith in
@@ -57,12 +59,15 @@ begun_before : (sums : List ℕ) (index place : ℕ) → IsCountUpTo sums index 
 begun_before sums index zero up = omega arith
 begun_before sums index (suc place) up = up.up_to place (omega arith)
 
-one_more : (runs : List Run) (place : ℕ) (d : Run) → place < length runs → count_of (take (place + 1) runs) ≡ count_of (take place runs) + (slice_index_or runs place d).count
+one_more : (runs : List Run) (place : ℕ) (d : Run) → place < length runs
+    → count_of (take (place + 1) runs) ≡ count_of (take place runs) + (slice_index_or runs place d).count
 one_more runs place d l =
-    let more : count_of (take (place + 1) runs) ≡ count_of (take place runs) + count_of (slice_index_or runs place d ∷ []) = ap count_of (take_more runs place d l) ∙ sum_by-append (λ run. run.count) (take place runs) (slice_index_or runs place d ∷ []) in
+    let more : count_of (take (place + 1) runs) ≡ count_of (take place runs) + count_of (slice_index_or runs place d ∷ []) =
+    ap count_of (take_more runs place d l) ∙ sum_by-append (λ run. run.count) (take place runs) (slice_index_or runs place d ∷ []) in
     omega arith
 
-place_within : (runs : List Run) (sums : List ℕ) (index place : ℕ) → AreSums runs sums → IsCountUpTo sums index place → index < count_of runs → place < length sums
+place_within : (runs : List Run) (sums : List ℕ) (index place : ℕ) → AreSums runs sums → IsCountUpTo sums index place
+    → index < count_of runs → place < length sums
 place_within runs sums index zero are up l = elim (cases_lt 0 (length sums)) [
   | inl some ↦ some
   | inr none ↦ let zero_count : count_of runs ≡ 0 = no_sum runs sums are (omega arith) in absurd (omega arith)
@@ -76,7 +81,8 @@ place_within runs sums index (suc place) are up l = elim (cases_lt (suc place) (
       absurd (omega arith)
 ]
 
-pub stands_in : (runs : List Run) (sums : List ℕ) (index place : ℕ) → AreSums runs sums → IsCountUpTo sums index place → index < length (starts_of runs) → StandsIn runs index place (slice_index_or (0 ∷ sums) place 0)
+pub stands_in : (runs : List Run) (sums : List ℕ) (index place : ℕ) → AreSums runs sums → IsCountUpTo sums index place
+    → index < length (starts_of runs) → StandsIn runs index place (slice_index_or (0 ∷ sums) place 0)
 stands_in runs sums index place are up l =
     let all : length (starts_of runs) ≡ count_of runs = length_of_starts runs in
     let within : place < length sums = place_within runs sums index place are up (omega arith) in
@@ -89,11 +95,13 @@ stands_in runs sums index place are up l =
       within = omega arith;
       is_before = before;
       begun = begun;
-      not_past = λ d. let more : count_of (take (place + 1) runs) ≡ count_of (take place runs) + (slice_index_or runs place d).count = one_more runs place d (omega arith) in omega arith;
+      not_past = λ d. let more : count_of (take (place + 1) runs) ≡ count_of (take place runs) + (slice_index_or runs place d).count =
+          one_more runs place d (omega arith) in omega arith;
     }
 
 -- the start that stands there
-pub start_there : (runs : List Run) (index place before : ℕ) (run : Run) (d : Placement) → StandsIn runs index place before → run ≡ slice_index_or runs place run → slice_index_or (starts_of runs) index d ≡ start_at run (run.first.0 + (index - before))
+pub start_there : (runs : List Run) (index place before : ℕ) (run : Run) (d : Placement) → StandsIn runs index place before
+    → run ≡ slice_index_or runs place run → slice_index_or (starts_of runs) index d ≡ start_at run (run.first.0 + (index - before))
 start_there runs index place before run d stands at =
     let one : Run = slice_index_or runs place run in
     let begun : before ≤ index = stands.begun in
@@ -103,10 +111,12 @@ start_there runs index place before run d stands at =
     let count : length (starts_of_run one) ≡ one.count = length_of_run one in
     let front : length (starts_of (take place runs)) ≡ count_of (take place runs) = length_of_starts (take place runs) in
     let sum : length (starts_of (take place runs)) + j ≡ index = omega arith in
-    let there : slice_index_or (starts_of runs) (length (starts_of (take place runs)) + j) d ≡ slice_index_or (starts_of_run one) j d = get_or-flat_map starts_of_run runs place j run d stands.within (omega arith) in
+    let there : slice_index_or (starts_of runs) (length (starts_of (take place runs)) + j) d ≡ slice_index_or (starts_of_run one) j d =
+    get_or-flat_map starts_of_run runs place j run d stands.within (omega arith) in
     ap (λ (n : ℕ). slice_index_or (starts_of runs) n d) (sym sum) ∙ there ∙ at_in_run one j d past ∙ ap (λ (r : Run). start_at r (r.first.0 + j)) (sym at)
 
-pub slice_fits : (runs : List Run) (index place before : ℕ) (run : Run) → CanKeep runs → StandsIn runs index place before → run ≡ slice_index_or runs place run → run.first.0 + (index - before) < 2 ^ 32
+pub slice_fits : (runs : List Run) (index place before : ℕ) (run : Run) → CanKeep runs → StandsIn runs index place before
+    → run ≡ slice_index_or runs place run → run.first.0 + (index - before) < 2 ^ 32
 slice_fits runs index place before run can stands at =
     let most : (slice_index_or runs place run).first.0 + (slice_index_or runs place run).count ≤ 2 ^ 32 = can.slices place run stands.within in
     let past : index - before < (slice_index_or runs place run).count = stands.not_past run in
@@ -114,15 +124,18 @@ slice_fits runs index place before run can stands at =
     omega arith
 
 -- the same as a look-up reads it
-pub stands_at : (runs : List Run) (sums read : List ℕ) (starts : List Placement) (index place before : ℕ) → AreSums runs sums → read ≡ sums → starts_of runs ≡ starts → IsCountUpTo read index place
+pub stands_at : (runs : List Run) (sums read : List ℕ) (starts : List Placement) (index place before : ℕ) → AreSums runs sums → read ≡ sums
+    → starts_of runs ≡ starts → IsCountUpTo read index place
     → index < length starts → before ≡ slice_index_or (0 ∷ read) place 0 → StandsIn runs index place before
 stands_at runs sums read starts index place before are same whole up l e =
     let below : index < length (starts_of runs) = subst (λ (xs : List Placement). index < length xs) (sym whole) l in
-    let here : StandsIn runs index place (slice_index_or (0 ∷ sums) place 0) = stands_in runs sums index place are (subst (λ (xs : List ℕ). IsCountUpTo xs index place) same up) below in
+    let here : StandsIn runs index place (slice_index_or (0 ∷ sums) place 0) =
+    stands_in runs sums index place are (subst (λ (xs : List ℕ). IsCountUpTo xs index place) same up) below in
     subst (StandsIn runs index place) (sym (e ∙ ap (λ (xs : List ℕ). slice_index_or (0 ∷ xs) place 0) same)) here
 
 -- the sum before the end counts all
-pub sum_of_all : (runs : List Run) (sums read : List ℕ) (starts : List Placement) (n : ℕ) → AreSums runs sums → read ≡ sums → starts_of runs ≡ starts → n ≡ slice_index_or (0 ∷ read) (length read) 0
+pub sum_of_all : (runs : List Run) (sums read : List ℕ) (starts : List Placement) (n : ℕ) → AreSums runs sums → read ≡ sums → starts_of runs ≡ starts
+    → n ≡ slice_index_or (0 ∷ read) (length read) 0
     → (n ≡ length starts) × (n ≡ count_of runs)
 sum_of_all runs sums read starts n are same whole e =
     let count : length sums ≡ length runs = are.count in

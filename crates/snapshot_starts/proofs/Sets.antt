@@ -1,5 +1,6 @@
 -- Sets of slices by what is known of each slice.
-use Rattle.std.proofs.Common.{◌≡◌, ℕ, ◌+◌, ◌-◌, ◌*◌, ◌/◌, ◌%◌, ◌<◌, ◌≤◌, ◌⊎◌, inl, inr, min, Bool, true, false, List, [], ◌∷◌, ◌++◌, length, slice_index_or, take, refl, sym, ◌∙◌, ap, subst, arith}
+use Rattle.std.proofs.Common.{◌≡◌, ℕ, ◌+◌, ◌-◌, ◌*◌, ◌/◌, ◌%◌, ◌<◌, ◌≤◌, ◌⊎◌, inl, inr, min, Bool, true, false, List, [], ◌∷◌, ◌++◌, length}
+use Rattle.std.proofs.Common.{slice_index_or, take, refl, sym, ◌∙◌, ap, subst, arith}
 use Rattle.std.specs.Prelude.{◌&&◌, ◌||◌, nat_le, nat_lt, IsTrue, ◌↔◌, Any, Contains}
 use Rattle.std.proofs.Math.Nat.{le-div_iff_mul-le, mul-le-mul_right}
 use Rattle.std.proofs.lemmas.Grind.{div_ceil_times}
@@ -29,7 +30,8 @@ ceil_iff a b k pos =
     )
 
 pub floor_iff : (m b k : ℕ) → 0 < b → (k < m / b + 1) ↔ (k * b ≤ m)
-floor_iff m b k pos = let both = le-div_iff_mul-le {k = b} {x = k} {y = m} pos in (λ lt. both.0 (omega arith), λ le. let q : k ≤ m / b = both.1 le in omega arith)
+floor_iff m b k pos = let both = le-div_iff_mul-le {k = b} {x = k} {y = m} pos in
+    (λ lt. both.0 (omega arith), λ le. let q : k ≤ m / b = both.1 le in omega arith)
 
 -- an element of one of the spans, and one of the list
 pub any_left : {X : Type 0} (P : X → Type 0) (xs : List X) (x : X) → Any P xs → Any P (xs ++ x ∷ [])
@@ -64,7 +66,8 @@ or_true_cases false b h = inr h
 pub has_push : (slices : List Span) (w : Span) (k : ℕ) → has (slices ++ w ∷ []) k ≡ (has slices k || span_has w k)
 has_push slices w k = list_any-append (λ s. span_has s k) slices (w ∷ []) ∙ grind arith
 
-pub more_slices : (len d : ℕ) (spans slices : List Span) (w ws : Span) → AreSlicesOf len d spans slices → AreSlicesIn len d w ws → AreSlicesOf len d (spans ++ w ∷ []) (slices ++ ws ∷ [])
+pub more_slices : (len d : ℕ) (spans slices : List Span) (w ws : Span) → AreSlicesOf len d spans slices → AreSlicesIn len d w ws
+    → AreSlicesOf len d (spans ++ w ∷ []) (slices ++ ws ∷ [])
 more_slices len d spans slices w ws so_far one = record {
   each = λ k. (
     λ yes. elim (or_true_cases (has slices k) (span_has ws k) (sym (has_push slices ws k) ∙ yes)) [
@@ -78,10 +81,12 @@ more_slices len d spans slices w ws so_far one = record {
   );
 }
 
-pub slices_at : (len d : ℕ) (spans slices : List Span) (i : ℕ) (w ws : Span) → i < length spans → AreSlicesOf len d (take i spans) slices → slice_index_or spans i w ≡ w → AreSlicesIn len d w ws
+pub slices_at : (len d : ℕ) (spans slices : List Span) (i : ℕ) (w ws : Span) → i < length spans → AreSlicesOf len d (take i spans) slices
+    → slice_index_or spans i w ≡ w → AreSlicesIn len d w ws
     → AreSlicesOf len d (take (i + 1) spans) (slices ++ ws ∷ [])
 slices_at len d spans slices i w ws l so_far at one =
-    subst (λ (xs : List Span). AreSlicesOf len d xs (slices ++ ws ∷ [])) (sym (take_more spans i w l ∙ ap (λ (v : Span). take i spans ++ v ∷ []) at)) (more_slices len d (take i spans) slices w ws so_far one)
+    subst (λ (xs : List Span). AreSlicesOf len d xs (slices ++ ws ∷ [])) (sym (take_more spans i w l ∙ ap (λ (v : Span). take i spans ++ v ∷ []) at))
+    (more_slices len d (take i spans) slices w ws so_far one)
 
 -- sets by what is known of each slice
 pub set_slices : (P : ℕ → Type 0) (spans set : List Span) → ((k : ℕ) → IsTrue (has spans k) ↔ P k) → IsSetOf (has spans) set → AreSlices P set
@@ -93,7 +98,8 @@ set_slices P spans set each is = record {
 pub and_true : (a b : Bool) → a ≡ true → b ≡ true → (a && b) ≡ true
 and_true a b h g = grind arith
 
-pub meet_slices : (P Q : ℕ → Type 0) (a b meet : List Span) → ((k : ℕ) → IsTrue (has a k) ↔ P k) → ((k : ℕ) → IsTrue (has b k) ↔ Q k) → IsMeet a b meet → AreSlices (λ k. P k × Q k) meet
+pub meet_slices : (P Q : ℕ → Type 0) (a b meet : List Span) → ((k : ℕ) → IsTrue (has a k) ↔ P k) → ((k : ℕ) → IsTrue (has b k) ↔ Q k)
+    → IsMeet a b meet → AreSlices (λ k. P k × Q k) meet
 meet_slices P Q a b meet each_a each_b is = record {
   each = λ k. (
     λ yes. let both = and_parts (has a k) (has b k) (sym (is.seconds k) ∙ yes) in ((each_a k).0 both.0, (each_b k).0 both.1),

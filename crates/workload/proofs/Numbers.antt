@@ -17,7 +17,8 @@ number_after-more x (suc m) n =
 abbrev request_at : ℕ → ℕ → Request
 request_at x i = request_from (number_after x (5 * i))
 
-pub requests_more : (x n y : ℕ) (rs : List Request) (r : Request) → rs ≡ requests_from x n → y ≡ number_after x (5 * n) → r ≡ request_from y → rs ++ r ∷ [] ≡ requests_from x (n + 1)
+pub requests_more : (x n y : ℕ) (rs : List Request) (r : Request) → rs ≡ requests_from x n → y ≡ number_after x (5 * n) → r ≡ request_from y
+    → rs ++ r ∷ [] ≡ requests_from x (n + 1)
 requests_more x n y rs r before now drawn =
     ap (λ (qs : List Request). qs ++ r ∷ []) before
     ∙ ap (λ (q : Request). requests_from x n ++ q ∷ []) (drawn ∙ ap request_from now)

@@ -1,5 +1,6 @@
 -- The subjects by their places, and the lines.
-use Rattle.std.proofs.Common.{◌≡◌, ℕ, ◌+◌, ◌-◌, ◌/◌, ◌%◌, ◌<◌, ◌≤◌, min, nat_lt, cond, Bool, true, false, List, length, map, get_or, slice_get, slice_index_or, take, sum_by, refl, sym, ◌∙◌, ap, arith, Some, None}
+use Rattle.std.proofs.Common.{◌≡◌, ℕ, ◌+◌, ◌-◌, ◌/◌, ◌%◌, ◌<◌, ◌≤◌, min, nat_lt, cond, Bool, true, false, List, length, map, get_or, slice_get}
+use Rattle.std.proofs.Common.{slice_index_or, take, sum_by, refl, sym, ◌∙◌, ap, arith, Some, None}
 use Rattle.std.specs.List.{range_with_len}
 use Rattle.std.proofs.lemmas.List.FromFn.{get_or-map-range_with_len, length-map-range_with_len}
 use Rattle.std.proofs.lemmas.List.Sums.{sum_by_more}
@@ -72,8 +73,10 @@ pub at_last : (n : ℕ) → 210 ≤ n → by_place n ≡ Plan
 at_last n low = grind (arith, nat_tests, low)
 
 -- what holds of the subject of each range of places holds of that of a place
-pub of_each : (P : Subject → Type 0) (n : ℕ) → P Open → P (Instrument (class_drawn (n - 1))) → P (Telescope ((n - 3) / 2) (class_drawn ((n - 3) % 2))) → P (Night (n - 9))
-    → P (Visibility ((n - 12) / 3) ((n - 12) % 3)) → P (Grant ((n - 132) / 2) (class_drawn ((n - 132) % 2))) → P (cond (nat_lt n 210) (Submit (n - 140)) Plan) → P (by_place n)
+pub of_each : (P : Subject → Type 0) (n : ℕ) → P Open → P (Instrument (class_drawn (n - 1)))
+    → P (Telescope ((n - 3) / 2) (class_drawn ((n - 3) % 2))) → P (Night (n - 9))
+    → P (Visibility ((n - 12) / 3) ((n - 12) % 3)) → P (Grant ((n - 132) / 2) (class_drawn ((n - 132) % 2)))
+    → P (cond (nat_lt n 210) (Submit (n - 140)) Plan) → P (by_place n)
 of_each P n opening instrument telescope night sky grant last =
     either P (nat_lt n 1) _ _ opening
     (either P (nat_lt n 3) _ _ instrument
@@ -100,27 +103,32 @@ so_many_lines number workers = length-map-range_with_len (line_at number workers
 
 -- ---- one place more
 
-pub number_more : (number n : ℕ) (subject : Subject) → n < 211 → subject ≡ slice_index_or subjects n Plan → number_after (number_before number n) (draws_of subject) ≡ number_before number (n + 1)
+pub number_more : (number n : ℕ) (subject : Subject) → n < 211 → subject ≡ slice_index_or subjects n Plan
+    → number_after (number_before number n) (draws_of subject) ≡ number_before number (n + 1)
 number_more number n subject few is =
     number_after-more number (sum_by draws_of (take n subjects)) (draws_of subject)
-    ∙ ap (number_after number) (ap (λ (s : Subject). sum_by draws_of (take n subjects) + draws_of s) is ∙ sym (sum_by_more draws_of subjects n Plan (omega (arith, subjects_count))))
+    ∙ ap (number_after number) (ap (λ (s : Subject). sum_by draws_of (take n subjects) + draws_of s) is
+    ∙ sym (sum_by_more draws_of subjects n Plan (omega (arith, subjects_count))))
 
 -- ---- the lines by their places
 
 pub line_there : (number workers n : ℕ) → n < 211 → slice_get (workload_lines number workers) n ≡ Some (line_at number workers n)
 line_there number workers n few =
     slice_get-get_or (workload_lines number workers) n (line_at number workers n) (omega (arith, few, so_many_lines number workers))
-    ∙ ap (λ (l : List ℕ). Some l) (get_or-map-range_with_len (line_at number workers) 0 (length subjects) n n (line_at number workers n) (omega (arith, few, subjects_count)) (omega arith))
+    ∙ ap (λ (l : List ℕ). Some l) (get_or-map-range_with_len (line_at number workers) 0 (length subjects) n n (line_at number workers n)
+    (omega (arith, few, subjects_count)) (omega arith))
 
 abbrev with_given : ℕ → ℕ → ℕ → WorkloadSeen
 with_given number workers n = record { number = number; workers = workers; given = n }
 
-pub line_past : (number workers n : ℕ) → 211 ≤ n → n ≤ 211 → (None ≡ line_next (with_given number workers n)) × (with_given number workers n ≡ one_given (with_given number workers n))
+pub line_past : (number workers n : ℕ) → 211 ≤ n → n ≤ 211 → (None ≡ line_next (with_given number workers n))
+    × (with_given number workers n ≡ one_given (with_given number workers n))
 line_past number workers n past most =
     let same : n ≡ min (n + 1) (length subjects) = grind (arith, subjects_count) in
     (sym (slice_get_past (workload_lines number workers) n (omega (arith, so_many_lines number workers))), ap (with_given number workers) same)
 
-pub line_here : (number workers n : ℕ) (subject : Subject) (x : ℕ) (line : List ℕ) → n < 211 → subject ≡ slice_index_or subjects n Plan → x ≡ number_before number n
+pub line_here : (number workers n : ℕ) (subject : Subject) (x : ℕ) (line : List ℕ) → n < 211 → subject ≡ slice_index_or subjects n Plan
+    → x ≡ number_before number n
     → line ≡ text_of (document workers x subject)
     → (Some line ≡ line_next (with_given number workers n)) × (with_given number workers (n + 1) ≡ one_given (with_given number workers n))
 line_here number workers n subject x line few is now text =

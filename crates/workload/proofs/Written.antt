@@ -1,5 +1,6 @@
 -- The documents of the lines are of the kind whose texts are read back.
-use Rattle.std.proofs.Common.{◌≡◌, ℕ, suc, ◌+◌, ◌-◌, ◌*◌, ◌/◌, ◌%◌, ◌^◌, ◌<◌, ◌≤◌, nat_lt, cond, Bool, true, false, List, [], ◌∷◌, ◌++◌, map, codes, decimal, IsUtf8, IsAscii, slice_index_or, ◌==◌, refl, sym, subst, arith}
+use Rattle.std.proofs.Common.{◌≡◌, ℕ, suc, ◌+◌, ◌-◌, ◌*◌, ◌/◌, ◌%◌, ◌^◌, ◌<◌, ◌≤◌, nat_lt, cond, Bool, true, false, List, [], ◌∷◌, ◌++◌, map, codes}
+use Rattle.std.proofs.Common.{decimal, IsUtf8, IsAscii, slice_index_or, ◌==◌, refl, sym, subst, arith}
 use Rattle.std.specs.List.{list_all, range_with_len}
 use Rattle.std.proofs.lemmas.Bool.{and_parts}
 use Rattle.std.proofs.lemmas.Bool.Decides.{nat_tests}
@@ -26,7 +27,8 @@ use Rattle.workload.specs.Generator.{number_after, drawn_at, draw}
 use Rattle.workload.specs.Names.{class_name, instrument_name, enclosure_name, telescope_name, site_name}
 use Rattle.workload.specs.Requests.{request_from, requests_from}
 use Rattle.workload.specs.Subjects.{subjects, shape_of}
-use Rattle.workload.specs.Documents.{exposure_data, configuration_data, window_data, location_data, request_data, group_data, span_data, open_data, instrument_data, telescope_data}
+use Rattle.workload.specs.Documents.{exposure_data, configuration_data, window_data, location_data, request_data, group_data, span_data, open_data}
+use Rattle.workload.specs.Documents.{instrument_data, telescope_data}
 use Rattle.workload.specs.Documents.{night_of, night_line, sky_from, sky_line, grant_data, group_line, plan_data, document}
 use Rattle.workload.specs.Lines.{number_before, document_at, AreReadBack}
 use Rattle.workload.proofs.Places.{by_place, subject_by_place, of_each}
@@ -63,7 +65,11 @@ no_list : (n : ℕ) → IsWritten (suc n) (array no_items)
 no_list n = record { exact = tt; in_order = tt; flat = omega arith }
 
 more_list : (n : ℕ) (d : Data) (ds : Items) → IsWritten n d → IsWritten (suc n) (array ds) → IsWritten (suc n) (array (item d ds))
-more_list n d ds first rest = record { exact = (first.exact, rest.exact); in_order = (first.in_order, rest.in_order); flat = omega (arith, first.flat, rest.flat) }
+more_list n d ds first rest = record {
+  exact = (first.exact, rest.exact);
+  in_order = (first.in_order, rest.in_order);
+  flat = omega (arith, first.flat, rest.flat);
+}
 
 one_list : (n : ℕ) (d : Data) → IsWritten n d → IsWritten (suc n) (array (item d no_items))
 one_list n d only = more_list n d no_items only (no_list n)
@@ -72,7 +78,8 @@ no_object : (n : ℕ) → IsWritten (suc n) (object no_members)
 no_object n = record { exact = tt; in_order = tt; flat = omega arith }
 
 -- an object with a member before the others
-more_object : (n : ℕ) (k : List ℕ) (d : Data) (ms : Members) → is_low k ≡ true → IsBefore k ms → IsWritten n d → IsWritten (suc n) (object ms) → IsWritten (suc n) (object (member k d ms))
+more_object : (n : ℕ) (k : List ℕ) (d : Data) (ms : Members) → is_low k ≡ true → IsBefore k ms → IsWritten n d → IsWritten (suc n) (object ms)
+    → IsWritten (suc n) (object (member k d ms))
 more_object n k d ms low before value rest = record {
   exact = (utf8 k low, value.exact, rest.exact);
   in_order = (before, value.in_order, rest.in_order);
@@ -126,7 +133,8 @@ configuration : (class : Class) (target ms : ℕ) → target < 2 ^ 64 → ms < 2
 configuration class target ms known few =
     more_object 2 _ _ _ refl refl (one_list 1 _ (exposure ms few))
     (more_object 2 _ _ _ refl refl (text 2 _ (low_instrument class))
-    (more_object 2 _ _ _ refl tt (deeper 1 2 _ (omega arith) (more_object 0 _ _ _ refl tt (numbered 0 (codes "T") target refl known) (no_object 0))) (no_object 2)))
+    (more_object 2 _ _ _ refl tt (deeper 1 2 _ (omega arith) (more_object 0 _ _ _ refl tt (numbered 0 (codes "T") target refl known) (no_object 0)))
+    (no_object 2)))
 
 window : (start end : ℕ) → start < 2 ^ 64 → end < 2 ^ 64 → IsWritten 1 (window_data start end)
 window start end early late = more_object 0 _ _ _ refl refl (counted 0 end late) (more_object 0 _ _ _ refl tt (counted 0 start early) (no_object 0))
@@ -143,7 +151,8 @@ request x =
     let end : draw x 4 48 < 48 = draw_below x 4 48 (omega arith) in
     more_object 4 _ _ _ refl refl (one_list 3 _ (configuration r.class r.target r.exposure_ms (omega (arith, target)) (omega (arith, exposures))))
     (more_object 4 _ _ _ refl refl (deeper 1 4 _ (omega arith) (location r.class))
-    (more_object 4 _ _ _ refl tt (deeper 2 4 _ (omega arith) (one_list 1 _ (window r.start r.end (omega (arith, start)) (omega (arith, start, end))))) (no_object 4)))
+    (more_object 4 _ _ _ refl tt (deeper 2 4 _ (omega arith) (one_list 1 _ (window r.start r.end (omega (arith, start)) (omega (arith, start, end)))))
+    (no_object 4)))
 
 requests : (x : ℕ) (is : List ℕ) → IsWritten 6 (array (items_of (map request_data (map (λ i. request_from (number_after x (5 * i))) is))))
 requests x [] = no_list 5
@@ -173,7 +182,8 @@ opens workers few =
     (more_object 1 _ _ _ refl refl (counted 1 4 (omega arith))
     (more_object 1 _ _ _ refl refl (counted 1 0 (omega arith))
     (more_object 1 _ _ _ refl refl (counted 1 32 (omega arith))
-    (more_object 1 _ _ _ refl refl semester (more_object 1 _ _ _ refl refl (counted 1 300 (omega arith)) (more_object 1 _ _ _ refl tt (counted 1 workers few) (no_object 1))))))))
+    (more_object 1 _ _ _ refl refl semester
+    (more_object 1 _ _ _ refl refl (counted 1 300 (omega arith)) (more_object 1 _ _ _ refl tt (counted 1 workers few) (no_object 1))))))))
 
 instrument : (class : Class) → IsWritten 1 (instrument_data class)
 unfolding instrument_data
@@ -260,5 +270,6 @@ is_written workers x Plan few small = deeper 1 127 _ (omega arith) plan
 
 pub lines_are_read_back : AreReadBack
 lines_are_read_back number workers place few within =
-    let small : IsSmall (slice_index_or subjects place Plan) = subst (λ (s : Subject). IsSmall s) (sym (subject_by_place place within)) (small_at place within) in
+    let small : IsSmall (slice_index_or subjects place Plan) =
+    subst (λ (s : Subject). IsSmall s) (sym (subject_by_place place within)) (small_at place within) in
     texts_are_read_back (document_at number workers place) (is_written workers (number_before number place) (slice_index_or subjects place Plan) few small)
