@@ -20,7 +20,7 @@ use Rattle.desk_runs.specs.Numbers.{requests_of, is_request, has_request, is_pen
 use Rattle.desk_runs.specs.Progress.{Progress}
 use Rattle.desk_runs.specs.Reports.{canceled, completed, without_running, with_completed, reported}
 use Rattle.desk_runs.specs.Sound.{IsSound, IsLaterRequest, IsLater}
-use Rattle.desk_runs.specs.States.{is_oneof}
+use Rattle.plan_base.specs.Operators.{is_oneof}
 use Rattle.desk_runs.proofs.GoingOn.{report_goes_on}
 use Rattle.desk_runs.proofs.Known.{placed_pending}
 use Rattle.desk_runs.proofs.Later.{later_canceled, later_completed}

@@ -26,7 +26,8 @@ use Rattle.desk_runs.specs.declared.group.Group.{Group}
 use Rattle.desk_events.specs.declared.refusal.Refusal.{Refusal}
 use Rattle.desk_events.specs.declared.refusal.Refusal.TheVariants.{OutsideSemester, WindowPast, NoTelescope}
 use Rattle.desk_core.specs.declared.desk.Submitted.{Submitted}
-use Rattle.desk_core.specs.Asking.{follows, turned_into, seconds_for, is_single, windows_for, is_outside, is_past, is_fitted, made_with, tested}
+use Rattle.plan_base.specs.Operators.{is_single}
+use Rattle.desk_core.specs.Asking.{follows, turned_into, seconds_for, windows_for, is_outside, is_past, is_fitted, made_with, tested}
 use Rattle.desk_core.specs.Asking.{made_from, gathered, made_of, MadeSeen}
 use Rattle.desk_core.specs.Desk.{DeskSeen}
 use Rattle.desk_core.specs.Kept.{IsDesk}

@@ -25,7 +25,8 @@ use Rattle.plan_base.specs.declared.number.Sec.{Sec}
 use Rattle.desk_runs.specs.Clock.{is_waiting, is_past, with_state, change_requests, with_past, is_lost}
 use Rattle.desk_runs.specs.Numbers.{is_request, has_request, is_placed}
 use Rattle.desk_runs.specs.Reports.{canceled, completed}
-use Rattle.desk_runs.specs.States.{is_open, is_oneof, any_in}
+use Rattle.plan_base.specs.Operators.{is_oneof}
+use Rattle.desk_runs.specs.States.{is_open, any_in}
 use Rattle.desk_runs.specs.Turning.{turned}
 use Rattle.desk_runs.specs.Sound.{IsLaterRequest, IsLater}
 use Rattle.desk_runs.proofs.Later.{later_turned}

@@ -18,7 +18,8 @@ use Rattle.allocations.specs.Ledger.{seconds_of_holds}
 use Rattle.allocations.proofs.Seen.{sum_by_mapped}
 use Rattle.desk_runs.specs.declared.group.Group.{Group}
 use Rattle.desk_runs.specs.declared.group.Request.{Request}
-use Rattle.desk_runs.specs.States.{is_oneof, is_open}
+use Rattle.plan_base.specs.Operators.{is_oneof}
+use Rattle.desk_runs.specs.States.{is_open}
 use Rattle.desk_runs.specs.Sound.{IsLaterRequest, IsLater}
 use Rattle.desk_core.specs.declared.desk.Submitted.{Submitted}
 use Rattle.desk_core.specs.declared.desk.Wanted.{Wanted}

@@ -25,7 +25,7 @@ use Rattle.allocations.specs.Refusals.{proposal_of}
 use Rattle.allocations.specs.Rising.{Rises}
 use Rattle.allocations.proofs.Keys.{is_key-refl, is_key-true}
 use Rattle.desk_runs.specs.declared.group.Request.{Request}
-use Rattle.desk_runs.specs.States.{is_oneof}
+use Rattle.plan_base.specs.Operators.{is_oneof}
 use Rattle.desk_core.specs.declared.desk.Wanted.{Wanted}
 use Rattle.desk_core.specs.Holds.{account_of, key_of, needs_of, keys_in, greatest_in, held_for, holds_of}
 use Rattle.desk_core.proofs.KeySets.{keys_from, on_from}

@@ -38,7 +38,8 @@ use Rattle.site_model.specs.Registry.{RegistrySeen, times_of}
 use Rattle.desk_events.specs.declared.refusal.Refusal.{Refusal}
 use Rattle.desk_events.specs.declared.refusal.Refusal.TheVariants.{NoSuchInstrument}
 use Rattle.desk_core.specs.Desk.{DeskSeen}
-use Rattle.desk_core.specs.Asking.{follows, turned_into, at_index, overheads, seconds_for, is_single, windows_for, is_outside, is_past, is_fitted}
+use Rattle.plan_base.specs.Operators.{is_single}
+use Rattle.desk_core.specs.Asking.{follows, turned_into, at_index, overheads, seconds_for, windows_for, is_outside, is_past, is_fitted}
 use Rattle.desk_core.specs.Asking.{made_with, tested, made_from, gathered, made_of, last_of, MadeSeen}
 use Rattle.desk_core.specs.Submitting.{op_of}
 use Rattle.desk_core.specs.Making.{IsMade, AreMade}

@@ -29,7 +29,7 @@ use Rattle.desk_runs.specs.declared.observation.Observation.{Observation}
 use Rattle.desk_runs.specs.Clock.{has_begun}
 use Rattle.desk_runs.specs.Numbers.{requests_of, is_request, has_request, is_pending_at, is_placed}
 use Rattle.desk_runs.specs.Sound.{IsOneOfOnce, IsObservedAtMostOnce, placed_in}
-use Rattle.desk_runs.specs.States.{is_oneof}
+use Rattle.plan_base.specs.Operators.{is_oneof}
 use Rattle.desk_runs.specs.Adding.{CanPublish}
 use Rattle.desk_runs.proofs.Adding.{published_sound}
 use Rattle.desk_core.specs.declared.desk.Submitted.{Submitted}

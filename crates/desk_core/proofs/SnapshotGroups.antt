@@ -21,7 +21,7 @@ use Rattle.desk_runs.specs.declared.group.Request.{Request}
 use Rattle.desk_runs.specs.declared.observation.Observation.{Observation}
 use Rattle.desk_runs.specs.Clock.{is_waiting}
 use Rattle.desk_runs.specs.Numbers.{requests_of, is_placed}
-use Rattle.desk_runs.specs.States.{is_oneof}
+use Rattle.plan_base.specs.Operators.{is_oneof}
 use Rattle.desk_runs.specs.Owners.{pending_count}
 use Rattle.desk_runs.specs.Sound.{IsCounted}
 use Rattle.desk_core.specs.declared.desk.Submitted.{Submitted}

@@ -19,7 +19,8 @@ use Rattle.desk_runs.specs.declared.group.Request.{Request}
 use Rattle.desk_runs.specs.declared.observation.Observation.{Observation}
 use Rattle.desk_runs.specs.Clock.{is_waiting}
 use Rattle.desk_runs.specs.Numbers.{is_placed}
-use Rattle.desk_runs.specs.States.{is_oneof, is_open}
+use Rattle.plan_base.specs.Operators.{is_oneof}
+use Rattle.desk_runs.specs.States.{is_open}
 use Rattle.desk_runs.specs.Turning.{no_group, group_of}
 use Rattle.desk_runs.proofs.Places.{number_at}
 use Rattle.desk_core.specs.declared.desk.Submitted.{Submitted}

@@ -1,11 +1,11 @@
 -- What a document asks for: its requests, tested one after another.
-use Rattle.std.specs.Prelude.{ℕ, max, nat_le, Bool, true, false, not, ◌&&◌, List, [], ◌∷◌, ◌++◌, map, fold, Result, Ok, Err, if◌then◌else◌}
+use Rattle.std.specs.Prelude.{ℕ, max, nat_le, Bool, not, ◌&&◌, List, [], ◌∷◌, ◌++◌, map, fold, Result, Ok, Err, if◌then◌else◌}
 use Rattle.std.specs.List.{list_any, list_all, enumerate_from}
 use Rattle.std.specs.Option.{ok_or, unwrap_or}
 use Rattle.plan_base.specs.declared.number.Sec.{Sec}
 use Rattle.plan_base.specs.declared.parts.Op.{Op}
-use Rattle.plan_base.specs.declared.parts.Op.TheVariants.{Single, Many, OneOf, And}
 use Rattle.plan_base.specs.declared.span.Span.{Span}
+use Rattle.plan_base.specs.Operators.{is_single}
 use Rattle.request_model.specs.declared.group.GroupDoc.{GroupDoc}
 use Rattle.request_model.specs.declared.request.Location.{Location}
 use Rattle.request_model.specs.declared.request.RequestDoc.{RequestDoc}
@@ -59,13 +59,6 @@ seconds_for r index q =
     follows (ok_or (times_of r q.instrument) (NoSuchInstrument index)) (λ times. at_index index (duration (overheads times) q.configurations))
 
 -- ---- when it may be observed
-
--- whether the operator is SINGLE, of which alone a request may have a cadence
-abbrev pub is_single : Op → Bool
-is_single Single = true
-is_single Many = false
-is_single OneOf = false
-is_single And = false
 
 -- the windows of the requests that are made from the one at a place: its own, or one window each of its cadence, which
 -- stands in a SINGLE alone

@@ -24,7 +24,7 @@ use Rattle.site_model.specs.Limits.{most_telescopes, most_sites, most_targets}
 use Rattle.desk_runs.specs.declared.group.Group.{Group}
 use Rattle.desk_runs.specs.declared.group.Request.{Request}
 use Rattle.desk_runs.specs.declared.observation.Observation.{Observation}
-use Rattle.desk_runs.specs.States.{is_oneof}
+use Rattle.plan_base.specs.Operators.{is_oneof}
 use Rattle.desk_runs.specs.Numbers.{is_placed}
 use Rattle.desk_runs.specs.Clock.{start_of, end_of, is_waiting}
 use Rattle.desk_core.specs.declared.desk.Submitted.{Submitted}

@@ -19,7 +19,8 @@ use Rattle.allocations.specs.Ledger.{seconds_of_holds}
 use Rattle.desk_runs.specs.declared.group.Group.{Group}
 use Rattle.desk_runs.specs.declared.group.Request.{Request}
 use Rattle.plan_base.specs.States.{is_pending, is_completed}
-use Rattle.desk_runs.specs.States.{is_open, is_oneof, any_in}
+use Rattle.plan_base.specs.Operators.{is_oneof}
+use Rattle.desk_runs.specs.States.{is_open, any_in}
 use Rattle.desk_runs.specs.Progress.{Progress}
 use Rattle.desk_events.specs.declared.reply.GroupRefund.{GroupRefund}
 use Rattle.desk_core.specs.declared.desk.Submitted.{Submitted}

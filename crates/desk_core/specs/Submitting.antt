@@ -25,7 +25,8 @@ use Rattle.desk_core.specs.Desk.{DeskSeen, Decision}
 use Rattle.desk_core.specs.Refusals.{refusal_of_ledger}
 use Rattle.desk_core.specs.Holds.{needs_of, holds_of, ipp_charge}
 use Rattle.desk_core.specs.Targets.{target_names, all_numbered, with_targets, targets_of}
-use Rattle.desk_core.specs.Asking.{MadeSeen, is_single, made_of, last_of}
+use Rattle.plan_base.specs.Operators.{is_single}
+use Rattle.desk_core.specs.Asking.{MadeSeen, made_of, last_of}
 
 -- the targets of the desk once those of a document have numbers
 abbrev pub targets_with : DeskSeen → GroupDoc → List (List ℕ)

@@ -8,7 +8,7 @@ ghost use Rattle.request_times.specs.Cadence.{expansion};
 ghost use Rattle.request_times.specs.Duration.{IsOverhead};
 ghost use Rattle.desk_core.specs.Desk.{seen};
 ghost use Rattle.desk_core.specs.Refusals.{Says};
-ghost use Rattle.desk_core.specs.Asking.{at_index, turned_into, overheads, seconds_for, is_single};
+ghost use Rattle.desk_core.specs.Asking.{at_index, turned_into, overheads, seconds_for};
 ghost use Rattle.desk_core.specs.Asking.{windows_for, is_inside, is_outside, is_past, is_fitted, made_with, tested, made_from, made_of, seen_made};
 
 use crate::desk::Desk;
@@ -55,16 +55,6 @@ fn seconds_for(network: &Network, index: u32, request: &RequestDoc) -> Result<u3
     match seconds_of(request, overheads(times)) {
         Ok(seconds) => Ok(seconds),
         Err(fault) => Err(CommandFault::from((index, fault))),
-    }
-}
-
-// Whether a group is a `SINGLE`.
-fn is_single(op: Op) -> bool
-    ensures { result ≡ is_single op }
-{
-    match op {
-        Op::Single => true,
-        Op::Many | Op::OneOf | Op::And => false,
     }
 }
 
@@ -122,7 +112,7 @@ fn windows_for(
     match when {
         When::Windows(windows) => Ok(one_list(alloc, windows.as_slice())?),
         When::Cadence(cadence) => {
-            if !is_single(op) {
+            if !op.is_single() {
                 return Err(CommandFault::Refused(Refusal::BadCadence { index }));
             }
             windows_of_cadence(alloc, index, *cadence, seconds)

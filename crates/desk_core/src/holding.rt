@@ -1,11 +1,10 @@
 // What the pending requests of a group hold of its proposal's accounts.
 
-ghost use Rattle.std.specs.Prelude.{◌≡◌, ◌++◌, ◌∷◌, [], ◌≤◌, ◌<◌, ◌^◌, ◌*◌, if◌then◌else◌, max, length, map, All, IfOk, OnOk};
+ghost use Rattle.std.specs.Prelude.{◌≡◌, ◌++◌, ◌∷◌, [], ◌≤◌, ◌<◌, ◌^◌, ◌*◌, if◌then◌else◌, max, length, All, IfOk, OnOk};
 ghost use Rattle.std.specs.List.{zip};
 ghost use Rattle.allocations.specs.Key.{is_key};
 ghost use Rattle.allocations.specs.Books.{held_in};
 ghost use Rattle.allocations.specs.Ledger.{seconds_of_holds};
-ghost use Rattle.desk_runs.specs.States.{is_oneof};
 ghost use Rattle.desk_core.specs.Holds.{account_of, key_of, needs_of, keys_in, greatest_in, held_for, holds_of, ipp_charge};
 
 use crate::desk::Wanted;
@@ -124,22 +123,12 @@ fn greatest_in(key: &Key, needs: &[Hold]) -> u64
     most
 }
 
-/// Whether a group is a `ONEOF`.
-pub(crate) fn is_oneof(op: Op) -> bool
-    ensures { result ≡ is_oneof op }
-{
-    match op {
-        Op::OneOf => true,
-        Op::Single | Op::Many | Op::And => false,
-    }
-}
-
 // What is held of an account.
 fn held_for(op: Op, key: &Key, needs: &[Hold]) -> u64
     requires { held_in key.now needs.now < 2 ^ 64 }
     ensures { result ≡ held_for op needs.now key.now }
 {
-    if is_oneof(op) {
+    if op.is_oneof() {
         greatest_in(key, needs)
     } else {
         held_in(key, needs)

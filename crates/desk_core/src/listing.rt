@@ -2,7 +2,7 @@
 
 ghost use Rattle.std.specs.Prelude.{◌≡◌, ◌&&◌, Some, IfOk, map};
 ghost use Rattle.std.specs.List.{list_any};
-ghost use Rattle.desk_runs.specs.States as states;
+ghost use Rattle.plan_base.specs.Operators.{is_oneof};
 ghost use Rattle.desk_runs.specs.Clock.{is_waiting};
 ghost use Rattle.desk_runs.specs.declared.group.Group.{Group};
 ghost use Rattle.desk_core.specs.declared.desk.Submitted.{Submitted};
@@ -12,7 +12,6 @@ ghost use Rattle.desk_core.specs.DeskSnapshot.{both_at, IsGroupNo, has_running, 
 
 use crate::desk::{Desk, Submitted, Wanted};
 use crate::fitting::fits;
-use crate::holding::is_oneof;
 use desk_runs::{Group, Request};
 use plan_base::{GroupNo, ListOf, RequestPart, TelescopeNo};
 use std::alloc::{AllocError, Global};
@@ -43,9 +42,9 @@ impl Desk {
 
     // Whether a group is a `ONEOF` with a running member.
     fn is_blocked(&self, group: &Group) -> bool
-        ensures { result ≡ (states.is_oneof group.now.op && has_running (seen self.now) group.now) }
+        ensures { result ≡ (is_oneof group.now.op && has_running (seen self.now) group.now) }
     {
-        is_oneof(group.op) && self.has_running(group)
+        group.op.is_oneof() && self.has_running(group)
     }
 
     // Whether a group is listed.

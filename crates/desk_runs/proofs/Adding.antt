@@ -17,7 +17,8 @@ use Rattle.desk_runs.specs.declared.group.Group.{Group}
 use Rattle.desk_runs.specs.declared.group.Request.{Request}
 use Rattle.desk_runs.specs.declared.observation.Observation.{Observation}
 use Rattle.plan_base.specs.States.{is_pending, is_window_expired}
-use Rattle.desk_runs.specs.States.{is_and, is_oneof, is_open}
+use Rattle.plan_base.specs.Operators.{is_and, is_oneof}
+use Rattle.desk_runs.specs.States.{is_open}
 use Rattle.desk_runs.specs.Numbers.{requests_of, is_request, has_request, is_pending_at}
 use Rattle.desk_runs.specs.Progress.{Progress}
 use Rattle.desk_runs.specs.Clock.{is_past, with_past, with_lost}

@@ -10,7 +10,8 @@ use Rattle.desk_runs.specs.declared.group.Group.{Group}
 use Rattle.desk_runs.specs.declared.group.Request.{Request}
 use Rattle.desk_runs.specs.declared.observation.Observation.{Observation}
 use Rattle.plan_base.specs.States.{is_pending, is_window_expired}
-use Rattle.desk_runs.specs.States.{is_and, any_in}
+use Rattle.plan_base.specs.Operators.{is_and}
+use Rattle.desk_runs.specs.States.{any_in}
 use Rattle.desk_runs.specs.Numbers.{requests_of, is_pending_at, is_placed}
 use Rattle.desk_runs.specs.Progress.{Progress}
 

@@ -5,7 +5,7 @@ use Rattle.plan_base.specs.declared.number.RequestNo.{RequestNo}
 use Rattle.plan_base.specs.declared.state.RequestState.TheVariants.{Completed, Canceled}
 use Rattle.desk_runs.specs.declared.group.Group.{Group}
 use Rattle.plan_base.specs.States.{is_pending}
-use Rattle.desk_runs.specs.States.{is_oneof}
+use Rattle.plan_base.specs.Operators.{is_oneof}
 use Rattle.desk_runs.specs.Numbers.{is_request, has_request, is_group}
 use Rattle.desk_runs.specs.Progress.{Progress}
 use Rattle.desk_runs.specs.Clock.{change_requests, dropped, settle}

@@ -7,7 +7,7 @@ use Rattle.desk_runs.specs.declared.group.Request.{Request}
 use Rattle.desk_runs.specs.declared.observation.Observation.{Observation}
 use Rattle.desk_runs.specs.declared.change.Change.{Change}
 use Rattle.plan_base.specs.States.{is_pending}
-use Rattle.desk_runs.specs.States.{is_oneof}
+use Rattle.plan_base.specs.Operators.{is_oneof}
 use Rattle.desk_runs.specs.Numbers.{requests_of, group_at, has_request, is_pending_at, is_placed}
 use Rattle.desk_runs.specs.Progress.{Progress}
 use Rattle.desk_runs.specs.Clock.{IsSettled}

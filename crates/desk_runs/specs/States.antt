@@ -1,26 +1,11 @@
 -- States of requests, and of groups by their members'.
-use Rattle.std.specs.Prelude.{Bool, true, false, if◌then◌else◌}
+use Rattle.std.specs.Prelude.{Bool, if◌then◌else◌}
 use Rattle.std.specs.List.{list_any, list_all}
-use Rattle.plan_base.specs.declared.parts.Op.{Op}
-use Rattle.plan_base.specs.declared.parts.Op.TheVariants.{Single, Many, OneOf, And}
+use Rattle.plan_base.specs.Operators.{is_and}
 use Rattle.plan_base.specs.declared.state.RequestState.{RequestState}
 use Rattle.plan_base.specs.declared.state.RequestState.TheVariants.{Pending, Completed, WindowExpired, Canceled}
 use Rattle.plan_base.specs.States.{is_pending, is_completed, is_canceled}
 use Rattle.desk_runs.specs.declared.group.Group.{Group}
-
--- whether the operator is ONEOF, of whose requests at most one is observed
-abbrev pub is_oneof : Op → Bool
-is_oneof Single = false
-is_oneof Many = false
-is_oneof OneOf = true
-is_oneof And = false
-
--- whether the operator is AND, whose requests are observed all or not at all
-abbrev pub is_and : Op → Bool
-is_and Single = false
-is_and Many = false
-is_and OneOf = false
-is_and And = true
 
 -- whether a member's state passes
 abbrev pub any_in : (RequestState → Bool) → Group → Bool

@@ -7,7 +7,7 @@ ghost use Rattle.desk_runs.specs.Numbers.{is_request};
 ghost use Rattle.desk_runs.specs.Clock.{is_waiting, is_past, with_state, change_requests, with_past, with_lost};
 ghost use Rattle.desk_runs.specs.Reports.{canceled, completed};
 
-use crate::group::{Group, Request, is_oneof};
+use crate::group::{Group, Request};
 use crate::observation::Observation;
 use plan_base::{ListOf, RequestNo, RequestState, Sec};
 use std::alloc::{AllocError, Global};
@@ -162,7 +162,7 @@ pub fn completed(alloc: Global, group: &Group, number: RequestNo) -> Result<Grou
     ensures { IfOk result (λ g. g ≡ completed number group.now) }
 {
     let done = with_one_completed(alloc, group, number)?;
-    if is_oneof(group.op) {
+    if group.op.is_oneof() {
         return canceled(alloc, &done);
     }
     Ok(done)

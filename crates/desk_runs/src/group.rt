@@ -2,7 +2,7 @@
 
 ghost use Rattle.std.specs.Prelude.{◌≡◌, ◌≤◌, length};
 ghost use Rattle.plan_base.specs.States.{is_completed, is_in};
-ghost use Rattle.desk_runs.specs.States.{any_in, all_in, is_open, is_done, state_of, is_oneof, is_and};
+ghost use Rattle.desk_runs.specs.States.{any_in, all_in, is_open, is_done, state_of};
 ghost use Rattle.desk_runs.specs.Clock.{is_waiting, is_past, with_state, is_lost};
 ghost use Rattle.desk_runs.specs.Owners.{pending_of};
 
@@ -79,26 +79,6 @@ impl Request {
     }
 }
 
-/// Whether a group is an `AND`.
-pub fn is_and(op: Op) -> bool
-    ensures { result ≡ is_and op }
-{
-    match op {
-        Op::And => true,
-        Op::Single | Op::Many | Op::OneOf => false,
-    }
-}
-
-/// Whether a group is a `ONEOF`.
-pub fn is_oneof(op: Op) -> bool
-    ensures { result ≡ is_oneof op }
-{
-    match op {
-        Op::OneOf => true,
-        Op::Single | Op::Many | Op::And => false,
-    }
-}
-
 impl Group {
     /// Whether a member is in this state.
     pub fn has_state(&self, state: RequestState) -> bool
@@ -131,7 +111,7 @@ impl Group {
     fn is_done(&self) -> bool
         ensures { result ≡ is_done self.now }
     {
-        if is_and(self.op) {
+        if self.op.is_and() {
             self.is_all_completed()
         } else {
             self.has_state(RequestState::Completed)
@@ -169,6 +149,6 @@ impl Group {
     pub fn is_lost(&self) -> bool
         ensures { result ≡ is_lost self.now }
     {
-        is_and(self.op) && self.has_state(RequestState::WindowExpired)
+        self.op.is_and() && self.has_state(RequestState::WindowExpired)
     }
 }

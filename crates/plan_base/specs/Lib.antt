@@ -1,5 +1,6 @@
 pub mod Limits
 pub mod Sums
+pub mod Operators
 pub mod Requests
 pub mod Skies
 pub mod Snapshot

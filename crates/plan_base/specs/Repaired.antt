@@ -1,11 +1,11 @@
 -- The primal heuristic: a feasible plan made of the starts that prices give.
-use Rattle.std.specs.Prelude.{◌≡◌, ℕ, ℤ, ◌<◌, Bool, true, false, not, ◌==◌, ◌⊎◌, List, [], ◌∷◌, ◌++◌, map, Option, Some, AllPairs, filter, find, IsPermutation}
+use Rattle.std.specs.Prelude.{◌≡◌, ℕ, ℤ, ◌<◌, Bool, not, ◌==◌, ◌⊎◌, List, [], ◌∷◌, ◌++◌, map, Option, Some, AllPairs, filter, find, IsPermutation}
 use Rattle.std.specs.List.{enumerate_from}
 use Rattle.std.specs.Ordering.{nat_cmp, is_lt, ordering_then}
 use Rattle.plan_base.specs.declared.parts.Parts.{Parts}
-use Rattle.plan_base.specs.declared.parts.Op.{Op}
 use Rattle.plan_base.specs.declared.parts.Op.TheVariants.{And}
 use Rattle.plan_base.specs.declared.claim.Placement.{Placement}
+use Rattle.plan_base.specs.Operators.{is_and}
 use Rattle.plan_base.specs.Requests.{group_of, IsKind, members}
 use Rattle.plan_base.specs.Starts.{worth_at, IsListedBefore}
 use Rattle.plan_base.specs.Feasible.{IsFeasible}
@@ -33,11 +33,6 @@ AddsWholes s starts plan (g ∷ gs) after =
 -- the places of all groups, in order
 abbrev pub group_places : Parts → List ℕ
 group_places s = map (λ x. x.0) (enumerate_from 0 s.groups)
-
--- whether a group is an AND
-abbrev pub is_and : Op → Bool
-is_and And = true
-is_and _ = false
 
 -- the starts of requests outside every AND
 abbrev pub outside_ands : Parts → List Placement → List Placement

@@ -1,6 +1,7 @@
 // What a snapshot holds: the telescopes, skies and groups of one desk at one version.
 
 ghost use Rattle.std.specs.Prelude.{◌≡◌};
+ghost use Rattle.plan_base.specs.Operators.{is_single, is_oneof, is_and};
 
 use crate::list::ListOf;
 use crate::number::{GroupNo, RequestNo, SiteNo, SliceNo, TargetNo, TelescopeNo};
@@ -18,6 +19,38 @@ pub enum Op {
     OneOf,
     /// All of the requests are placed, or none.
     And,
+}
+
+impl Op {
+    /// Whether a group is a `SINGLE`.
+    pub fn is_single(self) -> bool
+        ensures { result ≡ is_single self }
+    {
+        match self {
+            Op::Single => true,
+            Op::Many | Op::OneOf | Op::And => false,
+        }
+    }
+
+    /// Whether a group is a `ONEOF`.
+    pub fn is_oneof(self) -> bool
+        ensures { result ≡ is_oneof self }
+    {
+        match self {
+            Op::OneOf => true,
+            Op::Single | Op::Many | Op::And => false,
+        }
+    }
+
+    /// Whether a group is an `AND`.
+    pub fn is_and(self) -> bool
+        ensures { result ≡ is_and self }
+    {
+        match self {
+            Op::And => true,
+            Op::Single | Op::Many | Op::OneOf => false,
+        }
+    }
 }
 
 /// A telescope; its number is its place in the snapshot's list.

@@ -1,6 +1,6 @@
 -- Claims and snapshots as they are written: the members of each object, in any order, since `object_of` puts them in byte
 -- order.
-use Rattle.std.specs.Prelude.{ℕ, nat_lt, if◌then◌else◌, List, [], ◌∷◌, Option, Some, None, option_map, Result}
+use Rattle.std.specs.Prelude.{ℕ, List, [], ◌∷◌, Option, Some, None, option_map, Result}
 use Rattle.serde_json.specs.Data.{Data, string}
 use Rattle.plan_base.specs.declared.number.TelescopeNo.{TelescopeNo}
 use Rattle.plan_base.specs.declared.number.TargetNo.{TargetNo}
@@ -18,7 +18,7 @@ use Rattle.plan_json.specs.Adds.{text_of}
 use Rattle.plan_json.specs.Object.{document_of}
 use Rattle.plan_json.specs.Operator.{operator_name}
 use Rattle.plan_json.specs.Reading.{◌>>=◌}
-use Rattle.plan_json.specs.Values.{whole, integer, list_of, Named, given, given_if, object_of}
+use Rattle.plan_json.specs.Values.{whole, integer, list_of, Named, given, given_if, object_of, above_0}
 use Rattle.plan_doc.specs.declared.fault.DocFault.{DocFault}
 use Rattle.plan_doc.specs.Fault.{in_document}
 use Rattle.plan_doc.specs.Claim.{claim_of}
@@ -89,10 +89,6 @@ telescope_number_data t = whole t.0
 abbrev pub target_number_data : TargetNo → Data
 target_number_data t = whole t.0
 
--- a fade above 0
-abbrev pub fade_above_0 : ℕ → Option ℕ
-fade_above_0 fade = if nat_lt 0 fade then Some fade else None
-
 -- an object with `request`, `seconds`, `value`, `telescopes`, `targets` and `windows`, and with `fade` where it is above 0
 abbrev pub request_data : RequestPart → Data
 request_data q =
@@ -103,7 +99,7 @@ request_data q =
     ∷ given key.Telescopes (list_of telescope_number_data q.telescopes)
     ∷ given key.Targets (list_of target_number_data q.targets)
     ∷ given key.Windows (list_of span_data q.windows)
-    ∷ given_if key.Fade (option_map whole (fade_above_0 q.fade))
+    ∷ given_if key.Fade (option_map whole (above_0 q.fade))
     ∷ [])
 
 -- an object with `group`, `operator` and `requests`, and with `quota` where the group has one

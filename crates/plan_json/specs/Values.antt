@@ -1,5 +1,5 @@
 -- Documents as data, by their items and members.
-use Rattle.std.specs.Prelude.{ℕ, ℤ, List, [], ◌∷◌, map, Option, Some, None}
+use Rattle.std.specs.Prelude.{ℕ, ℤ, nat_lt, if◌then◌else◌, List, [], ◌∷◌, map, Option, Some, None}
 use Rattle.std.specs.Ordering.{nat_cmp, match_ordering}
 use Rattle.std.specs.Cmp.Lexicographic.{slice_cmp}
 use Rattle.serde_json.specs.Data.{Data, number, unsigned, array, object, Members, no_members, member}
@@ -39,6 +39,10 @@ given m d = has (name_of m) d
 -- and where it may be absent
 abbrev pub given_if : Member → Option Data → Named
 given_if m d = may_have (name_of m) d
+
+-- a number above 0, where a member of 0 is left out
+abbrev pub above_0 : ℕ → Option ℕ
+above_0 n = if nat_lt 0 n then Some n else None
 
 -- members in byte order of their names, with another; it takes the place of one with its name
 abbrev pub with_named : Named → List Named → List Named

@@ -10,4 +10,4 @@ mod value;
 pub use list::{Each, Form};
 pub use object::{End, Members, Named, Object, Perhaps};
 pub use text::{json_text, write_json};
-pub use value::{Json, Word};
+pub use value::{Json, Word, above_0};

@@ -9,7 +9,8 @@ use Rattle.plan_base.specs.Snapshot.{fault_of}
 use Rattle.rapid.specs.declared.fault.RapidFault.{RapidFault}
 use Rattle.rapid.specs.declared.fault.RapidFault.TheVariants.{NotSingle, Snapshot}
 use Rattle.rapid.specs.Insertion.{with_group}
-use Rattle.rapid.specs.Refused.{is_single, refusal_of}
+use Rattle.plan_base.specs.Operators.{is_single}
+use Rattle.rapid.specs.Refused.{refusal_of}
 
 pub not_single : (s : Parts) (group : GroupPart) → is_single group.op ≡ false → refusal_of s group ≡ Some (NotSingle group.group)
 not_single s group e = ap (λ (b : Bool). cond b (option_map (λ f. Snapshot f) (fault_of (with_group s group))) (Some (NotSingle group.group))) e

@@ -1,11 +1,10 @@
 -- Which groups can be inserted, and why another can't.
-use Rattle.std.specs.Prelude.{◌≤◌, Bool, true, false, if◌then◌else◌, All, Option, Some}
+use Rattle.std.specs.Prelude.{◌≤◌, if◌then◌else◌, All, Option, Some}
 use Rattle.std.specs.Option.{option_map}
 use Rattle.plan_base.specs.declared.parts.Parts.{Parts}
 use Rattle.plan_base.specs.declared.parts.GroupPart.{GroupPart}
-use Rattle.plan_base.specs.declared.parts.Op.{Op}
-use Rattle.plan_base.specs.declared.parts.Op.TheVariants.{Single, Many, OneOf, And}
 use Rattle.plan_base.specs.Limits.{most_seconds, most_value}
+use Rattle.plan_base.specs.Operators.{is_single}
 use Rattle.plan_base.specs.Snapshot.{IsMoment, fault_of}
 use Rattle.rapid.specs.declared.fault.RapidFault.{RapidFault}
 use Rattle.rapid.specs.declared.fault.RapidFault.TheVariants.{NotSingle, Snapshot}
@@ -16,13 +15,6 @@ pub record IsGroupInRanges (group : GroupPart) : Type 0 where
   pub seconds : All (λ q. (1 ≤ q.seconds) × (q.seconds ≤ most_seconds)) group.requests
   pub values : All (λ q. (1 ≤ q.value) × (q.value ≤ most_value)) group.requests
   pub moments : All (λ q. All (λ w. IsMoment w.from.0 × IsMoment w.to.0) q.windows) group.requests
-
--- whether the operator is SINGLE, whose groups alone can be inserted
-abbrev pub is_single : Op → Bool
-is_single Single = true
-is_single Many = false
-is_single OneOf = false
-is_single And = false
 
 -- why the group can't be inserted into the snapshot, if it can't: its kind first, then what is wrong with the snapshot that it would make
 abbrev pub refusal_of : Parts → GroupPart → Option RapidFault

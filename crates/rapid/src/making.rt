@@ -1,13 +1,13 @@
 // What an insertion makes, before it is put in.
 
-ghost use Rattle.std.specs.Prelude.{◌≡◌, ◌≢◌, ◌∷◌, ◌<◌, ◌+◌, ◌-◌, ◌^◌, [], None, Some, length, HoldsAt, IfOk, OnOk, IfErr};
+ghost use Rattle.std.specs.Prelude.{◌≡◌, ◌≢◌, ◌<◌, ◌+◌, ◌-◌, ◌^◌, None, Some, length, HoldsAt, IfOk, OnOk, IfErr};
 ghost use Rattle.plan_base.specs.Requests.{listed};
 ghost use Rattle.plan_base.specs.Verdict.{IsCertified};
 ghost use Rattle.plan_base.specs.declared.parts.GroupPart.{GroupPart};
 ghost use Rattle.plan_base.specs.declared.parts.Op.TheVariants.{Single};
 ghost use Rattle.rapid.specs.Insertion.{with_group};
 ghost use Rattle.rapid.specs.Tables.{AreTables};
-ghost use Rattle.rapid.specs.Refused.{is_single, refusal_of, IsGroupInRanges};
+ghost use Rattle.rapid.specs.Refused.{refusal_of, IsGroupInRanges};
 ghost use Rattle.rapid.specs.Inside.{IsExtended, joined, IsMadeOf};
 ghost use Rattle.rapid.specs.declared.fault.RapidFault.TheVariants.{NoMemory};
 
@@ -38,15 +38,6 @@ pub(crate) struct Made {
     pub priced: Priced,
 }
 
-fn is_single(op: Op) -> bool
-    ensures { result ≡ is_single op }
-{
-    match op {
-        Op::Single => true,
-        Op::Many | Op::OneOf | Op::And => false,
-    }
-}
-
 /// The snapshot with one more group at its end.
 fn with_group(alloc: Global, snapshot: &Snapshot, group: GroupPart) -> Result<Snapshot, RapidFault>
     requires { IsGroupInRanges group }
@@ -54,7 +45,7 @@ fn with_group(alloc: Global, snapshot: &Snapshot, group: GroupPart) -> Result<Sn
     ensures accepted { OnOk result (refusal_of snapshot.now group ≡ None) }
     ensures err { IfErr result (λ fault. fault ≢ NoMemory → refusal_of snapshot.now group ≡ Some fault) }
 {
-    if !is_single(group.op) {
+    if !group.op.is_single() {
         return Err(RapidFault::NotSingle { group: group.group });
     }
     let mut parts = snapshot.parts().copy()?;

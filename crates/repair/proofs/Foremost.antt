@@ -13,7 +13,8 @@ use Rattle.plan_base.specs.declared.parts.Op.TheVariants.{And}
 use Rattle.plan_base.specs.declared.claim.Placement.{Placement}
 use Rattle.plan_base.specs.Requests.{listed, place_of, group_of, IsKnown, IsKind}
 use Rattle.plan_base.specs.Starts.{IsPossibleStart, worth_at}
-use Rattle.plan_base.specs.Repaired.{is_and, outside_ands, IsTriedBefore}
+use Rattle.plan_base.specs.Operators.{is_and}
+use Rattle.plan_base.specs.Repaired.{outside_ands, IsTriedBefore}
 use Rattle.plan_base.specs.Round.{op_at}
 use Rattle.plan_base.proofs.Lists.{AllPairs-map, contains_map}
 use Rattle.plan_base.proofs.Orders.{contains_cases, contains_first, contains_rest}

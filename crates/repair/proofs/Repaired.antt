@@ -11,7 +11,8 @@ use Rattle.plan_base.specs.Snapshot.{IsOrderly}
 use Rattle.plan_base.specs.Starts.{IsPossibleStart}
 use Rattle.plan_base.specs.Feasible.{IsDisjoint, IsFeasible}
 use Rattle.plan_base.specs.Fill.{IsFilled}
-use Rattle.plan_base.specs.Repaired.{AddsWholes, group_places, is_and, outside_ands, IsTriedBefore, AddsEach, IsRepairedFrom}
+use Rattle.plan_base.specs.Operators.{is_and}
+use Rattle.plan_base.specs.Repaired.{AddsWholes, group_places, outside_ands, IsTriedBefore, AddsEach, IsRepairedFrom}
 use Rattle.plan_base.specs.Round.{op_at}
 use Rattle.groups.specs.Building.{Building}
 use Rattle.repair.specs.Firsts.{AreFirsts}

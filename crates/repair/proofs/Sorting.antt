@@ -16,7 +16,8 @@ use Rattle.plan_base.specs.Requests.{group_of, IsKind}
 use Rattle.plan_base.specs.Snapshot.{IsOrderly}
 use Rattle.plan_base.specs.Starts.{IsPossibleStart, ShareSlice, size_of}
 use Rattle.plan_base.specs.Feasible.{IsDisjoint}
-use Rattle.plan_base.specs.Repaired.{is_and, outside_ands}
+use Rattle.plan_base.specs.Operators.{is_and}
+use Rattle.plan_base.specs.Repaired.{outside_ands}
 use Rattle.plan_base.specs.Round.{op_at}
 use Rattle.plan_base.proofs.Known.{group_known}
 use Rattle.plan_base.proofs.Sizes.{start_size_above}

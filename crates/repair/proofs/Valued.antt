@@ -8,7 +8,7 @@ use Rattle.plan_base.specs.declared.span.Span.{Span}
 use Rattle.plan_base.specs.declared.claim.Placement.{Placement}
 use Rattle.plan_base.specs.declared.number.RequestNo.{RequestNo}
 use Rattle.plan_base.specs.Requests.{Listed, listed, place_of, IsKnown, group_of, request_value, fade_of}
-use Rattle.plan_base.specs.Repaired.{is_and}
+use Rattle.plan_base.specs.Operators.{is_and}
 use Rattle.plan_base.specs.Round.{op_at}
 use Rattle.plan_base.specs.Snapshot.{IsOrderly}
 use Rattle.plan_base.specs.Starts.{slices_for, least_of, faded, worth_at, value_of_plan}

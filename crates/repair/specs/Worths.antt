@@ -3,7 +3,7 @@ use Rattle.std.specs.Prelude.{◌≡◌, ℕ, ◌<◌, List, length, HoldsAt}
 use Rattle.plan_base.specs.declared.parts.Parts.{Parts}
 use Rattle.plan_base.specs.Requests.{listed, group_of, request_value, fade_of}
 use Rattle.plan_base.specs.Starts.{earliest_slice}
-use Rattle.plan_base.specs.Repaired.{is_and}
+use Rattle.plan_base.specs.Operators.{is_and}
 use Rattle.plan_base.specs.Round.{op_at}
 use Rattle.groups.specs.Places.{ArePlaces}
 use Rattle.repair.specs.declared.offers.Offer.{Offer}

@@ -2,7 +2,6 @@
 
 ghost use Rattle.std.specs.Prelude.{◌≡◌, ◌≤◌, ◌<◌, length, IfOk};
 ghost use Rattle.plan_base.specs.Requests.{listed, place_of, IsKnown};
-ghost use Rattle.plan_base.specs.Repaired.{is_and};
 ghost use Rattle.repair.specs.Worths.{AreOffers, AreOffersOf, IsOffer, IsOfferOf};
 
 use groups::Places;
@@ -92,18 +91,9 @@ fn offer_at(snapshot: &Snapshot, place: usize) -> Offer
     let len = u64::from(snapshot.parts().len);
     Offer {
         request: request.request,
-        is_of_and: is_and(snapshot.parts().groups.as_slice()[group].op),
+        is_of_and: snapshot.parts().groups.as_slice()[group].op.is_and(),
         value: request.value,
         fade: request.fade,
         earliest: slices_for(len, least_from(request.windows.as_slice())),
-    }
-}
-
-fn is_and(op: Op) -> bool
-    ensures { result ≡ is_and op }
-{
-    match op {
-        Op::And => true,
-        Op::Single | Op::Many | Op::OneOf => false,
     }
 }

@@ -1,6 +1,6 @@
 -- The document of a group, as it is written: the members of each object, in any order, since `object_of` puts them in
 -- byte order.
-use Rattle.std.specs.Prelude.{ℕ, nat_lt, if◌then◌else◌, List, [], ◌∷◌, codes, Option, Some, None, option_map, Result}
+use Rattle.std.specs.Prelude.{ℕ, List, [], ◌∷◌, codes, Option, Some, None, option_map, Result}
 use Rattle.serde_json.specs.Data.{Data, string}
 use Rattle.plan_base.specs.declared.span.Span.{Span}
 use Rattle.plan_json.specs.declared.member.Member.TheVariants as member
@@ -8,7 +8,7 @@ use Rattle.plan_json.specs.Adds.{text_of}
 use Rattle.plan_json.specs.Object.{document_of}
 use Rattle.plan_json.specs.Operator.{operator_name}
 use Rattle.plan_json.specs.Reading.{◌>>=◌}
-use Rattle.plan_json.specs.Values.{whole, list_of, Named, given, given_if, object_of}
+use Rattle.plan_json.specs.Values.{whole, list_of, Named, given, given_if, object_of, above_0}
 use Rattle.request_model.specs.declared.fault.GroupFault.{GroupFault}
 use Rattle.request_model.specs.declared.group.GroupDoc.{GroupDoc}
 use Rattle.request_model.specs.declared.group.ObsKind.{ObsKind}
@@ -74,10 +74,6 @@ abbrev pub windows_given : When → Option Data
 windows_given (when.Cadence c) = None
 windows_given (when.Windows ws) = Some (list_of window_data ws)
 
--- a fade above 0
-abbrev pub fade_above_0 : ℕ → Option ℕ
-fade_above_0 fade = if nat_lt 0 fade then Some fade else None
-
 -- A request with these times and this fade. It unfolds only where it is asked, so that each kind of times is apart from
 -- the other.
 unfoldable pub request_at : RequestDoc → When → Option ℕ → Data
@@ -93,7 +89,7 @@ request_at r times fade =
 
 -- an object with `cadence` or `windows`, whichever the request has, and with `fade` where it is above 0
 abbrev pub request_data : RequestDoc → Data
-request_data r = request_at r r.when (fade_above_0 r.fade)
+request_data r = request_at r r.when (above_0 r.fade)
 
 -- the word that `observation_type` has for each way of scheduling
 abbrev pub kind_name : ObsKind → List ℕ

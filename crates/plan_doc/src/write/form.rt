@@ -3,12 +3,12 @@
 ghost use Rattle.std.specs.Prelude.{◌≡◌, option_map};
 ghost use Rattle.plan_json.specs.Values.{whole, list_of};
 ghost use Rattle.plan_doc.specs.Written.{placement_data, unless_empty, numbers_given, telescope_data};
-ghost use Rattle.plan_doc.specs.Written.{sky_data, telescope_number_data, target_number_data, fade_above_0, request_data, group_data};
+ghost use Rattle.plan_doc.specs.Written.{sky_data, telescope_number_data, target_number_data, request_data, group_data};
 
 use plan_base::{
     GroupPart, ListOf, Placement, RequestPart, Sky, TargetNo, TelescopeNo, TelescopePart,
 };
-use plan_json::{Each, Form, Json, object};
+use plan_json::{Each, Form, Json, above_0, object};
 use std::alloc::AllocError;
 
 /// Each part of a claim and of a snapshot in the one form that it has in a document.
@@ -73,20 +73,13 @@ impl Form<Sky> for InDocument {
     }
 }
 
-/// A fade above 0.
-fn fade_above_0(fade: u16) -> Option<u16>
-    ensures { result ≡ fade_above_0 fade }
-{
-    if fade > 0 { Some(fade) } else { None }
-}
-
 impl Form<RequestPart> for InDocument {
     ghost value_of = { λ _. request_data };
 
     ghost levels = { 3 };
 
     fn write_value(&self, request: &RequestPart, out: &mut Vec<u8>) -> Result<(), AllocError> {
-        let fade = fade_above_0(request.fade);
+        let fade = above_0(request.fade);
         object!(
             "fade"?: &fade,
             "request": request.request.0,

@@ -1,11 +1,11 @@
 // What has a JSON value.
 #![tactic(auto, unfolding(crate::specs::Adds::text_of))]
 
-ghost use Rattle.std.specs.Prelude.{ℕ, IsTrue, option_map, unwrap_or};
+ghost use Rattle.std.specs.Prelude.{◌≡◌, ℕ, IsTrue, option_map, unwrap_or};
 ghost use Rattle.serde_json.specs.Data.{Data, null, boolean, string};
 ghost use Rattle.plan_json.specs.Adds.{AddsNested};
 ghost use Rattle.plan_json.specs.Literals.{word_in, is_word};
-ghost use Rattle.plan_json.specs.Values.{whole, integer};
+ghost use Rattle.plan_json.specs.Values.{whole, integer, above_0};
 
 use crate::write::bytes::{put, put_number, put_signed};
 use crate::write::quoted::put_quoted;
@@ -174,6 +174,13 @@ impl<T: Json> Json for Option<T> {
             None => put(out, b"null"),
         }
     }
+}
+
+/// A number above 0: a member that would be 0 is left out.
+pub fn above_0(number: u16) -> Option<u16>
+    ensures { result ≡ above_0 number }
+{
+    if number > 0 { Some(number) } else { None }
 }
 
 /// `word!("opened")`: a word of the source as a JSON text, printable ASCII that needs no escape.

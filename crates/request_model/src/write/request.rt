@@ -1,15 +1,14 @@
 // Requests, as they are written.
 
-ghost use Rattle.std.specs.Prelude.{◌≡◌};
 ghost use Rattle.plan_json.specs.Adds.{AddsNested};
 ghost use Rattle.request_model.specs.declared.request.When.TheVariants as when;
-ghost use Rattle.request_model.specs.Written.{location_data, fade_above_0, request_at, request_data};
+ghost use Rattle.request_model.specs.Written.{location_data, request_at, request_data};
 
 use crate::request::{Cadence, Location, RequestDoc, When};
 use crate::write::configuration::OfType;
 use crate::write::times::AsWindows;
 use plan_base::{ListOf, Span};
-use plan_json::{Each, Json, object};
+use plan_json::{Each, Json, above_0, object};
 use std::alloc::AllocError;
 
 impl Json for Location {
@@ -26,13 +25,6 @@ impl Json for Location {
         )
         .write(out)
     }
-}
-
-/// A fade above 0.
-fn fade_above_0(fade: u16) -> Option<u16>
-    ensures { result ≡ fade_above_0 fade }
-{
-    if fade > 0 { Some(fade) } else { None }
 }
 
 #[tactic(auto, unfolding(crate::specs::Written::request_at))]
@@ -87,7 +79,7 @@ impl Json for RequestDoc {
     ghost levels = { 5 };
 
     fn write(&self, out: &mut Vec<u8>) -> Result<(), AllocError> {
-        let fade = fade_above_0(self.fade);
+        let fade = above_0(self.fade);
         match &self.when {
             When::Cadence(cadence) => write_with_cadence(self, cadence, &fade, out),
             When::Windows(windows) => write_with_windows(self, windows, &fade, out),

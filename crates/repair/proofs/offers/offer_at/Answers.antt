@@ -6,7 +6,7 @@ use Rattle.plan_base.specs.declared.parts.Op.TheVariants.{Single}
 use Rattle.plan_base.specs.declared.span.Span.{Span}
 use Rattle.plan_base.specs.Snapshot.{IsMoment}
 use Rattle.plan_base.specs.Starts.{slices_for, least_of}
-use Rattle.plan_base.specs.Repaired.{is_and}
+use Rattle.plan_base.specs.Operators.{is_and}
 use Rattle.plan_base.specs.Round.{op_at}
 use Rattle.plan_base.proofs.Here.{request_here}
 use Rattle.groups.proofs.Footed.{group_here}
