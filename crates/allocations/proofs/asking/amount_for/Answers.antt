@@ -9,7 +9,8 @@ use Rattle.allocations.proofs.Freed.{refusal_unknown, refusal_known, given-bound
 use Rattle.allocations.proofs.asking.amount_for.Goals as goal
 
 pub returns-in-Err-clause-refused : goal.returns-in-Err-clause-refused
-returns-in-Err-clause-refused c = refusal_unknown c.args.store.now c.args.old c.args.key.now c.args.needed c.find.ensures.sound c.requires.old c.in-Err.ensures.absent
+returns-in-Err-clause-refused c =
+    refusal_unknown c.args.store.now c.args.old c.args.key.now c.args.needed c.find.ensures.sound c.requires.old c.in-Err.ensures.absent
 
 pub available-available-requires-clause-place : goal.available-available-requires-clause-place
 available-available-requires-clause-place c = slice_get_within c.args.store.now.keys c.in-Ok.place c.args.key.now c.in-Ok.ensures.found

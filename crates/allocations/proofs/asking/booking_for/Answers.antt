@@ -15,7 +15,9 @@ returns-then-not-knows-clause-refused c =
     let s = c.args.store.now in
     let hs = c.args.holds.now in
     let first : proposal_of hs ≡ (get_or hs 0 c.index-holds-0.result).key.proposal = proposal_first hs c.index-holds-0.result c.requires.some in
-    let absent : Any (λ (k : Key). k.proposal ≡ proposal_of hs) s.keys → ⊥ = λ any. false≢true (sym c.if-not-knows.true ∙ c.knows.ensures.known.1 (subst (λ (p : List ℕ). Any (λ (k : Key). k.proposal ≡ p) s.keys) first any)) in
+    let absent : Any (λ (k : Key). k.proposal ≡ proposal_of hs) s.keys
+    → ⊥ = λ any. false≢true (sym c.if-not-knows.true
+    ∙ c.knows.ensures.known.1 (subst (λ (p : List ℕ). Any (λ (k : Key). k.proposal ≡ p) s.keys) first any)) in
     unknown_proposal (freed_books s c.args.old) hs c.args.ipp (knows_false s c.args.old (proposal_of hs) c.knows.ensures.sound c.requires.old absent)
 
 pub returns-in_err-holds-clause-refused : goal.returns-in_err-holds-clause-refused
@@ -24,7 +26,8 @@ returns-in_err-holds-clause-refused c =
     let s = c.args.store.now in
     let hs = c.args.holds.now in
     let first : proposal_of hs ≡ (get_or hs 0 c.index-holds-0.result).key.proposal = proposal_first hs c.index-holds-0.result c.requires.some in
-    let any : Any (λ (k : Key). k.proposal ≡ proposal_of hs) s.keys = subst (λ (p : List ℕ). Any (λ (k : Key). k.proposal ≡ p) s.keys) (sym first) (c.knows.ensures.known.0 c.if-not-knows.false) in
+    let any : Any (λ (k : Key). k.proposal ≡ proposal_of hs) s.keys = subst (λ (p : List ℕ). Any (λ (k : Key). k.proposal ≡ p) s.keys) (sym first)
+    (c.knows.ensures.known.0 c.if-not-knows.false) in
     let knows : knows_proposal (freed_books s c.args.old).entries (proposal_of hs) ≡ true = knows_true s c.args.old (proposal_of hs) c.requires.granted any in
     rw (p.1, p.2) (λ ne. refused_hold (freed_books s c.args.old) hs c.args.ipp c.in_err-holds.field-0.0 knows (c.in_err-holds.ensures.refused ne))
 
@@ -34,22 +37,26 @@ returns-in_err-ipp-clause-refused c =
     let s = c.args.store.now in
     let hs = c.args.holds.now in
     let first : proposal_of hs ≡ (get_or hs 0 c.index-holds-0.result).key.proposal = proposal_first hs c.index-holds-0.result c.requires.some in
-    let any : Any (λ (k : Key). k.proposal ≡ proposal_of hs) s.keys = subst (λ (p : List ℕ). Any (λ (k : Key). k.proposal ≡ p) s.keys) (sym first) (c.knows.ensures.known.0 c.if-not-knows.false) in
+    let any : Any (λ (k : Key). k.proposal ≡ proposal_of hs) s.keys = subst (λ (p : List ℕ). Any (λ (k : Key). k.proposal ≡ p) s.keys) (sym first)
+    (c.knows.ensures.known.0 c.if-not-knows.false) in
     let knows : knows_proposal (freed_books s c.args.old).entries (proposal_of hs) ≡ true = knows_true s c.args.old (proposal_of hs) c.requires.granted any in
     rw (p.1, p.2) (λ ne.
     let refused = c.in_err-ipp.ensures.refused ne in
     asked_ipp (freed_books s c.args.old) hs c.args.ipp (Some c.in_err-ipp.field-0.0) knows c.in_ok-holds.ensures.given refused.0
-    (subst (λ (q : List ℕ). refusal_at (freed_books s c.args.old) record { key = ipp_key q; seconds = c.args.ipp } ≡ Some c.in_err-ipp.field-0.0) (sym first) refused.1))
+    (subst (λ (q : List ℕ). refusal_at (freed_books s c.args.old) record { key = ipp_key q; seconds = c.args.ipp } ≡ Some c.in_err-ipp.field-0.0)
+    (sym first) refused.1))
 
 pub returns-clause-given : goal.returns-clause-given
 returns-clause-given c =
     let s = c.args.store.now in
     let hs = c.args.holds.now in
     let first : proposal_of hs ≡ (get_or hs 0 c.index-holds-0.result).key.proposal = proposal_first hs c.index-holds-0.result c.requires.some in
-    let any : Any (λ (k : Key). k.proposal ≡ proposal_of hs) s.keys = subst (λ (p : List ℕ). Any (λ (k : Key). k.proposal ≡ p) s.keys) (sym first) (c.knows.ensures.known.0 c.if-not-knows.false) in
+    let any : Any (λ (k : Key). k.proposal ≡ proposal_of hs) s.keys = subst (λ (p : List ℕ). Any (λ (k : Key). k.proposal ≡ p) s.keys) (sym first)
+    (c.knows.ensures.known.0 c.if-not-knows.false) in
     let knows : knows_proposal (freed_books s c.args.old).entries (proposal_of hs) ≡ true = knows_true s c.args.old (proposal_of hs) c.requires.granted any in
     ⊎_elim
     (λ (l : 0 < c.args.ipp). asked_ipp (freed_books s c.args.old) hs c.args.ipp None knows c.in_ok-holds.ensures.given l
-    (subst (λ (q : List ℕ). refusal_at (freed_books s c.args.old) record { key = ipp_key q; seconds = c.args.ipp } ≡ None) (sym first) (c.in_ok-ipp.ensures.given l)))
+    (subst (λ (q : List ℕ). refusal_at (freed_books s c.args.old) record { key = ipp_key q; seconds = c.args.ipp } ≡ None) (sym first)
+    (c.in_ok-ipp.ensures.given l)))
     (λ (l : c.args.ipp ≤ 0). asked_none (freed_books s c.args.old) hs c.args.ipp knows c.in_ok-holds.ensures.given l)
     (cases_lt 0 c.args.ipp)

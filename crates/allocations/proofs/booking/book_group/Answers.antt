@@ -9,5 +9,6 @@ returns-in-Some c =
     let keys : c.open_group-index.new.store.keys ≡ c.args.store.now.keys = ap (λ (s : StoreSeen). s.keys) opened.rest in
     let listed : c.open_group-index.new.store.listed ≡ c.args.store.now.listed = ap (λ (s : StoreSeen). s.listed) opened.rest in
     let postings : c.open_group-index.new.store.postings ≡ c.args.store.now.postings = ap (λ (s : StoreSeen). s.postings) opened.rest in
-    let groups = laid_charged c.args.store.now.groups c.open_group-index.new.store.groups c.args.group c.open_group-index.result c.args.booking.holds c.in-Some.amount opened.within opened.state opened.puts in
+    let groups = laid_charged c.args.store.now.groups c.open_group-index.new.store.groups c.args.group c.open_group-index.result c.args.booking.holds
+    c.in-Some.amount opened.within opened.state opened.puts in
     rw (c.post.ensures.posted, c.set_ipp.ensures.changed, c.book.ensures, c.in-Some.is, groups, keys, listed, postings) refl

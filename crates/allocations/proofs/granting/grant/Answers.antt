@@ -36,17 +36,22 @@ pub returns-clause-granted : goal.returns-clause-granted
 returns-clause-granted c =
     let books = returns-clause-books c in
     let before : store_books c.reserve.new.self ≡ store_books c.args.store.now = ap store_books c.reserve.ensures.rest in
-    let entries : (store_books c.post.new.self).entries ≡ (store_books c.args.store.now).entries ++ grant_entry c.args.key.now c.args.seconds ∷ [] = ap (λ (b : Books). b.entries) books in
+    let entries : (store_books c.post.new.self).entries ≡ (store_books c.args.store.now).entries ++ grant_entry c.args.key.now c.args.seconds ∷ [] =
+    ap (λ (b : Books). b.entries) books in
     let keys : c.post.new.self.keys ≡ c.account_for.new.store.keys = ap (λ (s : StoreSeen). s.keys) c.post.ensures.posted in
     let es : List Entry = (store_books c.args.store.now).entries in
     let key : Key = c.args.key.now in
-    let all : All (λ (k : Key). (has_grant es k ≡ true) ⊎ (k ≡ key)) c.account_for.new.store.keys = subst (λ (b : Books). All (λ (k : Key). (has_grant b.entries k ≡ true) ⊎ (k ≡ key)) c.account_for.new.store.keys) before c.in_ok-account.ensures.granted in
-    granted_more c.post.new.self es key c.args.seconds entries (subst (λ (ks : List Key). All (λ (k : Key). (has_grant es k ≡ true) ⊎ (k ≡ key)) ks) (sym keys) all)
+    let all : All (λ (k : Key). (has_grant es k ≡ true) ⊎ (k ≡ key)) c.account_for.new.store.keys =
+    subst (λ (b : Books). All (λ (k : Key). (has_grant b.entries k ≡ true) ⊎ (k ≡ key)) c.account_for.new.store.keys) before
+    c.in_ok-account.ensures.granted in
+    granted_more c.post.new.self es key c.args.seconds entries
+    (subst (λ (ks : List Key). All (λ (k : Key). (has_grant es k ≡ true) ⊎ (k ≡ key)) ks) (sym keys) all)
 
 pub returns-clause-listed : goal.returns-clause-listed
 returns-clause-listed c =
     let books = returns-clause-books c in
-    let entries : (store_books c.post.new.self).entries ≡ (store_books c.args.store.now).entries ++ grant_entry c.args.key.now c.args.seconds ∷ [] = ap (λ (b : Books). b.entries) books in
+    let entries : (store_books c.post.new.self).entries ≡ (store_books c.args.store.now).entries ++ grant_entry c.args.key.now c.args.seconds ∷ [] =
+    ap (λ (b : Books). b.entries) books in
     let es : List Entry = (store_books c.args.store.now).entries in
     ap (λ (s : StoreSeen). s.listed) c.post.ensures.posted ∙ c.in_ok-account.ensures.listed
     ∙ ap (λ (s : StoreSeen). insert_key key_cmp s.listed c.args.key.now) c.reserve.ensures.rest

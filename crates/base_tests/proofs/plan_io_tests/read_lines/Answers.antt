@@ -18,9 +18,11 @@ loop-reader-preserved g c =
     let fresh : IsFresh start = search rules in
     let next = subst (IsNext c.loop-reader.reader b c.next.new.self after) c.in-Line.is c.in_ok-ending.ensures.next in
     let pushed : c.loop-reader.lines.items ++ line ∷ [] ≡ c.push.new.self.items = search rules in
-    let stays : c.loop-reader.reader.ended ≡ true → IsFresh c.loop-reader.reader → Line line ≡ End = λ e f. sym c.in-Line.is ∙ (c.in_ok-ending.ensures.stays_ended e f).1.0 in
+    let stays : c.loop-reader.reader.ended ≡ true → IsFresh c.loop-reader.reader → Line line ≡ End = λ e f. sym c.in-Line.is
+    ∙ (c.in_ok-ending.ensures.stays_ended e f).1.0 in
     record {
-      so_far = subst (λ (ls : List ScriptLine). HasAnswered start a ls c.next.new.self after) pushed (so_far_line start c.loop-reader.reader c.next.new.self a b after c.loop-reader.lines.items line fresh was.so_far next stays);
+      so_far = subst (λ (ls : List ScriptLine). HasAnswered start a ls c.next.new.self after) pushed
+          (so_far_line start c.loop-reader.reader c.next.new.self a b after c.loop-reader.lines.items line fresh was.so_far next stays);
       bytes = next.1;
       lines = next.2;
     }
@@ -41,6 +43,7 @@ returns-in_default g c =
     let stays : c.loop-reader.reader.ended ≡ true → IsFresh c.loop-reader.reader → (after ≡ b) × (ending ≡ End) =
     λ e f. let same = c.in_ok-ending.ensures.stays_ended e f in (ap (g.S.Source.left) same.0, same.1.0) in
     let read : ReadsAll start.most_bytes start.most_lines a c.loop-reader.lines.items ending after =
-    so_far_ends start c.loop-reader.reader c.next.new.self a b after c.loop-reader.lines.items ending fresh zero none was.bytes was.lines was.so_far c.in_ok-ending.ensures.next stays c.in_default.not-Line in
+    so_far_ends start c.loop-reader.reader c.next.new.self a b after c.loop-reader.lines.items ending fresh zero none was.bytes was.lines was.so_far
+    c.in_ok-ending.ensures.next stays c.in_default.not-Line in
     subst (λ (n : ℕ). ReadsAll n c.args.most_lines a c.loop-reader.lines.items ending after) bytes
     (subst (λ (n : ℕ). ReadsAll start.most_bytes n a c.loop-reader.lines.items ending after) lines read)

@@ -17,10 +17,15 @@ fill_table-requires-clause-rows c =
 
 pub fill_table-requires-clause-fit : goal.fill_table-requires-clause-fit
 fill_table-requires-clause-fit c =
-    subst (λ (xs : List (List Start)). DoRowsFit xs) (sym c.as_slice.ensures.value) (rows_fit c.args.snapshot.now c.args.prices.now.0 c.args.telescope.0 c.in_ok-rows.rows.items c.recall_valid.ensures.orderly c.requires.range c.in_ok-rows.ensures)
+    subst (λ (xs : List (List Start)). DoRowsFit xs) (sym c.as_slice.ensures.value)
+    (rows_fit c.args.snapshot.now c.args.prices.now.0 c.args.telescope.0 c.in_ok-rows.rows.items c.recall_valid.ensures.orderly
+    c.requires.range c.in_ok-rows.ensures)
 
 pub returns : goal.returns
 returns c =
     let fit : SFits w64 c.fill_table.result = search rules in
-    subst (λ (b : ℤ). IsBest c.args.snapshot.now c.args.prices.now.0 c.args.telescope.0 c.args.snapshot.now.first.0 b) (sym (to_z-of_z w64 c.fill_table.result fit ∙ c.fill_table.ensures.first))
-    (first_best c.args.snapshot.now c.args.prices.now.0 c.args.telescope.0 c.in_ok-rows.rows.items c.recall_valid.ensures.orderly c.requires.range c.in_ok-rows.ensures c.fill_table.new.table (subst (λ (xs : List (List Start)). IsRecursion xs c.fill_table.new.table) c.as_slice.ensures.value c.fill_table.ensures.recursion))
+    subst (λ (b : ℤ). IsBest c.args.snapshot.now c.args.prices.now.0 c.args.telescope.0 c.args.snapshot.now.first.0 b)
+    (sym (to_z-of_z w64 c.fill_table.result fit ∙ c.fill_table.ensures.first))
+    (first_best c.args.snapshot.now c.args.prices.now.0 c.args.telescope.0 c.in_ok-rows.rows.items c.recall_valid.ensures.orderly c.requires.range
+    c.in_ok-rows.ensures c.fill_table.new.table
+    (subst (λ (xs : List (List Start)). IsRecursion xs c.fill_table.new.table) c.as_slice.ensures.value c.fill_table.ensures.recursion))

@@ -15,7 +15,9 @@ pub overflow_add-index_mut : goal.overflow_add-index_mut
 overflow_add-index_mut c =
     let s = c.args.snapshot.now in
     let g : ℕ = c.known_group-group.result in
-    let read : c.index_mut.result.now ≡ slice_index_or c.loop-placement.counts.items g 0 = count_read c.loop-placement.counts.items g c.index_mut.result.now _ c.loop-placement.invariant.groups c.known_group-group.ensures.within c.index_mut.ensures.value in
+    let read : c.index_mut.result.now ≡ slice_index_or c.loop-placement.counts.items g 0 =
+    count_read c.loop-placement.counts.items g c.index_mut.result.now _ c.loop-placement.invariant.groups c.known_group-group.ensures.within
+    c.index_mut.ensures.value in
     let told = c.loop-placement.invariant.each g in
     let most = count_by-le-length (λ p. group_of s p.request.0 == g) (take c.loop-placement.placement-index c.args.plan.now) in
     let part = length-take c.loop-placement.placement-index c.args.plan.now in
@@ -23,9 +25,11 @@ overflow_add-index_mut c =
 
 pub loop-placement-preserved : goal.loop-placement-preserved
 loop-placement-preserved c =
-    counts_more c.args.snapshot.now c.args.plan.now c.loop-placement.placement-index c.known_group-group.result c.index_mut.result.now c.loop-placement.counts.items c.loop-placement-test.true c.known_group-group.ensures.value
+    counts_more c.args.snapshot.now c.args.plan.now c.loop-placement.placement-index c.known_group-group.result c.index_mut.result.now
+    c.loop-placement.counts.items c.loop-placement-test.true c.known_group-group.ensures.value
     c.known_group-group.ensures.within
-    (count_read c.loop-placement.counts.items c.known_group-group.result c.index_mut.result.now _ c.loop-placement.invariant.groups c.known_group-group.ensures.within c.index_mut.ensures.value) c.loop-placement.invariant
+    (count_read c.loop-placement.counts.items c.known_group-group.result c.index_mut.result.now _ c.loop-placement.invariant.groups
+    c.known_group-group.ensures.within c.index_mut.ensures.value) c.loop-placement.invariant
 
 pub loop-placement-init : goal.loop-placement-init
 loop-placement-init c = grind (arith, common_steps)

@@ -13,4 +13,5 @@ returns-then-not-is_known c =
 
 pub loop-index-preserved : goal.loop-index-preserved
 loop-index-preserved c = AllWithin-more (λ p. IsKnown c.args.snapshot.now p.request.0) c.args.plan.now 0 c.loop-index.index c.loop-index.invariant
-    (λ d. subst (λ (p : Placement). IsKnown c.args.snapshot.now p.request.0) (get_or_default c.args.plan.now c.loop-index.index _ d (omega arith)) (c.is_known.ensures.0 c.if-not-is_known.false))
+    (λ d. subst (λ (p : Placement). IsKnown c.args.snapshot.now p.request.0) (get_or_default c.args.plan.now c.loop-index.index _ d (omega arith))
+    (c.is_known.ensures.0 c.if-not-is_known.false))

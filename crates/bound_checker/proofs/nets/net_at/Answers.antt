@@ -10,12 +10,15 @@ use mir.Val.{SFits}
 
 range_is : (c : After-cost_of) → IsNetInRange (slice_index_or c.args.nets.now.prices.now c.args.place (pos 0) -ℤ c.cost_of.result)
 range_is c =
-    subst (λ (z : ℤ). IsNetInRange (slice_index_or c.args.nets.now.prices.now c.args.place (pos 0) -ℤ z)) (sym c.cost_of.ensures) (net_range c.args.nets.now c.args.place c.index-nets-place.result c.requires.valid c.requires.place)
+    subst (λ (z : ℤ). IsNetInRange (slice_index_or c.args.nets.now.prices.now c.args.place (pos 0) -ℤ z)) (sym c.cost_of.ensures)
+    (net_range c.args.nets.now c.args.place c.index-nets-place.result c.requires.valid c.requires.place)
 
-value_is : (c : After-cost_of) → (slice_index_or c.args.nets.now.prices.now c.args.place (pos 0) -ℤ c.cost_of.result) ≡ slice_index_or (net_list c.args.nets.now) c.args.place (pos 0)
+value_is : (c : After-cost_of) → (slice_index_or c.args.nets.now.prices.now c.args.place (pos 0) -ℤ c.cost_of.result)
+    ≡ slice_index_or (net_list c.args.nets.now) c.args.place (pos 0)
 value_is c =
     ap (λ (z : ℤ). slice_index_or c.args.nets.now.prices.now c.args.place (pos 0) -ℤ z) c.cost_of.ensures
-    ∙ sym (nets_get c.args.nets.now.quota_price c.args.nets.now.requests.now c.args.nets.now.prices.now c.args.place c.index-nets-place.result c.requires.valid.count c.requires.place)
+    ∙ sym (nets_get c.args.nets.now.quota_price c.args.nets.now.requests.now c.args.nets.now.prices.now c.args.place c.index-nets-place.result
+    c.requires.valid.count c.requires.place)
 
 pub overflow_sub-result : goal.overflow_sub-result
 overflow_sub-result c =

@@ -11,14 +11,17 @@ use mir.Val.{SFits}
 
 pub loop-place-preserved : goal.loop-place-preserved
 loop-place-preserved c =
-    let count : length (net_list c.args.nets.now) ≡ length c.args.nets.now.requests.now = nets_length c.args.nets.now.quota_price c.args.nets.now.requests.now c.args.nets.now.prices.now c.requires.count in
+    let count : length (net_list c.args.nets.now) ≡ length c.args.nets.now.requests.now =
+    nets_length c.args.nets.now.quota_price c.args.nets.now.requests.now c.args.nets.now.prices.now c.requires.count in
     let fit : SFits w64 c.net_at.result = search rules in
     let net : IsNetInRange c.net_at.result = c.net_at.ensures.range in
     let gives : c.positive.result ≡ positive c.net_at.result = simp to_z-of_z at c.positive.ensures in
     let range : IsNetInRange (positive c.net_at.result) = positive_in_range c.net_at.result net in
     let value : c.net_at.result ≡ slice_index_or (net_list c.args.nets.now) c.loop-place.place (pos 0) = c.net_at.ensures.value in
     let same : positive c.net_at.result ≡ positive (slice_index_or (net_list c.args.nets.now) c.loop-place.place (pos 0)) = ap positive value in
-    let step : total positive (drop c.loop-place.place (net_list c.args.nets.now)) ≡ positive (slice_index_or (net_list c.args.nets.now) c.loop-place.place (pos 0)) +ℤ total positive (drop (c.loop-place.place + 1) (net_list c.args.nets.now))
+    let step : total positive (drop c.loop-place.place (net_list c.args.nets.now))
+    ≡ positive (slice_index_or (net_list c.args.nets.now) c.loop-place.place (pos 0)) +ℤ total positive
+    (drop (c.loop-place.place + 1) (net_list c.args.nets.now))
     = at_drop_more (total positive) (net_list c.args.nets.now) c.loop-place.place (pos 0) (omega arith)
     in
     let few : length c.args.nets.now.requests.now ≤ 256 = c.requires.few in
@@ -28,7 +31,9 @@ loop-place-preserved c =
 
 pub returns : goal.returns
 returns c =
-    let count : length (net_list c.args.nets.now) ≡ length c.args.nets.now.requests.now = nets_length c.args.nets.now.quota_price c.args.nets.now.requests.now c.args.nets.now.prices.now c.requires.count in
-    let all : c.loop-place.sum.value ≡ positive_sum (net_list c.args.nets.now) = grown_all positive (net_list c.args.nets.now) c.loop-place.place c.loop-place.sum.value (omega arith) c.loop-place.invariant in
+    let count : length (net_list c.args.nets.now) ≡ length c.args.nets.now.requests.now =
+    nets_length c.args.nets.now.quota_price c.args.nets.now.requests.now c.args.nets.now.prices.now c.requires.count in
+    let all : c.loop-place.sum.value ≡ positive_sum (net_list c.args.nets.now) =
+    grown_all positive (net_list c.args.nets.now) c.loop-place.place c.loop-place.sum.value (omega arith) c.loop-place.invariant in
     let few : length c.args.nets.now.requests.now ≤ 256 = c.requires.few in
     omega (arith, ints)

@@ -13,6 +13,8 @@ returns-then-not-is_visible c = (
 
 pub loop-target-preserved : goal.loop-target-preserved
 loop-target-preserved c =
-    AllWithin-more (λ (target : TargetNo). IsVisibleThrough c.args.parts.now target.0 c.args.site.0 c.args.observed.from.0 c.args.observed.to.0) c.args.targets.now 0 c.loop-target.target-index c.loop-target.invariant
-    (λ d. subst (λ (target : TargetNo). IsVisibleThrough c.args.parts.now target.0 c.args.site.0 c.args.observed.from.0 c.args.observed.to.0) (get_or_default c.args.targets.now c.loop-target.target-index _ d c.loop-target-test.true)
+    AllWithin-more (λ (target : TargetNo). IsVisibleThrough c.args.parts.now target.0 c.args.site.0 c.args.observed.from.0 c.args.observed.to.0)
+    c.args.targets.now 0 c.loop-target.target-index c.loop-target.invariant
+    (λ d. subst (λ (target : TargetNo). IsVisibleThrough c.args.parts.now target.0 c.args.site.0 c.args.observed.from.0 c.args.observed.to.0)
+    (get_or_default c.args.targets.now c.loop-target.target-index _ d c.loop-target-test.true)
     (c.is_visible.ensures.0 c.if-not-is_visible.false))

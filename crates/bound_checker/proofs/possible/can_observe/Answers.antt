@@ -21,7 +21,8 @@ returns c =
     let t : ℕ = c.args.telescope.0 in
     let part : TelescopePart = c.index-as_slice-from.result in
     let at : part ≡ slice_index_or s.telescopes t part
-    = c.index-as_slice-from.is ∙ ap (λ (ys : List TelescopePart). slice_index_or ys c.from.result part) c.as_slice.ensures ∙ ap (λ (k : ℕ). slice_index_or s.telescopes k part) c.from.ensures
+    = c.index-as_slice-from.is ∙ ap (λ (ys : List TelescopePart). slice_index_or ys c.from.result part) c.as_slice.ensures
+    ∙ ap (λ (k : ℕ). slice_index_or s.telescopes k part) c.from.ensures
     in
     let looks : LooksAt s q t part c.as_slice-2.result.now c.as_slice-3.result.now c.as_slice-4.result.now = record {
       windows_are = c.as_slice-2.ensures;
@@ -31,9 +32,11 @@ returns c =
       targets_are = c.as_slice-4.ensures;
     } in (
       λ yes.
-          observe_when s q t part c.as_slice-2.result.now c.as_slice-3.result.now c.as_slice-4.result.now c.args.observed.from.0 c.args.observed.to.0 looks (c.has_all.ensures.0 c.if-not-has_all.false)
+          observe_when s q t part c.as_slice-2.result.now c.as_slice-3.result.now c.as_slice-4.result.now c.args.observed.from.0 c.args.observed.to.0
+          looks (c.has_all.ensures.0 c.if-not-has_all.false)
           (c.has_all_sorted.ensures.0 c.if-not-has_all_sorted.false) (c.are_visible.ensures.0 yes),
-      λ h. c.are_visible.ensures.1 (visible_when s q t part c.as_slice-2.result.now c.as_slice-3.result.now c.as_slice-4.result.now c.args.observed.from.0 c.args.observed.to.0 looks h),
+      λ h. c.are_visible.ensures.1 (visible_when s q t part c.as_slice-2.result.now c.as_slice-3.result.now c.as_slice-4.result.now
+          c.args.observed.from.0 c.args.observed.to.0 looks h),
     )
 
 pub returns-then-not-has_all_sorted : goal.returns-then-not-has_all_sorted

@@ -24,9 +24,14 @@ returns-in-Some c =
         c.in-Some.span.now,
         lookup.3.0,
         sym lookup.1,
-        (begun _ _ _ c.le.ensures yes, subst (λ (w : Span). b ≤ w.to.0) (sym lookup.1) (c.first_to.ensures.1 c.first_to.result c.in-Some.span.now (omega arith) lookup.3.0)),
+        (
+          begun _ _ _ c.le.ensures yes,
+          subst (λ (w : Span). b ≤ w.to.0) (sym lookup.1)
+              (c.first_to.ensures.1 c.first_to.result c.in-Some.span.now (omega arith) lookup.3.0),
+        ),
       ),
-      λ has. begins _ _ _ c.le.ensures (first_has_all c.args.spans.now a b c.first_to.result c.in-Some.span.now c.requires c.first_to.ensures lookup.3.0 lookup.1 has),
+      λ has. begins _ _ _ c.le.ensures
+          (first_has_all c.args.spans.now a b c.first_to.result c.in-Some.span.now c.requires c.first_to.ensures lookup.3.0 lookup.1 has),
     )
 
 pub returns-in-None : goal.returns-in-None

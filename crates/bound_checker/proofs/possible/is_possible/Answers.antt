@@ -13,7 +13,8 @@ use Rattle.bound_checker.proofs.possible.is_possible.Goals as goal
 pub can_observe-requires-clause-telescope : goal.can_observe-requires-clause-telescope
 can_observe-requires-clause-telescope c =
     subst (λ (s : Parts). c.args.placement.telescope.0 < length s.telescopes) (sym c.parts-parts.ensures.value)
-    (All-contains (λ t. t.0 < length c.args.snapshot.now.telescopes) c.request_of-request.result.now.telescopes c.args.placement.telescope c.request_of-request.ensures.ranges.telescopes (c.is_able.ensures.0 c.if-not-is_able.false))
+    (All-contains (λ t. t.0 < length c.args.snapshot.now.telescopes) c.request_of-request.result.now.telescopes c.args.placement.telescope
+    c.request_of-request.ensures.ranges.telescopes (c.is_able.ensures.0 c.if-not-is_able.false))
 
 pub returns : goal.returns
 returns c =
@@ -26,7 +27,8 @@ returns c =
     let from : a ≡ p.slice.0 * s.len = subst (λ (x : Parts). a ≡ p.slice.0 * x.len) same c.observed_span-observed.ensures.from in
     let to : b ≡ p.slice.0 * s.len + q.seconds = subst (λ (x : Parts). b ≡ p.slice.0 * x.len + q.seconds) same c.observed_span-observed.ensures.to in
     let horizon : (s.first.0 ≤ p.slice.0) × (p.slice.0 + slices_for s.len q.seconds ≤ s.first.0 + s.slices)
-    = subst (λ (x : Parts). (x.first.0 ≤ p.slice.0) × (p.slice.0 + slices_for x.len q.seconds ≤ x.first.0 + x.slices)) same (c.is_within_horizon.ensures.0 c.if-not-is_within_horizon.false)
+    = subst (λ (x : Parts). (x.first.0 ≤ p.slice.0) × (p.slice.0 + slices_for x.len q.seconds ≤ x.first.0 + x.slices)) same
+    (c.is_within_horizon.ensures.0 c.if-not-is_within_horizon.false)
     in (
       λ yes. possible_from_tests s p q a b c.requires c.request_of-request.ensures.is from to record {
         able = c.is_able.ensures.0 c.if-not-is_able.false;
@@ -34,14 +36,17 @@ returns c =
         ends = horizon.1;
         observed = subst (λ (x : Parts). CanObserve x q p.telescope.0 a b) same (c.can_observe.ensures.0 yes);
       },
-      λ possible. c.can_observe.ensures.1 (subst (λ (x : Parts). CanObserve x q p.telescope.0 a b) (sym same) (tests_from_possible s p q a b c.requires c.request_of-request.ensures.is from to c.parts-parts.ensures.orderly possible).observed),
+      λ possible. c.can_observe.ensures.1
+          (subst (λ (x : Parts). CanObserve x q p.telescope.0 a b) (sym same)
+          (tests_from_possible s p q a b c.requires c.request_of-request.ensures.is from to c.parts-parts.ensures.orderly possible).observed),
     )
 
 pub returns-then-not-is_able : goal.returns-then-not-is_able
 returns-then-not-is_able c = (
   λ yes. absurd (cc),
   λ possible.
-      let able : Contains c.request_of-request.result.now.telescopes c.args.placement.telescope = subst (λ (ts : List TelescopeNo). Contains ts c.args.placement.telescope) c.request_of-request.ensures.is.telescopes possible.able in
+      let able : Contains c.request_of-request.result.now.telescopes c.args.placement.telescope =
+      subst (λ (ts : List TelescopeNo). Contains ts c.args.placement.telescope) c.request_of-request.ensures.is.telescopes possible.able in
       sym c.if-not-is_able.true ∙ c.is_able.ensures.1 able,
 )
 
@@ -52,6 +57,10 @@ returns-then-not-is_within_horizon c = (
       let s : Parts = c.args.snapshot.now in
       let p : Placement = c.args.placement in
       let q : RequestPart = c.request_of-request.result.now in
-      let ends : p.slice.0 + slices_for s.len q.seconds ≤ s.first.0 + s.slices = subst (λ (n : ℕ). p.slice.0 + slices_for s.len n ≤ s.first.0 + s.slices) c.request_of-request.ensures.is.seconds possible.ends in
-      sym c.if-not-is_within_horizon.true ∙ c.is_within_horizon.ensures.1 (subst (λ (x : Parts). (x.first.0 ≤ p.slice.0) × (p.slice.0 + slices_for x.len q.seconds ≤ x.first.0 + x.slices)) (sym c.parts-parts.ensures.value) (possible.begins, ends)),
+      let ends : p.slice.0 + slices_for s.len q.seconds ≤ s.first.0 + s.slices =
+      subst (λ (n : ℕ). p.slice.0 + slices_for s.len n ≤ s.first.0 + s.slices) c.request_of-request.ensures.is.seconds possible.ends in
+      sym c.if-not-is_within_horizon.true
+      ∙ c.is_within_horizon.ensures.1
+      (subst (λ (x : Parts). (x.first.0 ≤ p.slice.0) × (p.slice.0 + slices_for x.len q.seconds ≤ x.first.0 + x.slices))
+      (sym c.parts-parts.ensures.value) (possible.begins, ends)),
 )

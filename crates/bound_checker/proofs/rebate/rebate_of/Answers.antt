@@ -20,26 +20,33 @@ returns-in-Single c =
       | inr e ↦ inr (kind_read c.args.snapshot.now _ c.args.group _ Many groups c.requires.group e)
     ]
     in
-    subst (λ (b : ℤ). IsRebate c.args.snapshot.now (net_price c.args.snapshot.now c.args.prices.now.0 c.args.quota_prices.now.0) c.args.group b) (sym (to_z-of_z w64 c.positive_sum.result fit ∙ c.positive_sum.ensures ∙ ap positive_sum c.nets_of-nets.ensures.value))
+    subst (λ (b : ℤ). IsRebate c.args.snapshot.now (net_price c.args.snapshot.now c.args.prices.now.0 c.args.quota_prices.now.0) c.args.group b)
+    (sym (to_z-of_z w64 c.positive_sum.result fit ∙ c.positive_sum.ensures ∙ ap positive_sum c.nets_of-nets.ensures.value))
     (rebate_any c.args.snapshot.now (net_price c.args.snapshot.now c.args.prices.now.0 c.args.quota_prices.now.0) c.args.group c.parts.ensures.orderly kind)
 
 pub returns-in-OneOf : goal.returns-in-OneOf
 returns-in-OneOf c =
     let groups = c.as_slice.ensures ∙ ap (λ (s : Parts). s.groups) c.parts.ensures.value in
     let fit : SFits w64 c.greatest_net.result = search rules in
-    let greatest : IsGreatestPrice (map (net_price c.args.snapshot.now c.args.prices.now.0 c.args.quota_prices.now.0) (members c.args.snapshot.now c.args.group)) c.greatest_net.result
+    let greatest : IsGreatestPrice (map (net_price c.args.snapshot.now c.args.prices.now.0 c.args.quota_prices.now.0)
+    (members c.args.snapshot.now c.args.group)) c.greatest_net.result
     = subst (λ (cs : List ℤ). IsGreatestPrice cs c.greatest_net.result) c.nets_of-nets.ensures.value c.greatest_net.ensures
     in
-    subst (λ (b : ℤ). IsRebate c.args.snapshot.now (net_price c.args.snapshot.now c.args.prices.now.0 c.args.quota_prices.now.0) c.args.group b) (sym (to_z-of_z w64 c.greatest_net.result fit))
-    (rebate_one c.args.snapshot.now (net_price c.args.snapshot.now c.args.prices.now.0 c.args.quota_prices.now.0) c.args.group c.greatest_net.result c.parts.ensures.orderly (kind_read c.args.snapshot.now _ c.args.group _ OneOf groups c.requires.group c.in-OneOf.is) greatest)
+    subst (λ (b : ℤ). IsRebate c.args.snapshot.now (net_price c.args.snapshot.now c.args.prices.now.0 c.args.quota_prices.now.0) c.args.group b)
+    (sym (to_z-of_z w64 c.greatest_net.result fit))
+    (rebate_one c.args.snapshot.now (net_price c.args.snapshot.now c.args.prices.now.0 c.args.quota_prices.now.0) c.args.group c.greatest_net.result
+    c.parts.ensures.orderly (kind_read c.args.snapshot.now _ c.args.group _ OneOf groups c.requires.group c.in-OneOf.is) greatest)
 
 pub returns-in-And : goal.returns-in-And
 returns-in-And c =
     let groups = c.as_slice.ensures ∙ ap (λ (s : Parts). s.groups) c.parts.ensures.value in
     let fit : SFits w64 c.positive.result = search rules in
     let fit_sum : SFits w64 c.net_sum.result = search rules in
-    let is : c.positive.result ≡ positive (price_sum (map (net_price c.args.snapshot.now c.args.prices.now.0 c.args.quota_prices.now.0) (members c.args.snapshot.now c.args.group)))
+    let is : c.positive.result ≡ positive
+    (price_sum (map (net_price c.args.snapshot.now c.args.prices.now.0 c.args.quota_prices.now.0) (members c.args.snapshot.now c.args.group)))
     = c.positive.ensures ∙ ap positive (to_z-of_z w64 c.net_sum.result fit_sum ∙ c.net_sum.ensures ∙ ap price_sum c.nets_of-nets.ensures.value)
     in
-    subst (λ (b : ℤ). IsRebate c.args.snapshot.now (net_price c.args.snapshot.now c.args.prices.now.0 c.args.quota_prices.now.0) c.args.group b) (sym (to_z-of_z w64 c.positive.result fit ∙ is))
-    (rebate_and c.args.snapshot.now (net_price c.args.snapshot.now c.args.prices.now.0 c.args.quota_prices.now.0) c.args.group c.parts.ensures.orderly (kind_read c.args.snapshot.now _ c.args.group _ And groups c.requires.group c.in-And.is))
+    subst (λ (b : ℤ). IsRebate c.args.snapshot.now (net_price c.args.snapshot.now c.args.prices.now.0 c.args.quota_prices.now.0) c.args.group b)
+    (sym (to_z-of_z w64 c.positive.result fit ∙ is))
+    (rebate_and c.args.snapshot.now (net_price c.args.snapshot.now c.args.prices.now.0 c.args.quota_prices.now.0) c.args.group c.parts.ensures.orderly
+    (kind_read c.args.snapshot.now _ c.args.group _ And groups c.requires.group c.in-And.is))

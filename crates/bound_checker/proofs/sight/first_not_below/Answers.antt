@@ -6,4 +6,5 @@ use Rattle.bound_checker.proofs.sight.first_not_below.Goals as goal
 
 pub returns : goal.returns
 returns c =
-    IsPartitionPoint-from_clause (λ y. is_below c.args.target.0 c.args.site.0 y) c.args.skies.now _ c.partition_point.ensures.partitioned (partitioned c.args.target.0 c.args.site.0 c.args.skies.now c.requires) (λ a r f q. search rules)
+    IsPartitionPoint-from_clause (λ y. is_below c.args.target.0 c.args.site.0 y) c.args.skies.now _ c.partition_point.ensures.partitioned
+    (partitioned c.args.target.0 c.args.site.0 c.args.skies.now c.requires) (λ a r f q. search rules)

@@ -12,5 +12,6 @@ not_below a b h = grind (arith, nat_tests)
 
 pub returns : goal.returns
 returns c =
-    let point = IsPartitionPoint-from_clause (λ w. ltb w.to.0 c.args.end) c.args.spans.now _ c.partition_point.ensures.partitioned (IsPartitionedBy-ltb (λ w. w.to.0) c.args.spans.now c.args.end (ends_rise c.args.spans.now c.requires)) (λ a r f q. search rules) in
+    let point = IsPartitionPoint-from_clause (λ w. ltb w.to.0 c.args.end) c.args.spans.now _ c.partition_point.ensures.partitioned
+    (IsPartitionedBy-ltb (λ w. w.to.0) c.args.spans.now c.args.end (ends_rise c.args.spans.now c.requires)) (λ a r f q. search rules) in
     (λ k d from to. below _ _ (point.0 k d from to), λ k d from to. not_below _ _ (point.1 k d from to))

@@ -9,6 +9,7 @@ loop-placement-preserved c =
     let s = c.args.snapshot.now in
     let plan = c.args.plan.now in
     let i = c.loop-placement.placement-index in
-    let more : value_of_plan s (take (i + 1) plan) ≡ value_of_plan s (take i plan) + worth_at s (placed_at plan i) = sum_by_more (worth_at s) plan i _ c.loop-placement-test.true in
+    let more : value_of_plan s (take (i + 1) plan) ≡ value_of_plan s (take i plan) + worth_at s (placed_at plan i) =
+    sum_by_more (worth_at s) plan i _ c.loop-placement-test.true in
     let worth : c.worth_of-value.result ≡ worth_at s (placed_at plan i) = c.worth_of-value.ensures.value in
     (omega arith, omega arith)

@@ -16,9 +16,11 @@ returns-in-Some c =
     let here : groups ≡ s.groups = c.as_slice-groups.ensures ∙ ap (λ (x : Parts). x.groups) c.parts.ensures.value in
     let are : AreGroupCounts s plan counts = subst (λ (xs : List Placement). AreGroupCounts s xs counts) c.as_slice.ensures c.in_ok-counts.ensures in
     let found : (c.in-Some.place < length groups) × IsFirst (HoldsOfGroup IsTwice groups counts) c.in-Some.place
-    = subst (λ (xs : List ℕ). (c.in-Some.place < length groups) × IsFirst (HoldsOfGroup IsTwice groups xs) c.in-Some.place) c.as_slice-2.ensures.value c.in-Some.ensures
+    = subst (λ (xs : List ℕ). (c.in-Some.place < length groups) × IsFirst (HoldsOfGroup IsTwice groups xs) c.in-Some.place)
+    c.as_slice-2.ensures.value c.in-Some.ensures
     in
-    twice_group_first s c.args.claim.now groups counts c.parts.ensures.orderly c.requires here are c.in-Some.place c.index-groups-place.result _ refl found.0 found.1
+    twice_group_first s c.args.claim.now groups counts c.parts.ensures.orderly c.requires here are c.in-Some.place
+    c.index-groups-place.result _ refl found.0 found.1
 
 pub returns-in-Some-first_and_partial : goal.returns-in-Some-first_and_partial
 returns-in-Some-first_and_partial c =
@@ -28,12 +30,15 @@ returns-in-Some-first_and_partial c =
     let counts = c.in_ok-counts.counts.items in
     let here : groups ≡ s.groups = c.as_slice-groups.ensures ∙ ap (λ (x : Parts). x.groups) c.parts.ensures.value in
     let are : AreGroupCounts s plan counts = subst (λ (xs : List Placement). AreGroupCounts s xs counts) c.as_slice.ensures c.in_ok-counts.ensures in
-    let none : (g : ℕ) → ¬ (HoldsOfGroup IsTwice groups counts g) = subst (λ (xs : List ℕ). (g : ℕ) → ¬ (HoldsOfGroup IsTwice groups xs g)) c.as_slice-2.ensures.value c.in_default.ensures in
+    let none : (g : ℕ) → ¬ (HoldsOfGroup IsTwice groups counts g) =
+    subst (λ (xs : List ℕ). (g : ℕ) → ¬ (HoldsOfGroup IsTwice groups xs g)) c.as_slice-2.ensures.value c.in_default.ensures in
     let place = c.in-Some-first_and_partial.place in
     let found : (place < length groups) × IsFirst (HoldsOfGroup IsPartial groups counts) place
-    = subst (λ (xs : List ℕ). (place < length groups) × IsFirst (HoldsOfGroup IsPartial groups xs) place) c.as_slice-3.ensures.value c.in-Some-first_and_partial.ensures
+    = subst (λ (xs : List ℕ). (place < length groups) × IsFirst (HoldsOfGroup IsPartial groups xs) place) c.as_slice-3.ensures.value
+    c.in-Some-first_and_partial.ensures
     in
-    partial_group_first s c.args.claim.now groups counts c.parts.ensures.orderly c.requires here are place c.index-groups-place-in-Some-first_and_partial.result _ refl found.0 none found.1
+    partial_group_first s c.args.claim.now groups counts c.parts.ensures.orderly c.requires here are place
+    c.index-groups-place-in-Some-first_and_partial.result _ refl found.0 none found.1
 
 pub returns : goal.returns
 returns c =
@@ -43,6 +48,8 @@ returns c =
     let counts = c.in_ok-counts.counts.items in
     let here : groups ≡ s.groups = c.as_slice-groups.ensures ∙ ap (λ (x : Parts). x.groups) c.parts.ensures.value in
     let are : AreGroupCounts s plan counts = subst (λ (xs : List Placement). AreGroupCounts s xs counts) c.as_slice.ensures c.in_ok-counts.ensures in
-    let none : (g : ℕ) → ¬ (HoldsOfGroup IsTwice groups counts g) = subst (λ (xs : List ℕ). (g : ℕ) → ¬ (HoldsOfGroup IsTwice groups xs g)) c.as_slice-2.ensures.value c.in_default.ensures in
-    let whole : (g : ℕ) → ¬ (HoldsOfGroup IsPartial groups counts g) = subst (λ (xs : List ℕ). (g : ℕ) → ¬ (HoldsOfGroup IsPartial groups xs g)) c.as_slice-3.ensures.value c.in_default-first_and_partial.ensures in
+    let none : (g : ℕ) → ¬ (HoldsOfGroup IsTwice groups counts g) =
+    subst (λ (xs : List ℕ). (g : ℕ) → ¬ (HoldsOfGroup IsTwice groups xs g)) c.as_slice-2.ensures.value c.in_default.ensures in
+    let whole : (g : ℕ) → ¬ (HoldsOfGroup IsPartial groups counts g) =
+    subst (λ (xs : List ℕ). (g : ℕ) → ¬ (HoldsOfGroup IsPartial groups xs g)) c.as_slice-3.ensures.value c.in_default-first_and_partial.ensures in
     kept_when s c.args.claim.now groups counts c.parts.ensures.orderly c.requires here are none whole

@@ -31,12 +31,15 @@ returns c =
     let quotas = c.as_slice-quotas.result.now in
     let sums = c.in_ok-sums.sums.items in
     let here : quotas ≡ s.quotas = c.as_slice-quotas.ensures ∙ ap (λ (x : Parts). x.quotas) c.parts.ensures.value in
-    let are : AreQuotaSums s c.args.claim.now.placements sums = subst (λ (xs : List Placement). AreQuotaSums s xs sums) c.as_slice.ensures c.in_ok-sums.ensures in
-    let found : IsFirst (IsOver quotas sums) c.in-Some.place = subst (λ (xs : List ℕ). IsFirst (IsOver quotas xs) c.in-Some.place) c.as_slice-2.ensures.value c.in-Some.ensures in
+    let are : AreQuotaSums s c.args.claim.now.placements sums =
+    subst (λ (xs : List Placement). AreQuotaSums s xs sums) c.as_slice.ensures c.in_ok-sums.ensures in
+    let found : IsFirst (IsOver quotas sums) c.in-Some.place =
+    subst (λ (xs : List ℕ). IsFirst (IsOver quotas xs) c.in-Some.place) c.as_slice-2.ensures.value c.in-Some.ensures in
     let counted : length sums ≡ length s.quotas = are.quotas in
     let same : length quotas ≡ length s.quotas = ap (λ (xs : List ℕ). length xs) here in
     let within : c.in-Some.place < length sums = let inside : c.in-Some.place < length quotas = found.0.0 in omega arith in
-    quota_first s c.args.claim.now quotas sums c.requires here are c.in-Some.place c.index.result.now _ (c.index.ensures ∙ get_or_default sums c.in-Some.place c.index.result.now 0 within) refl found
+    quota_first s c.args.claim.now quotas sums c.requires here are c.in-Some.place c.index.result.now _
+    (c.index.ensures ∙ get_or_default sums c.in-Some.place c.index.result.now 0 within) refl found
 
 pub returns-in_default : goal.returns-in_default
 returns-in_default c =
@@ -44,5 +47,8 @@ returns-in_default c =
     let quotas = c.as_slice-quotas.result.now in
     let sums = c.in_ok-sums.sums.items in
     let here : quotas ≡ s.quotas = c.as_slice-quotas.ensures ∙ ap (λ (x : Parts). x.quotas) c.parts.ensures.value in
-    let are : AreQuotaSums s c.args.claim.now.placements sums = subst (λ (xs : List Placement). AreQuotaSums s xs sums) c.as_slice.ensures c.in_ok-sums.ensures in
-    feasible_when s c.args.claim.now quotas sums c.requires here are (subst (λ (xs : List ℕ). (q : ℕ) → q < length quotas → slice_index_or xs q 0 ≤ slice_index_or quotas q 0) c.as_slice-2.ensures.value c.in_default.ensures)
+    let are : AreQuotaSums s c.args.claim.now.placements sums =
+    subst (λ (xs : List Placement). AreQuotaSums s xs sums) c.as_slice.ensures c.in_ok-sums.ensures in
+    feasible_when s c.args.claim.now quotas sums c.requires here are
+    (subst (λ (xs : List ℕ). (q : ℕ) → q < length quotas → slice_index_or xs q 0 ≤ slice_index_or quotas q 0)
+    c.as_slice-2.ensures.value c.in_default.ensures)

@@ -15,16 +15,22 @@ value_of-found-requires-clause-few c =
 
 pub returns-then-claimed-found : goal.returns-then-claimed-found
 returns-then-claimed-found c =
-    let found : c.value_of-found.result ≡ value_of_plan c.args.snapshot.now c.args.claim.now.placements = c.value_of-found.ensures ∙ ap (λ (xs : List Placement). value_of_plan c.args.snapshot.now xs) c.as_slice.ensures in
+    let found : c.value_of-found.result ≡ value_of_plan c.args.snapshot.now c.args.claim.now.placements = c.value_of-found.ensures
+    ∙ ap (λ (xs : List Placement). value_of_plan c.args.snapshot.now xs) c.as_slice.ensures in
     ((refl, found, c.if-claimed-found.true), clear_of_quota_price_range c.args.snapshot.now c.args.claim.now c.requires.feasible c.requires.prices)
 
 pub returns-then-claimed-found-2 : goal.returns-then-claimed-found-2
 returns-then-claimed-found-2 c =
-    let found : c.value_of-found.result ≡ value_of_plan c.args.snapshot.now c.args.claim.now.placements = c.value_of-found.ensures ∙ ap (λ (xs : List Placement). value_of_plan c.args.snapshot.now xs) c.as_slice.ensures in
-    ((refl, c.in_ok-found.ensures, c.if-claimed-found-2.true), clear_of_value c.args.snapshot.now c.args.claim.now c.requires.feasible c.requires.prices (c.if-claimed-found.false ∙ found))
+    let found : c.value_of-found.result ≡ value_of_plan c.args.snapshot.now c.args.claim.now.placements = c.value_of-found.ensures
+    ∙ ap (λ (xs : List Placement). value_of_plan c.args.snapshot.now xs) c.as_slice.ensures in (
+      (refl, c.in_ok-found.ensures, c.if-claimed-found-2.true),
+      clear_of_value c.args.snapshot.now c.args.claim.now c.requires.feasible c.requires.prices (c.if-claimed-found.false ∙ found),
+    )
 
 pub returns : goal.returns
 returns c =
-    let found : c.value_of-found.result ≡ value_of_plan c.args.snapshot.now c.args.claim.now.placements = c.value_of-found.ensures ∙ ap (λ (xs : List Placement). value_of_plan c.args.snapshot.now xs) c.as_slice.ensures in
+    let found : c.value_of-found.result ≡ value_of_plan c.args.snapshot.now c.args.claim.now.placements = c.value_of-found.ensures
+    ∙ ap (λ (xs : List Placement). value_of_plan c.args.snapshot.now xs) c.as_slice.ensures in
     certified_when c.args.snapshot.now c.args.claim.now c.requires.feasible c.requires.prices (c.if-claimed-found.false ∙ found)
-    (subst (λ (b : ℕ). IsBound c.args.snapshot.now c.args.claim.now.prices.0 c.args.claim.now.quota_prices.0 (pos b)) (sym c.if-claimed-found-2.false) c.in_ok-found.ensures)
+    (subst (λ (b : ℕ). IsBound c.args.snapshot.now c.args.claim.now.prices.0 c.args.claim.now.quota_prices.0 (pos b))
+    (sym c.if-claimed-found-2.false) c.in_ok-found.ensures)

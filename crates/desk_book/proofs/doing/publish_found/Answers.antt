@@ -9,7 +9,8 @@ use Rattle.desk_book.proofs.doing.publish_found.Goals as goal
 
 pub returns-in_ok-publish_certified-in-Plan-clause-claims : goal.returns-in_ok-publish_certified-in-Plan-clause-claims
 returns-in_ok-publish_certified-in-Plan-clause-claims c = λ sent told.
-    (let same : c.args.state.now.version ≡ c.args.taken.snapshot.version = sym c.version-newer.ensures.version ∙ c.if-newer-asked.false ∙ ap (λ (p : Parts). p.version) c.parts.ensures.value in
+    (let same : c.args.state.now.version ≡ c.args.taken.snapshot.version = sym c.version-newer.ensures.version ∙ c.if-newer-asked.false
+    ∙ ap (λ (p : Parts). p.version) c.parts.ensures.value in
     let was : IsTakenOf c.args.state.now c.args.taken = taken_now c.args.state.now c.args.taken c.requires.behind same in
     let found : IsOutcome c.args.taken.snapshot c.args.taken.settings (Plan c.in-Plan.claim) =
     subst (λ (o : Outcome). IsOutcome c.args.taken.snapshot c.args.taken.settings o) c.in-Plan.is c.requires.found in

@@ -12,5 +12,6 @@ holds_of-requires c =
     let group = c.args.group.now in
     let small = small_needs document group.requests c.args.wanted.now c.requires.few c.requires.short in
     let same : seconds_of_holds c.as_slice-2.result.now ≡ seconds_of_holds (needs_of document (zip group.requests c.args.wanted.now)) =
-    ap seconds_of_holds (c.as_slice-2.ensures.value ∙ c.in_ok-needs.ensures ∙ ap (λ (rs : List Request). needs_of document (zip rs c.args.wanted.now)) c.as_slice.ensures) in
+    ap seconds_of_holds (c.as_slice-2.ensures.value ∙ c.in_ok-needs.ensures
+    ∙ ap (λ (rs : List Request). needs_of document (zip rs c.args.wanted.now)) c.as_slice.ensures) in
     omega (arith, small, same)

@@ -5,7 +5,8 @@ use Rattle.desk_core.proofs.Shown.{next_made, all_made, slice_contains}
 use Rattle.desk_core.proofs.showing.balances_of.Goals as goal
 
 pub balance_of-requires : goal.balance_of-requires
-balance_of-requires c = (c.in-Some.ensures.complete c.in-Some.key.now).0 (slice_contains (accounts_of c.args.ledger.now.books.entries) c.len.result c.in-Some.key.now (sym c.in-Some.ensures.account))
+balance_of-requires c = (c.in-Some.ensures.complete c.in-Some.key.now).0
+    (slice_contains (accounts_of c.args.ledger.now.books.entries) c.len.result c.in-Some.key.now (sym c.in-Some.ensures.account))
 
 pub loop-key-preserved : goal.loop-key-preserved
 loop-key-preserved c =
@@ -16,4 +17,5 @@ loop-key-preserved c =
 pub returns : goal.returns
 returns c =
     let books = c.args.ledger.now.books in
-    all_made (account_balance books) (accounts_of books.entries) c.loop-key.balances c.loop-key.invariant (ap (slice_get (accounts_of books.entries)) (sym c.len.ensures) ∙ sym c.in_default.ensures.account)
+    all_made (account_balance books) (accounts_of books.entries) c.loop-key.balances c.loop-key.invariant
+    (ap (slice_get (accounts_of books.entries)) (sym c.len.ensures) ∙ sym c.in_default.ensures.account)

@@ -18,8 +18,11 @@ pub returns-in_err-target : goal.returns-in_err-target
 returns-in_err-target c =
     let i = c.loop-configuration.configuration-index in
     let l : i < length c.args.configurations.now = omega arith in
-    let grown = grown_by (names_of (take i c.args.configurations.now)) c.args.network.now c.target.new.self (c.in_err-target.ensures.numbered.unchanged ∙ c.loop-configuration.invariant) in
+    let grown = grown_by (names_of (take i c.args.configurations.now)) c.args.network.now c.target.new.self
+    (c.in_err-target.ensures.numbered.unchanged ∙ c.loop-configuration.invariant) in
     gave_up (names_of c.args.configurations.now) c.args.network.now c.target.new.self c.in_err-target.field-0.0 _ c.from_residual.ensures.1
-    (λ memory. too_many_at c.args.network.now c.loop-configuration.network c.args.configurations.now i c.configuration-item.result c.in_err-target.field-0.0 l c.loop-configuration.invariant
-    (ap (λ (d : ConfigDoc). target_refusal c.loop-configuration.network.registry d.target) (sym c.configuration-item.is) ∙ c.in_err-target.ensures.numbered.refused memory))
+    (λ memory. too_many_at c.args.network.now c.loop-configuration.network c.args.configurations.now i c.configuration-item.result
+    c.in_err-target.field-0.0 l c.loop-configuration.invariant
+    (ap (λ (d : ConfigDoc). target_refusal c.loop-configuration.network.registry d.target) (sym c.configuration-item.is)
+    ∙ c.in_err-target.ensures.numbered.refused memory))
     grown

@@ -11,7 +11,8 @@ returns-in_err-number_each c =
     let n = c.args.network.now in
     let m = c.loop-request.network in
     let l : i < length rs = omega arith in
-    let grown = grown_after n m c.number_each.new.network (grown_by (target_names (take i rs)) n m c.loop-request.invariant) c.in_err-number_each.ensures.grown in
+    let grown = grown_after n m c.number_each.new.network
+    (grown_by (target_names (take i rs)) n m c.loop-request.invariant) c.in_err-number_each.ensures.grown in
     gave_up (target_names rs) n c.number_each.new.network c.in_err-number_each.field-0.0 _ c.from_residual.ensures.1
     (λ memory. requests_too_many n m rs i c.request-item.result c.in_err-number_each.field-0.0 l c.loop-request.invariant
     (subst (λ (d : RequestDoc). AreTooMany m.registry.targets (names_of d.configurations) c.in_err-number_each.field-0.0) c.request-item.is

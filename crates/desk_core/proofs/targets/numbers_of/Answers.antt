@@ -16,7 +16,8 @@ number_in : (o : Option ℕ) (t : TargetNo) → Some t ≡ option_map (λ n. rec
 number_in None t e = absurd (cc)
 number_in (Some n) t e = let is : t ≡ record { 0 = n } = cc in ap (λ (t : TargetNo). let l : List ℕ = t.0 ∷ [] in l) (sym is)
 
-no_number_in : (o : Option ℕ) (found : Option TargetNo) → found ≡ option_map (λ n. record { 0 = n }) o → ((t : TargetNo) → found ≡ Some t → ⊥) → cons_option o [] ≡ []
+no_number_in : (o : Option ℕ) (found : Option TargetNo) → found ≡ option_map (λ n. record { 0 = n }) o
+    → ((t : TargetNo) → found ≡ Some t → ⊥) → cons_option o [] ≡ []
 no_number_in None found e h = refl
 no_number_in (Some n) found e h = absurd (h record { 0 = n } e)
 

@@ -10,4 +10,5 @@ returns-clause-ok g c =
     let b = c.args.book.now in
     let same = c.in_ok-solved.ensures.same_taken in
     let kept = subst (λ (t : Taken). take_of b.takes t.caller ≡ Some t) (sym same) c.requires.kept in
-    subst (λ (t : Taken). EndsLine b t.caller c.publish.new.self) same (answered_ends b c.in_ok-solved.solved c.in_ok-publish.field-0 c.publish.new.self kept c.in_ok-publish.ensures.ok)
+    subst (λ (t : Taken). EndsLine b t.caller c.publish.new.self) same
+    (answered_ends b c.in_ok-solved.solved c.in_ok-publish.field-0 c.publish.new.self kept c.in_ok-publish.ensures.ok)

@@ -14,4 +14,5 @@ loop-observation-preserved c =
     let i = c.loop-observation.observation-index in
     let l : i < length c.args.observations.now = omega arith in
     let step = fold_more (λ (numbers : List ℕ) (o : Observation). insert_key nat_cmp numbers o.request.0) [] c.args.observations.now i none l in
-    c.in_ok-insert.ensures.keys ∙ ap (λ (s : List ℕ). insert_key nat_cmp s (get_or c.args.observations.now i none).request.0) c.loop-observation.invariant ∙ sym step
+    c.in_ok-insert.ensures.keys ∙ ap (λ (s : List ℕ). insert_key nat_cmp s (get_or c.args.observations.now i none).request.0)
+    c.loop-observation.invariant ∙ sym step

@@ -15,8 +15,11 @@ overflow_sub-result c =
     let best : IsBest c.args.snapshot.now c.args.prices.now.0 c.args.telescope.0 c.args.snapshot.now.first.0 c.index-best.result.now
     = best_read c.args.snapshot.now c.args.prices.now.0 c.args.telescope.0 c.args.chart.now c.index-best.result.now c.requires.chart c.index-best.ensures in
     let through : IsThrough c.args.snapshot.now c.args.prices.now.0 c.args.telescope.0 c.args.openings.now.request.0 c.in-Some.through
-    = subst (λ (o : Option ℤ). MatchOption o (¬ (CanTake c.args.snapshot.now c.args.telescope.0 c.args.openings.now.request.0)) (IsThrough c.args.snapshot.now c.args.prices.now.0 c.args.telescope.0 c.args.openings.now.request.0)) c.in-Some.is c.requires.through in
-    let range : IsDetourInRange (c.in-Some.through -ℤ c.index-best.result.now) = (is_detour c.args.snapshot.now c.args.prices.now.0 c.args.telescope.0 c.args.openings.now.request.0 c.recall_valid.ensures.orderly c.in-Some.through c.index-best.result.now c.requires.prices through best).1 in
+    = subst (λ (o : Option ℤ). MatchOption o (¬ (CanTake c.args.snapshot.now c.args.telescope.0 c.args.openings.now.request.0))
+    (IsThrough c.args.snapshot.now c.args.prices.now.0 c.args.telescope.0 c.args.openings.now.request.0)) c.in-Some.is c.requires.through in
+    let range : IsDetourInRange (c.in-Some.through -ℤ c.index-best.result.now) =
+    (is_detour c.args.snapshot.now c.args.prices.now.0 c.args.telescope.0 c.args.openings.now.request.0 c.recall_valid.ensures.orderly
+    c.in-Some.through c.index-best.result.now c.requires.prices through best).1 in
     let low : neg_ℤ (pos 10000000000000000) ≤ℤ (c.in-Some.through -ℤ c.index-best.result.now) = range.0 in
     let high : (c.in-Some.through -ℤ c.index-best.result.now) ≤ℤ pos 0 = range.1 in
     let one : SFits w64 c.in-Some.through = search rules in
@@ -29,8 +32,10 @@ returns-in-Some c =
     let best : IsBest c.args.snapshot.now c.args.prices.now.0 c.args.telescope.0 c.args.snapshot.now.first.0 c.index-best.result.now
     = best_read c.args.snapshot.now c.args.prices.now.0 c.args.telescope.0 c.args.chart.now c.index-best.result.now c.requires.chart c.index-best.ensures in
     let through : IsThrough c.args.snapshot.now c.args.prices.now.0 c.args.telescope.0 c.args.openings.now.request.0 c.in-Some.through
-    = subst (λ (o : Option ℤ). MatchOption o (¬ (CanTake c.args.snapshot.now c.args.telescope.0 c.args.openings.now.request.0)) (IsThrough c.args.snapshot.now c.args.prices.now.0 c.args.telescope.0 c.args.openings.now.request.0)) c.in-Some.is c.requires.through in
-    let detour = is_detour c.args.snapshot.now c.args.prices.now.0 c.args.telescope.0 c.args.openings.now.request.0 c.recall_valid.ensures.orderly c.in-Some.through c.index-best.result.now c.requires.prices through best in
+    = subst (λ (o : Option ℤ). MatchOption o (¬ (CanTake c.args.snapshot.now c.args.telescope.0 c.args.openings.now.request.0))
+    (IsThrough c.args.snapshot.now c.args.prices.now.0 c.args.telescope.0 c.args.openings.now.request.0)) c.in-Some.is c.requires.through in
+    let detour = is_detour c.args.snapshot.now c.args.prices.now.0 c.args.telescope.0 c.args.openings.now.request.0 c.recall_valid.ensures.orderly
+    c.in-Some.through c.index-best.result.now c.requires.prices through best in
     let low : neg_ℤ (pos 10000000000000000) ≤ℤ (c.in-Some.through -ℤ c.index-best.result.now) = detour.1.0 in
     let high : (c.in-Some.through -ℤ c.index-best.result.now) ≤ℤ pos 0 = detour.1.1 in
     let one : SFits w64 c.in-Some.through = search rules in

@@ -14,7 +14,9 @@ forced_sum-requires-clause-bound c =
 
 pub forced_sum-requires-clause-rebate : goal.forced_sum-requires-clause-rebate
 forced_sum-requires-clause-rebate c =
-    let rebate = rebate_between c.args.snapshot.now c.args.claim.now.prices.0 c.args.claim.now.quota_prices.0 c.known_group-group.result c.rebate_of-rebate.result c.recall_valid.ensures.orderly c.requires.certified.price_range c.requires.certified.quota_price_range c.rebate_of-rebate.ensures in
+    let rebate = rebate_between c.args.snapshot.now c.args.claim.now.prices.0 c.args.claim.now.quota_prices.0 c.known_group-group.result
+    c.rebate_of-rebate.result c.recall_valid.ensures.orderly c.requires.certified.price_range c.requires.certified.quota_price_range
+    c.rebate_of-rebate.ensures in
     let low : pos 0 ≤ℤ c.rebate_of-rebate.result = rebate.0 in
     let high : c.rebate_of-rebate.result ≤ℤ pos 1024000000000000 = rebate.1 in
     let one : SFits w64 c.rebate_of-rebate.result = search rules in
@@ -34,7 +36,9 @@ returns c =
       rebate = c.rebate_of-rebate.result;
       rebate_with = c.rebate_with-with.result;
       detour = c.args.detour;
-      is_rebate = subst (λ (g : ℕ). IsRebate c.args.snapshot.now (net_price c.args.snapshot.now c.args.claim.now.prices.0 c.args.claim.now.quota_prices.0) g c.rebate_of-rebate.result) group c.rebate_of-rebate.ensures;
+      is_rebate = subst (λ (g : ℕ). IsRebate c.args.snapshot.now
+          (net_price c.args.snapshot.now c.args.claim.now.prices.0 c.args.claim.now.quota_prices.0) g c.rebate_of-rebate.result) group
+          c.rebate_of-rebate.ensures;
       is_rebate_with = c.rebate_with-with.ensures.value;
       is_detour = c.requires.detour;
       whole = sum;

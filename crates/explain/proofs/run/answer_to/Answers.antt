@@ -18,5 +18,7 @@ returns-in-No c =
     let answer : IsExplainAnswer c.args.publication.now.snapshot c.args.publication.now.claim (No c.in-No.reason)
     = subst (IsExplainAnswer c.args.publication.now.snapshot c.args.publication.now.claim) c.in-No.is c.in_ok-explanation.ensures.answer in
     let is_answer : IsAnswerTo c.args.bytes.now c.args.publication.now (No c.in-No.reason) = record { read = c.requires; is_answer = answer; sound = tt } in
-    ok_both c.answer_line.result (λ a. a.text.items ≡ line_of (verdict_data (judged.No c.in-No.reason))) (λ a. a.said ≡ said.No) (λ a. IsExplainText c.args.bytes.now a.text.items a.said)
-    (λ a text is. subst (λ (s : Said). IsExplainText c.args.bytes.now a.text.items s) (sym is) (c.args.publication.now, c.in-No.reason, is_answer, text)) c.answer_line.ensures.text c.answer_line.ensures.said
+    ok_both c.answer_line.result (λ a. a.text.items ≡ line_of (verdict_data (judged.No c.in-No.reason))) (λ a. a.said ≡ said.No)
+    (λ a. IsExplainText c.args.bytes.now a.text.items a.said)
+    (λ a text is. subst (λ (s : Said). IsExplainText c.args.bytes.now a.text.items s) (sym is)
+    (c.args.publication.now, c.in-No.reason, is_answer, text)) c.answer_line.ensures.text c.answer_line.ensures.said

@@ -21,32 +21,50 @@ loop-start-init c = passed_on c.args.rows.now c.args.slice c.as_slice-row.result
 
 pub raise-requires-in-loop-start-clause-to : goal.raise-requires-in-loop-start-clause-to
 raise-requires-in-loop-start-clause-to c =
-    let same : c.as_slice-row.result.now ≡ row c.args.rows.now c.args.slice = row_read c.args.rows.now c.args.slice c.as_slice-row.result.now c.index-rows-slice.result c.requires.slice c.index-rows-slice.is c.as_slice-row.ensures in
+    let same : c.as_slice-row.result.now ≡ row c.args.rows.now c.args.slice =
+    row_read c.args.rows.now c.args.slice c.as_slice-row.result.now c.index-rows-slice.result c.requires.slice c.index-rows-slice.is
+    c.as_slice-row.ensures in
     let x : Start = slice_index_or c.as_slice-row.result.now c.loop-start.start-index (record { weight = pos 0; after = 0 }) in
-    let fits : IsFitting (length c.args.rows.now) c.args.slice x = row_fits c.args.rows.now c.args.slice c.as_slice-row.result.now c.requires.fit same c.loop-start.start-index (record { weight = pos 0; after = 0 }) c.loop-start-test.true in
+    let fits : IsFitting (length c.args.rows.now) c.args.slice x =
+    row_fits c.args.rows.now c.args.slice c.as_slice-row.result.now c.requires.fit same c.loop-start.start-index
+    (record { weight = pos 0; after = 0 }) c.loop-start-test.true in
     omega (arith, fits.within, c.loop-start.invariant.count)
 
 pub raise-requires-in-loop-start-clause-weight : goal.raise-requires-in-loop-start-clause-weight
 raise-requires-in-loop-start-clause-weight c =
-    let same : c.as_slice-row.result.now ≡ row c.args.rows.now c.args.slice = row_read c.args.rows.now c.args.slice c.as_slice-row.result.now c.index-rows-slice.result c.requires.slice c.index-rows-slice.is c.as_slice-row.ensures in
+    let same : c.as_slice-row.result.now ≡ row c.args.rows.now c.args.slice =
+    row_read c.args.rows.now c.args.slice c.as_slice-row.result.now c.index-rows-slice.result c.requires.slice c.index-rows-slice.is
+    c.as_slice-row.ensures in
     let x : Start = slice_index_or c.as_slice-row.result.now c.loop-start.start-index (record { weight = pos 0; after = 0 }) in
     let fit : SFits w64 (slice_index_or c.as_slice-row.result.now c.loop-start.start-index (record { weight = pos 0; after = 0 })).weight = search rules in
-    simp to_z-of_z (row_fits c.args.rows.now c.args.slice c.as_slice-row.result.now c.requires.fit same c.loop-start.start-index (record { weight = pos 0; after = 0 }) c.loop-start-test.true).weight
+    simp to_z-of_z (row_fits c.args.rows.now c.args.slice c.as_slice-row.result.now c.requires.fit same c.loop-start.start-index
+    (record { weight = pos 0; after = 0 }) c.loop-start-test.true).weight
 
 pub raise-requires-in-loop-start-clause-entries : goal.raise-requires-in-loop-start-clause-entries
-raise-requires-in-loop-start-clause-entries c = forward_entries c.args.rows.now (IsPassed c.args.rows.now c.args.slice c.as_slice-row.result.now c.loop-start.start-index) c.loop-start.table c.requires.rows c.loop-start.invariant
+raise-requires-in-loop-start-clause-entries c =
+    forward_entries c.args.rows.now (IsPassed c.args.rows.now c.args.slice c.as_slice-row.result.now c.loop-start.start-index) c.loop-start.table
+    c.requires.rows c.loop-start.invariant
 
 pub loop-start-preserved : goal.loop-start-preserved
 loop-start-preserved c =
-    let same : c.as_slice-row.result.now ≡ row c.args.rows.now c.args.slice = row_read c.args.rows.now c.args.slice c.as_slice-row.result.now c.index-rows-slice.result c.requires.slice c.index-rows-slice.is c.as_slice-row.ensures in
+    let same : c.as_slice-row.result.now ≡ row c.args.rows.now c.args.slice =
+    row_read c.args.rows.now c.args.slice c.as_slice-row.result.now c.index-rows-slice.result c.requires.slice c.index-rows-slice.is
+    c.as_slice-row.ensures in
     let x : Start = slice_index_or c.as_slice-row.result.now c.loop-start.start-index (record { weight = pos 0; after = 0 }) in
     let fit : SFits w64 (slice_index_or c.as_slice-row.result.now c.loop-start.start-index (record { weight = pos 0; after = 0 })).weight = search rules in
-    let fits : IsFitting (length c.args.rows.now) c.args.slice x = row_fits c.args.rows.now c.args.slice c.as_slice-row.result.now c.requires.fit same c.loop-start.start-index (record { weight = pos 0; after = 0 }) c.loop-start-test.true in
+    let fits : IsFitting (length c.args.rows.now) c.args.slice x =
+    row_fits c.args.rows.now c.args.slice c.as_slice-row.result.now c.requires.fit same c.loop-start.start-index
+    (record { weight = pos 0; after = 0 }) c.loop-start-test.true in
     let raised : IsRaised c.loop-start.table c.args.slice x.after x.weight c.raise-in-loop-start.new.table = simp to_z-of_z at c.raise-in-loop-start.ensures in
-    passed_more c.args.rows.now c.args.slice c.loop-start.start-index c.as_slice-row.result.now x c.loop-start.table c.raise-in-loop-start.new.table c.loop-start-test.true
-    (get_or_default c.as_slice-row.result.now c.loop-start.start-index x (record { weight = pos 0; after = 0 }) c.loop-start-test.true) fits c.loop-start.invariant raised
+    passed_more c.args.rows.now c.args.slice c.loop-start.start-index c.as_slice-row.result.now x c.loop-start.table
+    c.raise-in-loop-start.new.table c.loop-start-test.true
+    (get_or_default c.as_slice-row.result.now c.loop-start.start-index x (record { weight = pos 0; after = 0 }) c.loop-start-test.true) fits
+    c.loop-start.invariant raised
 
 pub returns : goal.returns
 returns c =
-    let same : c.as_slice-row.result.now ≡ row c.args.rows.now c.args.slice = row_read c.args.rows.now c.args.slice c.as_slice-row.result.now c.index-rows-slice.result c.requires.slice c.index-rows-slice.is c.as_slice-row.ensures in
-    passed_all c.args.rows.now c.args.slice c.loop-start.start-index c.as_slice-row.result.now c.loop-start.table same c.loop-start-test.false c.loop-start.invariant
+    let same : c.as_slice-row.result.now ≡ row c.args.rows.now c.args.slice =
+    row_read c.args.rows.now c.args.slice c.as_slice-row.result.now c.index-rows-slice.result c.requires.slice c.index-rows-slice.is
+    c.as_slice-row.ensures in
+    passed_all c.args.rows.now c.args.slice c.loop-start.start-index c.as_slice-row.result.now c.loop-start.table same
+    c.loop-start-test.false c.loop-start.invariant

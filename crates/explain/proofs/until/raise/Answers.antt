@@ -13,6 +13,7 @@ returns c =
     let two : SFits w64 (slice_index_or c.args.table.now c.args.to (pos 0)) = search rules in
     let three : SFits w64 c.args.weight = search rules in
     let four : SFits w64 c.larger.result = search rules in
-    let both : SFits w64 (slice_index_or c.args.table.now c.args.from (pos 0) +ℤ c.args.weight) = fits_64 _ (omega (arith, ints, e.0, c.requires.weight.0)) (omega (arith, ints, e.1, c.requires.weight.1)) in
+    let both : SFits w64 (slice_index_or c.args.table.now c.args.from (pos 0) +ℤ c.args.weight) =
+    fits_64 _ (omega (arith, ints, e.0, c.requires.weight.0)) (omega (arith, ints, e.1, c.requires.weight.1)) in
     let most = simp to_z-of_z at c.larger.ensures in
     simp to_z-of_z (raised_by c.args.table.now c.args.from c.args.to c.args.weight c.larger.result c.requires.to most.first most.second most.one)

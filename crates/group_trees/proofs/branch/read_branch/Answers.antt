@@ -17,4 +17,5 @@ both m (Ok d) = refl
 both m (Err e) = refl
 
 pub returns : goal.returns
-returns c = c.branch_after.ensures ∙ ap (result_and_then (branch_of key.Operator)) c.operator.ensures ∙ both key.Operator (ok_or (value_of (members_of c.args.doc.now) key.Operator) (Missing key.Operator))
+returns c = c.branch_after.ensures ∙ ap (result_and_then (branch_of key.Operator)) c.operator.ensures
+    ∙ both key.Operator (ok_or (value_of (members_of c.args.doc.now) key.Operator) (Missing key.Operator))

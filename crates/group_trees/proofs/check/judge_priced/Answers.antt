@@ -12,13 +12,17 @@ pub returns-in-Some : goal.returns-in-Some
 returns-in-Some c =
     let trees = trees_of c.args.forest.now in
     let plan = c.as_slice.result.now in
-    let found : IsFirst (IsAt (λ t. ¬ (IsAllowed plan t)) trees) c.in-Some.tree = MatchOption-at_some (All (IsAllowed plan) trees) (IsFirst (IsAt (λ t. ¬ (IsAllowed plan t)) trees)) c.in-Some.tree c.in-Some.is c.in_ok-tree.ensures in
-    tree_first (snapshot_of c.args.forest.now) trees c.args.claim.now c.in-Some.tree c.requires.placed (subst (λ (ps : List Placement). IsFirst (IsAt (λ t. ¬ (IsAllowed ps t)) trees) c.in-Some.tree) c.as_slice.ensures found)
+    let found : IsFirst (IsAt (λ t. ¬ (IsAllowed plan t)) trees) c.in-Some.tree =
+    MatchOption-at_some (All (IsAllowed plan) trees)
+    (IsFirst (IsAt (λ t. ¬ (IsAllowed plan t)) trees)) c.in-Some.tree c.in-Some.is c.in_ok-tree.ensures in
+    tree_first (snapshot_of c.args.forest.now) trees c.args.claim.now c.in-Some.tree c.requires.placed
+    (subst (λ (ps : List Placement). IsFirst (IsAt (λ t. ¬ (IsAllowed ps t)) trees) c.in-Some.tree) c.as_slice.ensures found)
 
 pub returns-in-None : goal.returns-in-None
 returns-in-None c =
     let trees = trees_of c.args.forest.now in
     let plan = c.as_slice.result.now in
-    let all : All (IsAllowed plan) trees = MatchOption-at_none (All (IsAllowed plan) trees) (IsFirst (IsAt (λ t. ¬ (IsAllowed plan t)) trees)) c.in-None.is c.in_ok-tree.ensures in
+    let all : All (IsAllowed plan) trees =
+    MatchOption-at_none (All (IsAllowed plan) trees) (IsFirst (IsAt (λ t. ¬ (IsAllowed plan t)) trees)) c.in-None.is c.in_ok-tree.ensures in
     let allowed : All (IsAllowed c.args.claim.now.placements) trees = subst (λ (ps : List Placement). All (IsAllowed ps) trees) c.as_slice.ensures all in
     priced_first (snapshot_of c.args.forest.now) trees c.args.claim.now c.args.reason c.requires allowed

@@ -24,7 +24,8 @@ overflow_add-sum c =
     let count : length c.trees-tree-end.result.now ≡ length trees = same_count c.trees-tree-end.result.now trees c.trees-tree-end.ensures in
     let most_trees : length trees ≤ 1024 = trees_few s trees few c.recall_sound.ensures in
     let here : c.loop-tree.tree < length trees = omega arith in
-    let range = rebate_between s trees c.args.prices.now.0 c.loop-tree.tree c.tree_rebate.result few c.recall_sound.ensures c.requires.range here c.tree_rebate.ensures in
+    let range = rebate_between s trees c.args.prices.now.0 c.loop-tree.tree c.tree_rebate.result few c.recall_sound.ensures c.requires.range
+    here c.tree_rebate.ensures in
     let low : pos 0 ≤ℤ c.tree_rebate.result = range.0 in
     let high : c.tree_rebate.result ≤ℤ pos 1024000000000000 = range.1 in
     let least : pos 0 ≤ℤ c.loop-tree.sum.value = c.loop-tree.invariant.least in
@@ -42,7 +43,8 @@ loop-tree-preserved c =
     let count : length c.trees-tree-end.result.now ≡ length trees = same_count c.trees-tree-end.result.now trees c.trees-tree-end.ensures in
     let most_trees : length trees ≤ 1024 = trees_few s trees few c.recall_sound.ensures in
     let here : c.loop-tree.tree < length trees = omega arith in
-    let range = rebate_between s trees c.args.prices.now.0 c.loop-tree.tree c.tree_rebate.result few c.recall_sound.ensures c.requires.range here c.tree_rebate.ensures in
+    let range = rebate_between s trees c.args.prices.now.0 c.loop-tree.tree c.tree_rebate.result few c.recall_sound.ensures c.requires.range
+    here c.tree_rebate.ensures in
     let low : pos 0 ≤ℤ c.tree_rebate.result = range.0 in
     let high : c.tree_rebate.result ≤ℤ pos 1024000000000000 = range.1 in
     let least : pos 0 ≤ℤ c.loop-tree.sum.value = c.loop-tree.invariant.least in
@@ -50,13 +52,16 @@ loop-tree-preserved c =
     let kept : SFits w64 c.loop-tree.sum.value = sum_fits _ least (omega (arith, ints)) in
     let part : SFits w64 c.tree_rebate.result = sum_fits _ low (omega (arith, ints)) in
     let whole : SFits w64 (c.loop-tree.sum.value +ℤ c.tree_rebate.result) = sum_fits _ (omega (arith, ints)) (omega (arith, ints)) in
-    simp to_z-of_z (summed_more c.loop-tree.tree (IsRebateAt s c.args.prices.now.0 trees) 1024000000000000 c.loop-tree.sum.value c.tree_rebate.result c.loop-tree.invariant c.tree_rebate.ensures range)
+    simp to_z-of_z (summed_more c.loop-tree.tree (IsRebateAt s c.args.prices.now.0 trees) 1024000000000000 c.loop-tree.sum.value c.tree_rebate.result
+    c.loop-tree.invariant c.tree_rebate.ensures range)
 
 pub returns-clause-sum : goal.returns-clause-sum
 returns-clause-sum c =
-    let count : length c.trees-tree-end.result.now ≡ length (trees_of c.args.forest.now) = same_count c.trees-tree-end.result.now (trees_of c.args.forest.now) c.trees-tree-end.ensures in
+    let count : length c.trees-tree-end.result.now ≡ length (trees_of c.args.forest.now) =
+    same_count c.trees-tree-end.result.now (trees_of c.args.forest.now) c.trees-tree-end.ensures in
     let all : c.loop-tree.tree ≡ length (trees_of c.args.forest.now) = omega arith in
-    subst (λ (n : ℕ). IsSummed n (IsRebateAt (snapshot_of c.args.forest.now) c.args.prices.now.0 (trees_of c.args.forest.now)) 1024000000000000 c.loop-tree.sum.value) all c.loop-tree.invariant
+    subst (λ (n : ℕ). IsSummed n (IsRebateAt (snapshot_of c.args.forest.now) c.args.prices.now.0 (trees_of c.args.forest.now)) 1024000000000000
+    c.loop-tree.sum.value) all c.loop-tree.invariant
 
 pub returns-clause-most : goal.returns-clause-most
 returns-clause-most c =

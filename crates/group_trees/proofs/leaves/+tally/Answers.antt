@@ -8,7 +8,8 @@ use Rattle.group_trees.proofs.leaves.+tally.Goals as goal
 
 leaves_push : (xs : List Tree) (x : Tree) → all_leaves (all_seen (xs ++ x ∷ [])) ≡ all_leaves (all_seen xs) ++ leaves (seen x)
 leaves_push [] x = append-nil (leaves (seen x))
-leaves_push (y ∷ xs) x = ap (λ (rs : List ℕ). leaves (seen y) ++ rs) (leaves_push xs x) ∙ sym (append_assoc (leaves (seen y)) (all_leaves (all_seen xs)) (leaves (seen x)))
+leaves_push (y ∷ xs) x = ap (λ (rs : List ℕ). leaves (seen y) ++ rs) (leaves_push xs x)
+    ∙ sym (append_assoc (leaves (seen y)) (all_leaves (all_seen xs)) (leaves (seen x)))
 
 leaves_more : (rs : List ℕ) (xs : List Tree) (i : ℕ) (x : Tree) → i < length xs → x ≡ slice_index_or xs i x
     → (rs ++ all_leaves (all_seen (take i xs))) ++ leaves (seen x) ≡ rs ++ all_leaves (all_seen (take (i + 1) xs))
@@ -22,6 +23,7 @@ pub tally_all-loop-tree-preserved : goal.tally_all-loop-tree-preserved
 tally_all-loop-tree-preserved t c = (
   c.tally_tree.ensures.count,
   λ rs h.
-      subst (λ (qs : List ℕ). IsTally c.args.snapshot.now qs c.tally_tree.new.tally) (leaves_more rs c.deref-tree-items.result.now c.loop-tree.tree-index c.tree-item.result (omega arith) c.tree-item.is)
+      subst (λ (qs : List ℕ). IsTally c.args.snapshot.now qs c.tally_tree.new.tally)
+      (leaves_more rs c.deref-tree-items.result.now c.loop-tree.tree-index c.tree-item.result (omega arith) c.tree-item.is)
       (c.tally_tree.ensures.tally (rs ++ all_leaves (all_seen (take c.loop-tree.tree-index c.deref-tree-items.result.now))) (c.loop-tree.invariant.1 rs h)),
 )

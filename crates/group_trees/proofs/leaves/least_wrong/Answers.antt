@@ -26,7 +26,9 @@ returns-in-Some c = λ rs h.
     let count : length c.args.tally.now.flags.items ≡ length (listed s) = c.requires in
     let here = request_here s place c.request_at.result.now c.recall_valid.ensures.orderly (omega arith) c.request_at.ensures in
     subst (λ (x : RequestNo). IsFirst (IsWrongLeaf s rs) x.0) (sym c.lesser.ensures)
-    (least_clear s rs c.args.tally.now h place c.request_at.result.now.request c.recall_valid.ensures.orderly here.known here.at (subst (λ (xs : List Bool). IsFirst (IsAt (λ flag. flag ≡ false) xs) place) c.as_slice.ensures.value first))
+    (least_clear s rs c.args.tally.now h place c.request_at.result.now.request c.recall_valid.ensures.orderly here.known here.at
+    (subst (λ (xs : List Bool). IsFirst (IsAt (λ flag. flag ≡ false) xs) place) c.as_slice.ensures.value first))
 
 pub returns-in-None : goal.returns-in-None
-returns-in-None c = λ rs h. least_set c.args.snapshot.now rs c.args.tally.now h (subst (λ (xs : List Bool). All (λ flag. flag ≡ true) xs) c.as_slice.ensures.value c.in-None.ensures)
+returns-in-None c = λ rs h. least_set c.args.snapshot.now rs c.args.tally.now h
+    (subst (λ (xs : List Bool). All (λ flag. flag ≡ true) xs) c.as_slice.ensures.value c.in-None.ensures)

@@ -14,7 +14,8 @@ returns-in-Some-clause-tally c = λ rs h.
     let at : c.in-Some.place ≡ place_of s c.args.request.0 = c.in-Some.ensures.1 in
     let count : length flags ≡ length (listed s) = c.requires in
     let within : c.in-Some.place < length flags = omega arith in
-    tally_set s rs c.args.request.0 c.in-Some.place c.args.tally.now _ known at (get_or_default flags c.in-Some.place false c.index.result.now within ∙ sym c.index.ensures ∙ c.if-not-index.true) refl refl h
+    tally_set s rs c.args.request.0 c.in-Some.place c.args.tally.now _ known at (get_or_default flags c.in-Some.place false c.index.result.now within
+    ∙ sym c.index.ensures ∙ c.if-not-index.true) refl refl h
 
 pub returns-in_default-clause-tally : goal.returns-in_default-clause-tally
 returns-in_default-clause-tally c = λ rs h.
@@ -26,7 +27,8 @@ returns-in_default-clause-tally c = λ rs h.
           let at : w.in-Some.place ≡ place_of s c.args.request.0 = w.in-Some.ensures.1 in
           let count : length flags ≡ length (listed s) = c.requires in
           let within : w.in-Some.place < length flags = omega arith in
-          inr (ap (λ (k : ℕ). slice_index_or flags k false) (sym at) ∙ get_or_default flags w.in-Some.place false w.index.result.now within ∙ sym w.index.ensures ∙ w.if-not-index.false)
+          inr (ap (λ (k : ℕ). slice_index_or flags k false) (sym at) ∙ get_or_default flags w.in-Some.place false w.index.result.now within
+          ∙ sym w.index.ensures ∙ w.if-not-index.false)
       | in_default-via-in_default w ↦ inl w.in_default.ensures
     ] in
     tally_wrong s rs c.args.request.0 c.args.tally.now _ c.args.request refl bad refl (ap (λ (x : RequestNo). Some x) c.lesser.ensures) h

@@ -9,7 +9,10 @@ use Rattle.group_trees.proofs.levels.first_deep.Goals as goal
 pub loop-index-preserved : goal.loop-index-preserved
 loop-index-preserved c =
     AllWithin-more (λ t. levels t ≤ 16) (trees_seen c.args.trees.now) 0 c.loop-index.index c.loop-index.invariant
-    (λ d. subst (λ (t : Node). levels t ≤ 16) (sym (seen_at c.args.trees.now (trees_seen c.args.trees.now) c.loop-index.index c.index-trees-index.result d refl (omega arith) c.index-trees-index.is)) (within_from_test (levels (seen c.index-trees-index.result)) 16 c.is_within.result c.is_within.ensures c.if-not-is_within.false))
+    (λ d. subst (λ (t : Node). levels t ≤ 16)
+    (sym (seen_at c.args.trees.now (trees_seen c.args.trees.now) c.loop-index.index c.index-trees-index.result d refl
+    (omega arith) c.index-trees-index.is))
+    (within_from_test (levels (seen c.index-trees-index.result)) 16 c.is_within.result c.is_within.ensures c.if-not-is_within.false))
 
 pub returns : goal.returns
 returns c = grind (arith, common_steps)

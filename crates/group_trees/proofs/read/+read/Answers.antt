@@ -15,17 +15,24 @@ err_weaker (Ok x) P Q f h = h
 err_weaker (Err e) P Q f h = f e h
 
 pub read_element-returns-clause-value : goal.read_element-returns-clause-value
-read_element-returns-clause-value t c = ok_weaker c.read_object.result _ _ (λ x h. tree_in_listed (named_by c.args.list.now) (element_of c.args.list.now c.args.index) ∙ h) c.read_object.ensures.value
+read_element-returns-clause-value t c =
+    ok_weaker c.read_object.result _ _ (λ x h. tree_in_listed (named_by c.args.list.now) (element_of c.args.list.now c.args.index)
+    ∙ h) c.read_object.ensures.value
 
 pub read_element-returns-clause-fault : goal.read_element-returns-clause-fault
-read_element-returns-clause-fault t c = err_weaker c.read_object.result _ _ (λ e h told. tree_in_listed (named_by c.args.list.now) (element_of c.args.list.now c.args.index) ∙ h told) c.read_object.ensures.fault
+read_element-returns-clause-fault t c =
+    err_weaker c.read_object.result _ _ (λ e h told. tree_in_listed (named_by c.args.list.now) (element_of c.args.list.now c.args.index)
+    ∙ h told) c.read_object.ensures.fault
 
 pub read_children-read_all-requires : goal.read_children-read_all-requires
 read_children-read_all-requires t c =
-    let deep : deepest (elements_of c.in_ok-children.children) < members_depth (members_of c.args.doc.now) = children_deep (members_of c.args.doc.now) key.Children 0 32 (elements_of c.in_ok-children.children) (sym c.in_ok-children.ensures.value) in
+    let deep : deepest (elements_of c.in_ok-children.children) < members_depth (members_of c.args.doc.now) =
+    children_deep (members_of c.args.doc.now) key.Children 0 32 (elements_of c.in_ok-children.children) (sym c.in_ok-children.ensures.value) in
     (omega (arith, deep, c.decreases), tt)
 
 pub read_object-read_tree-requires : goal.read_object-read_tree-requires
 read_object-read_tree-requires t c =
-    let deep : members_depth (members_of c.in_ok-object.object) < deepest (elements_of c.args.list.now) = inner_deep (named_by c.args.list.now) (elements_of c.args.list.now) c.args.index (members_of c.in_ok-object.object) c.requires (sym c.in_ok-object.ensures) in
+    let deep : members_depth (members_of c.in_ok-object.object) < deepest (elements_of c.args.list.now) =
+    inner_deep (named_by c.args.list.now) (elements_of c.args.list.now) c.args.index (members_of c.in_ok-object.object) c.requires
+    (sym c.in_ok-object.ensures) in
     (omega (arith, deep, c.decreases), tt)

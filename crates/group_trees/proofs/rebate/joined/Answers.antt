@@ -4,7 +4,8 @@ use Rattle.group_trees.specs.declared.rebate.Joint.{Joint}
 use Rattle.group_trees.specs.Pairs.{IsJoined}
 use Rattle.group_trees.proofs.rebate.joined.Goals as goal
 
-joins : (first rest x : Greatest) (joint : Joint) → joint.any ≡ first.any +ℤ rest.any → joint.left ≡ first.some +ℤ rest.any → joint.right ≡ first.any +ℤ rest.some
+joins : (first rest x : Greatest) (joint : Joint) → joint.any ≡ first.any +ℤ rest.any → joint.left ≡ first.some +ℤ rest.any
+    → joint.right ≡ first.any +ℤ rest.some
     → x.any ≡ joint.any → joint.left ≤ℤ x.some → joint.right ≤ℤ x.some → (x.some ≡ joint.left) ⊎ (x.some ≡ joint.right) → IsJoined first rest x
 joins first rest x joint any left right same low high one = record {
   any = same ∙ any;
@@ -14,4 +15,5 @@ joins first rest x joint any left right same low high one = record {
 }
 
 pub returns : goal.returns
-returns c = joins c.args.first c.args.rest c.some_joint.result c.joint_of.result c.joint_of.ensures.any c.joint_of.ensures.left c.joint_of.ensures.right c.some_joint.ensures.any c.some_joint.ensures.left c.some_joint.ensures.right c.some_joint.ensures.one
+returns c = joins c.args.first c.args.rest c.some_joint.result c.joint_of.result c.joint_of.ensures.any c.joint_of.ensures.left
+    c.joint_of.ensures.right c.some_joint.ensures.any c.some_joint.ensures.left c.some_joint.ensures.right c.some_joint.ensures.one

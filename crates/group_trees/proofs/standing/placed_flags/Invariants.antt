@@ -8,4 +8,5 @@ use Rattle.group_trees.proofs.standing.placed_flags.Given as goal
 abbrev pub invariant-loop-placement : goal.invariant-loop-placement
 invariant-loop-placement l =
     (length l.flags.items ≡ length (listed l.snapshot))
-    × ((r : ℕ) → IsKnown l.snapshot r → (is_flagged l.snapshot l.flags.items r || is_placed (requests_of (drop l.placement-index l.plan)) r) ≡ is_placed (requests_of l.plan) r)
+    × ((r : ℕ) → IsKnown l.snapshot r → (is_flagged l.snapshot l.flags.items r || is_placed (requests_of (drop l.placement-index l.plan)) r)
+    ≡ is_placed (requests_of l.plan) r)

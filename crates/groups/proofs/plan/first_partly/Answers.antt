@@ -7,7 +7,9 @@ pub loop-place-preserved : goal.loop-place-preserved
 loop-place-preserved c =
     below_more _ _ c.loop-place.invariant
     (λ holds.
-    let yes : c.is_partly.result ≡ true = c.is_partly.ensures.1 (subst (λ (x : GroupPart). IsPartly x (slice_index_or c.args.members.now c.loop-place.place 0)) (sym c.index-groups-place.is) (holds c.index-groups-place.result)) in
+    let yes : c.is_partly.result ≡ true =
+    c.is_partly.ensures.1 (subst (λ (x : GroupPart). IsPartly x (slice_index_or c.args.members.now c.loop-place.place 0))
+    (sym c.index-groups-place.is) (holds c.index-groups-place.result)) in
     let bad : true ≡ false = sym yes ∙ c.if-is_partly.false in
     cc)
 

@@ -18,11 +18,13 @@ returns c =
     let prices : List ℤ = c.prices_of_group-prices.result.now in
     let are : prices ≡ group_prices c.args.snapshot.now c.args.prices.now.0 c.args.group = c.prices_of_group-prices.ensures.value in
     let op : Op = (slice_index_or c.as_slice.result.now c.args.group c.index-as_slice-group.result).op in
-    let kind : IsKind c.args.snapshot.now op c.args.group = kind_read c.args.snapshot.now c.as_slice.result.now c.args.group c.index-as_slice-group.result op groups c.requires.group refl in
+    let kind : IsKind c.args.snapshot.now op c.args.group =
+    kind_read c.args.snapshot.now c.as_slice.result.now c.args.group c.index-as_slice-group.result op groups c.requires.group refl in
     let many : length (group_prices c.args.snapshot.now c.args.prices.now.0 c.args.group) ≡ length (members c.args.snapshot.now c.args.group)
     = length-map (members c.args.snapshot.now c.args.group) (price c.args.snapshot.now c.args.prices.now.0)
     in
-    let within : c.args.member < length prices = subst (λ (ps : List ℤ). c.args.member < length ps) (sym are) (subst (λ (n : ℕ). c.args.member < n) (sym many) c.requires.member) in
+    let within : c.args.member < length prices =
+    subst (λ (ps : List ℤ). c.args.member < length ps) (sym are) (subst (λ (n : ℕ). c.args.member < n) (sym many) c.requires.member) in
     let fit : SFits w64 (slice_index_or prices c.args.member (pos 0)) = search rules in
     c.takes.ensures
     ∙ ap (λ (z : ℤ). takes_by c.at.result z c.args.member) (to_z-of_z w64 (slice_index_or prices c.args.member (pos 0)) fit)

@@ -20,9 +20,11 @@ returns-in-Single c =
       | inr e ↦ inr (kind_read c.args.snapshot.now _ c.args.group _ Many groups c.requires.group e)
     ]
     in
-    let is : c.positive_sum.result ≡ positive_sum (group_prices c.args.snapshot.now c.args.prices.now.0 c.args.group) = c.positive_sum.ensures ∙ ap positive_sum c.prices_of_group-prices.ensures.value in
+    let is : c.positive_sum.result ≡ positive_sum (group_prices c.args.snapshot.now c.args.prices.now.0 c.args.group) = c.positive_sum.ensures
+    ∙ ap positive_sum c.prices_of_group-prices.ensures.value in
     let found : IsRebate c.args.snapshot.now (price c.args.snapshot.now c.args.prices.now.0) c.args.group (to_z w64 (of_z w64 c.positive_sum.result)) =
-    subst (λ (b : ℤ). IsRebate c.args.snapshot.now (price c.args.snapshot.now c.args.prices.now.0) c.args.group b) (sym (to_z-of_z w64 c.positive_sum.result fit ∙ is))
+    subst (λ (b : ℤ). IsRebate c.args.snapshot.now (price c.args.snapshot.now c.args.prices.now.0) c.args.group b)
+    (sym (to_z-of_z w64 c.positive_sum.result fit ∙ is))
     (rebate_any c.args.snapshot.now (price c.args.snapshot.now c.args.prices.now.0) c.args.group c.parts.ensures.orderly kind)
     in
     record {
@@ -39,8 +41,10 @@ returns-in-OneOf c =
     = subst (λ (ps : List ℤ). IsGreatestPrice ps c.greatest_price.result) c.prices_of_group-prices.ensures.value c.greatest_price.ensures
     in
     let found : IsRebate c.args.snapshot.now (price c.args.snapshot.now c.args.prices.now.0) c.args.group (to_z w64 (of_z w64 c.greatest_price.result)) =
-    subst (λ (b : ℤ). IsRebate c.args.snapshot.now (price c.args.snapshot.now c.args.prices.now.0) c.args.group b) (sym (to_z-of_z w64 c.greatest_price.result fit))
-    (rebate_one c.args.snapshot.now (price c.args.snapshot.now c.args.prices.now.0) c.args.group c.greatest_price.result c.parts.ensures.orderly (kind_read c.args.snapshot.now _ c.args.group _ OneOf groups c.requires.group c.in-OneOf.is) greatest)
+    subst (λ (b : ℤ). IsRebate c.args.snapshot.now (price c.args.snapshot.now c.args.prices.now.0) c.args.group b)
+    (sym (to_z-of_z w64 c.greatest_price.result fit))
+    (rebate_one c.args.snapshot.now (price c.args.snapshot.now c.args.prices.now.0) c.args.group c.greatest_price.result c.parts.ensures.orderly
+    (kind_read c.args.snapshot.now _ c.args.group _ OneOf groups c.requires.group c.in-OneOf.is) greatest)
     in
     record {
       rebate = found;
@@ -57,8 +61,10 @@ returns-in-And c =
     = c.positive.ensures ∙ ap positive (to_z-of_z w64 c.price_sum.result fit_sum ∙ c.price_sum.ensures ∙ ap price_sum c.prices_of_group-prices.ensures.value)
     in
     let found : IsRebate c.args.snapshot.now (price c.args.snapshot.now c.args.prices.now.0) c.args.group (to_z w64 (of_z w64 c.positive.result)) =
-    subst (λ (b : ℤ). IsRebate c.args.snapshot.now (price c.args.snapshot.now c.args.prices.now.0) c.args.group b) (sym (to_z-of_z w64 c.positive.result fit ∙ is))
-    (rebate_and c.args.snapshot.now (price c.args.snapshot.now c.args.prices.now.0) c.args.group c.parts.ensures.orderly (kind_read c.args.snapshot.now _ c.args.group _ And groups c.requires.group c.in-And.is))
+    subst (λ (b : ℤ). IsRebate c.args.snapshot.now (price c.args.snapshot.now c.args.prices.now.0) c.args.group b)
+    (sym (to_z-of_z w64 c.positive.result fit ∙ is))
+    (rebate_and c.args.snapshot.now (price c.args.snapshot.now c.args.prices.now.0) c.args.group c.parts.ensures.orderly
+    (kind_read c.args.snapshot.now _ c.args.group _ And groups c.requires.group c.in-And.is))
     in
     record {
       rebate = found;

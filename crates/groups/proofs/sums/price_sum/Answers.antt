@@ -7,8 +7,10 @@ use Rattle.groups.proofs.sums.price_sum.Goals as goal
 
 pub loop-price-preserved : goal.loop-price-preserved
 loop-price-preserved c =
-    let range : IsNetInRange (slice_index_or c.args.prices.now c.loop-price.price-index (pos 0)) = c.requires.range c.loop-price.price-index (pos 0) c.loop-price-test.true in
-    let step : total (λ x. x) (drop c.loop-price.price-index c.args.prices.now) ≡ slice_index_or c.args.prices.now c.loop-price.price-index (pos 0) +ℤ total (λ x. x) (drop (c.loop-price.price-index + 1) c.args.prices.now)
+    let range : IsNetInRange (slice_index_or c.args.prices.now c.loop-price.price-index (pos 0)) =
+    c.requires.range c.loop-price.price-index (pos 0) c.loop-price-test.true in
+    let step : total (λ x. x) (drop c.loop-price.price-index c.args.prices.now) ≡ slice_index_or c.args.prices.now c.loop-price.price-index
+    (pos 0) +ℤ total (λ x. x) (drop (c.loop-price.price-index + 1) c.args.prices.now)
     = at_drop_more (total (λ x. x)) c.args.prices.now c.loop-price.price-index (pos 0) c.loop-price-test.true
     in
     let few : length c.args.prices.now ≤ 256 = c.requires.few in

@@ -9,7 +9,8 @@ loop-price-preserved c =
     let fit : SFits w64 (slice_index_or c.args.prices.now c.loop-price.price-index (pos 0)) = search rules in
     let is : c.from.result ≡ slice_index_or c.args.prices.now c.loop-price.price-index (pos 0) = simp to_z-of_z at c.from.ensures in
     let range = between (slice_index_or c.args.prices.now c.loop-price.price-index (pos 0)) fit in
-    let more : IsWide c.args.prices.now (c.loop-price.price-index + 1) (c.loop-price.sum.value +ℤ slice_index_or c.args.prices.now c.loop-price.price-index (pos 0))
+    let more : IsWide c.args.prices.now (c.loop-price.price-index + 1)
+    (c.loop-price.sum.value +ℤ slice_index_or c.args.prices.now c.loop-price.price-index (pos 0))
     = wide_more c.args.prices.now c.loop-price.price-index c.loop-price.sum.value c.loop-price-test.true range.0 range.1 c.loop-price.invariant
     in
     let rest = more.rest in

@@ -10,4 +10,5 @@ returns-clause-prices c =
     ext_get_or (pos 0) (lane 0 c.loop-place.lanes) c.args.prices.now (long ∙ count)
     (λ k l.
     let below : k < length c.loop-place.lanes = omega arith in
-    get_or-map (number_in 0) c.loop-place.lanes k [] (pos 0) below ∙ ap (number_in 0) (c.loop-place.invariant.written k [] (omega (arith, c.loop-place-test.false))))
+    get_or-map (number_in 0) c.loop-place.lanes k [] (pos 0) below
+    ∙ ap (number_in 0) (c.loop-place.invariant.written k [] (omega (arith, c.loop-place-test.false))))

@@ -7,4 +7,5 @@ use Rattle.interval_solver.proofs.uses.take_back.Goals as goal
 pub loop-place-preserved : goal.loop-place-preserved
 loop-place-preserved c =
     tally_less (drop (c.loop-place.place-index + 1) c.args.places.now) c.loop-place.counts (slice_index_or c.args.places.now c.loop-place.place-index 0) _
-    (subst (λ (ps : List ℕ). IsTally ps c.loop-place.counts) (drop_more c.args.places.now c.loop-place.place-index 0 c.loop-place-test.true) c.loop-place.invariant) refl
+    (subst (λ (ps : List ℕ). IsTally ps c.loop-place.counts) (drop_more c.args.places.now c.loop-place.place-index 0 c.loop-place-test.true)
+    c.loop-place.invariant) refl

@@ -14,9 +14,11 @@ loop-start-preserved g c = λ k d l e. elim (below_or_at k c.loop-start.start-in
   | inl below ↦ c.loop-start.invariant k d below e
   | inr same ↦
       let fit : SFits w64 c.args.surplus = search rules in
-      let read : gain (lane c.args.lane_place c.args.prices.now) (lane c.args.lane_place c.args.table.now) (slice_index_or c.args.row.now k d) ≡ c.gain_of.result
+      let read : gain (lane c.args.lane_place c.args.prices.now) (lane c.args.lane_place c.args.table.now)
+      (slice_index_or c.args.row.now k d) ≡ c.gain_of.result
       = ap (λ (j : ℕ). gain (lane c.args.lane_place c.args.prices.now) (lane c.args.lane_place c.args.table.now) (slice_index_or c.args.row.now j d)) same
-      ∙ ap (gain (lane c.args.lane_place c.args.prices.now) (lane c.args.lane_place c.args.table.now)) (get_or_default c.args.row.now c.loop-start.start-index d _ c.loop-start-test.true) ∙ sym c.gain_of.ensures
+      ∙ ap (gain (lane c.args.lane_place c.args.prices.now) (lane c.args.lane_place c.args.table.now))
+      (get_or_default c.args.row.now c.loop-start.start-index d _ c.loop-start-test.true) ∙ sym c.gain_of.ensures
       in
       c.if-gain_of-surplus.false (ap (of_z w64) (sym read ∙ e ∙ to_z-of_z w64 c.args.surplus fit))
 ]

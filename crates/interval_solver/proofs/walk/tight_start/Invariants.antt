@@ -5,4 +5,5 @@ use Rattle.interval_solver.specs.Lanes.{lane}
 use Rattle.interval_solver.proofs.walk.tight_start.Given as goal
 
 abbrev pub invariant-loop-start : goal.invariant-loop-start
-invariant-loop-start g l = (k : ℕ) (d : Start) → k < l.start-index → ¬ (gain (lane l.lane_place l.prices) (lane l.lane_place l.table) (slice_index_or l.row k d) ≡ l.surplus)
+invariant-loop-start g l = (k : ℕ) (d : Start) → k < l.start-index
+    → ¬ (gain (lane l.lane_place l.prices) (lane l.lane_place l.table) (slice_index_or l.row k d) ≡ l.surplus)

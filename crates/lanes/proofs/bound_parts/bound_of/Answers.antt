@@ -7,12 +7,14 @@ use Rattle.lanes.proofs.Parts.{bests_least}
 use Rattle.lanes.proofs.bound_parts.bound_of.Goals as goal
 
 pub lagrangian-requires-clause-bests : goal.lagrangian-requires-clause-bests
-lagrangian-requires-clause-bests c = bests_least c.args.snapshot.now c.args.prices.now.0 c.args.bests.now c.recall_valid.ensures.orderly c.requires.range c.requires.bests
+lagrangian-requires-clause-bests c =
+    bests_least c.args.snapshot.now c.args.prices.now.0 c.args.bests.now c.recall_valid.ensures.orderly c.requires.range c.requires.bests
 
 pub lagrangian-requires-clause-most : goal.lagrangian-requires-clause-most
 lagrangian-requires-clause-most c =
     let below : (sum_of c.args.bests.now +ℤ sum_of c.args.rebates.now +ℤ sum_of c.args.quotas.now) <ℤ pos bound_limit
-    = c.bound_limit.ensures.most _ (c.bound_of_parts.ensures c.args.bests.now c.args.rebates.now c.args.quotas.now c.requires.bests c.requires.rebates c.requires.quotas)
+    = c.bound_limit.ensures.most _ (c.bound_of_parts.ensures c.args.bests.now c.args.rebates.now c.args.quotas.now c.requires.bests
+    c.requires.rebates c.requires.quotas)
     in
     omega (arith, ints, below)
 

@@ -18,17 +18,21 @@ loop-group-preserved c =
     record {
       count = length-set c.loop-group.rebates c.loop-group.group _ ∙ c.loop-group.invariant.count;
       each = λ given quota_prices count is.
-          part_more (IsRebate s (net_price s given quota_prices)) c.loop-group.rebates c.loop-group.group c.rebate.result _ within same (c.rebate.ensures.at_net given quota_prices count is)
+          part_more (IsRebate s (net_price s given quota_prices)) c.loop-group.rebates c.loop-group.group c.rebate.result _ within same
+          (c.rebate.ensures.at_net given quota_prices count is)
           (c.loop-group.invariant.each given quota_prices count is);
-      least = part_more (λ i b. pos 0 ≤ℤ b) c.loop-group.rebates c.loop-group.group c.rebate.result _ within same c.rebate.ensures.least c.loop-group.invariant.least;
+      least = part_more (λ i b. pos 0 ≤ℤ b) c.loop-group.rebates c.loop-group.group c.rebate.result _ within same c.rebate.ensures.least
+          c.loop-group.invariant.least;
     }
 
 pub returns-clause-rebates : goal.returns-clause-rebates
 returns-clause-rebates c = λ given quota_prices count is.
-    let groups : c.len-group-end.result ≡ length c.args.snapshot.now.groups = c.len-group-end.ensures ∙ ap (λ (p : Parts). length p.groups) c.parts.ensures.value in
+    let groups : c.len-group-end.result ≡ length c.args.snapshot.now.groups = c.len-group-end.ensures
+    ∙ ap (λ (p : Parts). length p.groups) c.parts.ensures.value in
     record { count = c.loop-group.invariant.count; each = λ i l. c.loop-group.invariant.each given quota_prices count is i (omega arith) }
 
 pub returns-clause-least : goal.returns-clause-least
 returns-clause-least c =
-    let groups : c.len-group-end.result ≡ length c.args.snapshot.now.groups = c.len-group-end.ensures ∙ ap (λ (p : Parts). length p.groups) c.parts.ensures.value in
+    let groups : c.len-group-end.result ≡ length c.args.snapshot.now.groups = c.len-group-end.ensures
+    ∙ ap (λ (p : Parts). length p.groups) c.parts.ensures.value in
     All-from_get_or (λ b. pos 0 ≤ℤ b) c.loop-group.rebates (pos 0) (λ i l. c.loop-group.invariant.least i (omega (arith, c.loop-group.invariant.count)))

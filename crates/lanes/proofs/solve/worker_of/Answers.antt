@@ -26,7 +26,8 @@ returns-clause-new g c =
           share = omega arith;
           room = lanes.1;
           taken = omega arith;
-          prices = subst (λ (p : Parts). All (λ y. ArePrices p y.found.prices y.found.quota_prices) c.in_ok-lanes.lanes.items) (sym same) c.in_ok-lanes.ensures.prices;
+          prices = subst (λ (p : Parts). All (λ y. ArePrices p y.found.prices y.found.quota_prices) c.in_ok-lanes.lanes.items)
+              (sym same) c.in_ok-lanes.ensures.prices;
           seats = c.requires.parts.0;
           no_tickets = c.requires.parts.1;
         };

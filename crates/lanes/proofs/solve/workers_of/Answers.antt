@@ -31,7 +31,9 @@ loop-number-preserved g c =
       omega arith,
       omega arith,
       subst (All (λ (u : Worker g.row.L). IsSeatOf board u.seat)) (sym c.in_ok-push.ensures.items)
-          (All-push (λ (u : Worker g.row.L). IsSeatOf board u.seat) c.loop-number.workers.items w h.5 (subst (λ (x : BoardSeat). IsSeatOf board x) (sym c.in_ok-worker_of.ensures.seat) c.split-own.ensures.seats.1)),
+          (All-push (λ (u : Worker g.row.L). IsSeatOf board u.seat) c.loop-number.workers.items w h.5
+          (subst (λ (x : BoardSeat). IsSeatOf board x) (sym c.in_ok-worker_of.ensures.seat) c.split-own.ensures.seats.1)),
       subst (All (IsNew g.row.L c.args.taken.now.snapshot c.args.taken.now.settings c.args.value)) (sym c.in_ok-push.ensures.items)
-          (All-push (IsNew g.row.L c.args.taken.now.snapshot c.args.taken.now.settings c.args.value) c.loop-number.workers.items w h.6 c.in_ok-worker_of.ensures.new),
+          (All-push (IsNew g.row.L c.args.taken.now.snapshot c.args.taken.now.settings c.args.value) c.loop-number.workers.items w h.6
+          c.in_ok-worker_of.ensures.new),
     )

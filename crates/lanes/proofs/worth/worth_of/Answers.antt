@@ -11,7 +11,8 @@ use Rattle.lanes.proofs.worth.worth_of.Goals as goal
 
 pub least_from-requires : goal.least_from-requires
 least_from-requires c =
-    let here = request_here c.args.snapshot.now c.known_place.result c.request_at-request.result.now c.recall_valid.ensures.orderly c.known_place.ensures.within c.request_at-request.ensures in
+    let here = request_here c.args.snapshot.now c.known_place.result c.request_at-request.result.now c.recall_valid.ensures.orderly
+    c.known_place.ensures.within c.request_at-request.ensures in
     record { moments = subst (λ (ws : List Span). All (λ w. IsMoment w.from.0) ws) (sym c.as_slice.ensures) (λ k d l. (here.asked.moments k d l).0) }
 
 pub faded-requires-clause-value : goal.faded-requires-clause-value
@@ -40,6 +41,8 @@ returns-clause-value c =
     let q = c.request_at-request.result.now in
     let here = request_here s c.known_place.result q c.recall_valid.ensures.orderly c.known_place.ensures.within c.request_at-request.ensures in
     let number = number_here s c.args.start.request.0 c.known_place.result q c.requires.known c.known_place.ensures.value c.request_at-request.ensures in
-    c.faded.ensures.value ∙ worth_here s c.args.start c.known_place.result q c.from-2.result c.from-3.result c.slices_for-earliest.result c.saturating_sub-delay.result here number c.from-2.ensures c.from-3.ensures
+    c.faded.ensures.value ∙ worth_here s c.args.start c.known_place.result q c.from-2.result c.from-3.result c.slices_for-earliest.result
+    c.saturating_sub-delay.result here number c.from-2.ensures c.from-3.ensures
     (c.slices_for-earliest.ensures.value ∙ ap (λ n. slices_for n c.least_from.result) (c.from-len.ensures ∙ ap (λ (p : Parts). p.len) c.parts.ensures.value)
-    ∙ ap (λ n. slices_for s.len n) (c.least_from.ensures.least ∙ ap (λ (ws : List Span). least_of (map (λ w. w.from.0) ws)) c.as_slice.ensures)) (c.saturating_sub-delay.ensures ∙ ap (λ n. n - c.slices_for-earliest.result) c.from.ensures)
+    ∙ ap (λ n. slices_for s.len n) (c.least_from.ensures.least ∙ ap (λ (ws : List Span). least_of (map (λ w. w.from.0) ws)) c.as_slice.ensures))
+    (c.saturating_sub-delay.ensures ∙ ap (λ n. n - c.slices_for-earliest.result) c.from.ensures)

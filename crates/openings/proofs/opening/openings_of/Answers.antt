@@ -10,12 +10,14 @@ loop-telescope-init c = subst (AreRowsTo c.args.snapshot.now c.args.request.0 0)
 pub loop-telescope-preserved : goal.loop-telescope-preserved
 loop-telescope-preserved c =
     subst (λ (rows : List (List Bool)). AreRowsTo c.args.snapshot.now c.args.request.0 (c.loop-telescope.telescope + 1) rows) (sym c.in_ok-push.ensures.items)
-    (rows_more c.args.snapshot.now c.args.request.0 c.loop-telescope.telescope c.loop-telescope.rows.items c.in_ok-row_of.field-0 c.loop-telescope.invariant c.in_ok-row_of.ensures)
+    (rows_more c.args.snapshot.now c.args.request.0 c.loop-telescope.telescope c.loop-telescope.rows.items c.in_ok-row_of.field-0
+    c.loop-telescope.invariant c.in_ok-row_of.ensures)
 
 pub returns-clause-openings : goal.returns-clause-openings
 returns-clause-openings c =
     let count : length c.parts.result.now.telescopes ≡ length c.args.snapshot.now.telescopes = ap (λ (s : Parts). length s.telescopes) c.parts.ensures.value in
-    let all : c.loop-telescope.telescope ≡ length c.args.snapshot.now.telescopes = omega (arith, c.loop-telescope-test.false, c.loop-telescope.auto.telescope-end, c.len-telescope-end.ensures) in
+    let all : c.loop-telescope.telescope ≡ length c.args.snapshot.now.telescopes =
+    omega (arith, c.loop-telescope-test.false, c.loop-telescope.auto.telescope-end, c.len-telescope-end.ensures) in
     record {
       known = c.requires.request;
       offer = c.offer_at-offer.ensures;

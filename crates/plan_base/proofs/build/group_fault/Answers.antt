@@ -12,5 +12,7 @@ returns-in-None c =
 pub returns-in-Some : goal.returns-in-Some
 returns-in-Some c =
     rw c.as_slice-groups.ensures
-    (ap (option_map (λ x. GroupOrder x.group)) (fall_found (λ x. x.group.0) c.args.parts.now.groups c.in-Some.index _ (rw c.as_slice-groups.ensures at c.in-Some.ensures.within) (rw c.as_slice-groups.ensures at c.in-Some.ensures.place))
+    (ap (option_map (λ x. GroupOrder x.group))
+    (fall_found (λ x. x.group.0) c.args.parts.now.groups c.in-Some.index _ (rw c.as_slice-groups.ensures at c.in-Some.ensures.within)
+    (rw c.as_slice-groups.ensures at c.in-Some.ensures.place))
     ∙ group_fault_is c.args.parts.now)

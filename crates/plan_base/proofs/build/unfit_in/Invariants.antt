@@ -4,4 +4,5 @@ use Rattle.plan_base.specs.Faults.{first_unfit}
 use Rattle.plan_base.proofs.build.unfit_in.Given as goal
 
 abbrev pub invariant-loop-request : goal.invariant-loop-request
-invariant-loop-request l = first_some (map (λ q. first_unfit l.count q.telescopes) (drop l.request-index l.group.requests)) ≡ first_some (map (λ q. first_unfit l.count q.telescopes) l.group.requests)
+invariant-loop-request l = first_some (map (λ q. first_unfit l.count q.telescopes) (drop l.request-index l.group.requests))
+    ≡ first_some (map (λ q. first_unfit l.count q.telescopes) l.group.requests)

@@ -7,7 +7,8 @@ use Rattle.plan_base.proofs.sky.count_below.Goals as goal
 pub returns : goal.returns
 returns c =
     let facts = c.partition_point.ensures in
-    let point = IsPartitionPoint-from_clause (is_below c.args.target.0 c.args.site.0) c.args.skies.now _ facts.partitioned (partitioned _ _ _ c.requires) (λ a r f' called. search rules) in
+    let point = IsPartitionPoint-from_clause (is_below c.args.target.0 c.args.site.0) c.args.skies.now _ facts.partitioned
+    (partitioned _ _ _ c.requires) (λ a r f' called. search rules) in
     record {
       within = facts.bound;
       below = λ k d lt. point.0 k d (omega arith) lt;

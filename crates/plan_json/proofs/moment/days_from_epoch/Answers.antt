@@ -10,7 +10,8 @@ overflow_cast-result c =
 
 pub returns-clause-value : goal.returns-clause-value
 returns-clause-value c =
-    rw (day_in_word c.args.date _ (c.to_unix_epoch_day.ensures.value ∙ ap epoch_day c.to_plain.ensures) c.requires) (sym (epoch_day-later c.args.date c.requires).0)
+    rw (day_in_word c.args.date _ (c.to_unix_epoch_day.ensures.value ∙ ap epoch_day c.to_plain.ensures) c.requires)
+    (sym (epoch_day-later c.args.date c.requires).0)
 
 pub returns-clause-small : goal.returns-clause-small
 returns-clause-small c =

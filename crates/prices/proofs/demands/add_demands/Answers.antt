@@ -12,8 +12,10 @@ loop-place-preserved c =
     elim c.if-taken-place.branch [
       | then-taken-place w ↦
           subst (λ (ds : List ℕ). IsDemandedUpTo c.args.snapshot.now c.args.taken.now c.args.demands.now ds (c.loop-place.place + 1)) (sym w.demands-is)
-          (demanded_more c.args.snapshot.now c.args.taken.now c.args.demands.now c.loop-place.demands w.add_request.new.demands c.loop-place.place below w.if-taken-place.true w.add_request.ensures.count w.add_request.ensures.added w.add_request.ensures.few c.loop-place.invariant)
+          (demanded_more c.args.snapshot.now c.args.taken.now c.args.demands.now c.loop-place.demands w.add_request.new.demands c.loop-place.place
+          below w.if-taken-place.true w.add_request.ensures.count w.add_request.ensures.added w.add_request.ensures.few c.loop-place.invariant)
       | else-taken-place w ↦
           subst (λ (ds : List ℕ). IsDemandedUpTo c.args.snapshot.now c.args.taken.now c.args.demands.now ds (c.loop-place.place + 1)) (sym w.demands-is)
-          (demanded_as_before c.args.snapshot.now c.args.taken.now c.args.demands.now c.loop-place.demands c.loop-place.place below w.if-taken-place.false c.loop-place.invariant)
+          (demanded_as_before c.args.snapshot.now c.args.taken.now c.args.demands.now c.loop-place.demands c.loop-place.place below
+          w.if-taken-place.false c.loop-place.invariant)
     ]

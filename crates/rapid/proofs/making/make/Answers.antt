@@ -11,7 +11,8 @@ place_and_price-requires-clause-extended c = record {
 pub returns : goal.returns
 returns c = record {
   tables = c.in_ok-priced.ensures.tables;
-  ok = c.in_ok-priced.ensures.made c.args.group (accepted_single c.args.snapshot.now c.args.group c.in_ok-extended.ensures.accepted) c.in_ok-extended.ensures.ok;
+  ok = c.in_ok-priced.ensures.made c.args.group (accepted_single c.args.snapshot.now c.args.group c.in_ok-extended.ensures.accepted)
+      c.in_ok-extended.ensures.ok;
   accepted = c.in_ok-extended.ensures.accepted;
   err = tt;
 }

@@ -9,5 +9,7 @@ use Rattle.rapid.proofs.placing.rising_requests.Goals as goal
 pub returns : goal.returns
 returns c =
     subst (AreRising (requests_of c.args.plan.now)) (sym c.from_vec.ensures)
-    (rising_of c.args.plan.now c.in_ok-requests.requests.items c.sort_unstable_by_key.new.self.items c.requires c.in_ok-requests.ensures c.sort_unstable_by_key.ensures.permutation
-    (IsNonDecreasingBy-from_sort (λ (r : RequestNo). r.0) c.sort_unstable_by_key.new.self.items (c.sort_unstable_by_key.ensures.sorted (λ r. r.0) (answers_always _ _ _ (λ f a r next called. search rules)))))
+    (rising_of c.args.plan.now c.in_ok-requests.requests.items c.sort_unstable_by_key.new.self.items c.requires c.in_ok-requests.ensures
+    c.sort_unstable_by_key.ensures.permutation
+    (IsNonDecreasingBy-from_sort (λ (r : RequestNo). r.0) c.sort_unstable_by_key.new.self.items
+    (c.sort_unstable_by_key.ensures.sorted (λ r. r.0) (answers_always _ _ _ (λ f a r next called. search rules)))))

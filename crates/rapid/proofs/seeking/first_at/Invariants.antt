@@ -6,4 +6,5 @@ use Rattle.rapid.specs.Found.{start_on}
 use Rattle.rapid.proofs.seeking.first_at.Given as goal
 
 abbrev pub invariant-loop-telescope : goal.invariant-loop-telescope
-invariant-loop-telescope l = (k : ℕ) (d : TelescopeNo) → k < l.telescope-index → ¬ (Qualifies l.snapshot (plan_of l.held) (start_on l.request l.slice (slice_index_or l.telescopes k d)))
+invariant-loop-telescope l = (k : ℕ) (d : TelescopeNo) → k < l.telescope-index
+    → ¬ (Qualifies l.snapshot (plan_of l.held) (start_on l.request l.slice (slice_index_or l.telescopes k d)))

@@ -14,8 +14,12 @@ overflow_add-sum c =
     let best : ℤ = c.first_entry.result in
     let is : IsBest c.args.snapshot.now c.args.prices.now.0 c.loop-telescope.telescope c.args.snapshot.now.first.0 best = c.first_entry.ensures in
     let kept : SFits w64 c.loop-telescope.sum.value = part_fits _ (bests_part c.loop-telescope.telescope _ _ (omega arith) c.loop-telescope.invariant) in
-    let part : SFits w64 best = best_fits c.args.snapshot.now c.args.prices.now.0 c.recall_valid.ensures.orderly c.requires.range c.loop-telescope.telescope best is in
-    let more : IsSummed (c.loop-telescope.telescope + 1) (λ t. IsBest c.args.snapshot.now c.args.prices.now.0 t c.args.snapshot.now.first.0) 1440414720000000 (c.loop-telescope.sum.value +ℤ best) = best_more c.args.snapshot.now c.args.prices.now.0 c.recall_valid.ensures.orderly c.requires.range c.loop-telescope.telescope c.loop-telescope.sum.value best c.loop-telescope.invariant is in
+    let part : SFits w64 best = best_fits c.args.snapshot.now c.args.prices.now.0 c.recall_valid.ensures.orderly c.requires.range
+    c.loop-telescope.telescope best is in
+    let more : IsSummed (c.loop-telescope.telescope + 1) (λ t. IsBest c.args.snapshot.now c.args.prices.now.0 t c.args.snapshot.now.first.0)
+    1440414720000000 (c.loop-telescope.sum.value +ℤ best) =
+    best_more c.args.snapshot.now c.args.prices.now.0 c.recall_valid.ensures.orderly c.requires.range c.loop-telescope.telescope
+    c.loop-telescope.sum.value best c.loop-telescope.invariant is in
     let whole : SFits w64 (c.loop-telescope.sum.value +ℤ best) = part_fits _ (bests_part (c.loop-telescope.telescope + 1) _ _ (omega arith) more) in
     simp to_z-of_z whole
 
@@ -26,8 +30,12 @@ loop-telescope-preserved c =
     let best : ℤ = c.first_entry.result in
     let is : IsBest c.args.snapshot.now c.args.prices.now.0 c.loop-telescope.telescope c.args.snapshot.now.first.0 best = c.first_entry.ensures in
     let kept : SFits w64 c.loop-telescope.sum.value = part_fits _ (bests_part c.loop-telescope.telescope _ _ (omega arith) c.loop-telescope.invariant) in
-    let part : SFits w64 best = best_fits c.args.snapshot.now c.args.prices.now.0 c.recall_valid.ensures.orderly c.requires.range c.loop-telescope.telescope best is in
-    let more : IsSummed (c.loop-telescope.telescope + 1) (λ t. IsBest c.args.snapshot.now c.args.prices.now.0 t c.args.snapshot.now.first.0) 1440414720000000 (c.loop-telescope.sum.value +ℤ best) = best_more c.args.snapshot.now c.args.prices.now.0 c.recall_valid.ensures.orderly c.requires.range c.loop-telescope.telescope c.loop-telescope.sum.value best c.loop-telescope.invariant is in
+    let part : SFits w64 best = best_fits c.args.snapshot.now c.args.prices.now.0 c.recall_valid.ensures.orderly c.requires.range
+    c.loop-telescope.telescope best is in
+    let more : IsSummed (c.loop-telescope.telescope + 1) (λ t. IsBest c.args.snapshot.now c.args.prices.now.0 t c.args.snapshot.now.first.0)
+    1440414720000000 (c.loop-telescope.sum.value +ℤ best) =
+    best_more c.args.snapshot.now c.args.prices.now.0 c.recall_valid.ensures.orderly c.requires.range c.loop-telescope.telescope
+    c.loop-telescope.sum.value best c.loop-telescope.invariant is in
     let whole : SFits w64 (c.loop-telescope.sum.value +ℤ best) = part_fits _ (bests_part (c.loop-telescope.telescope + 1) _ _ (omega arith) more) in
     simp to_z-of_z more
 
@@ -37,4 +45,5 @@ returns c =
     let count : length c.args.tables.now ≡ length c.args.snapshot.now.telescopes = c.requires.tables.count in
     let all : c.loop-telescope.telescope ≡ length c.args.snapshot.now.telescopes = omega arith in
     let kept : SFits w64 c.loop-telescope.sum.value = part_fits _ (bests_part c.loop-telescope.telescope _ _ (omega arith) c.loop-telescope.invariant) in
-    simp to_z-of_z (subst (λ (n : ℕ). IsSummed n (λ t. IsBest c.args.snapshot.now c.args.prices.now.0 t c.args.snapshot.now.first.0) 1440414720000000 c.loop-telescope.sum.value) all c.loop-telescope.invariant)
+    simp to_z-of_z (subst (λ (n : ℕ). IsSummed n (λ t. IsBest c.args.snapshot.now c.args.prices.now.0 t c.args.snapshot.now.first.0) 1440414720000000
+    c.loop-telescope.sum.value) all c.loop-telescope.invariant)

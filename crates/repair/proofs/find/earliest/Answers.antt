@@ -4,11 +4,14 @@ use Rattle.repair.proofs.Nearest.{run_more, size_of_run, earliest_of_all}
 use Rattle.repair.proofs.find.earliest.Goals as goal
 
 pub better-best-requires-clause-size : goal.better-best-requires-clause-size
-better-best-requires-clause-size c = size_of_run c.args.draft.now.snapshot c.args.entry.now c.as_slice-run-items.result.now c.loop-run.run-index _ c.requires c.as_slice-run-items.ensures c.loop-run-test.true
+better-best-requires-clause-size c =
+    size_of_run c.args.draft.now.snapshot c.args.entry.now c.as_slice-run-items.result.now c.loop-run.run-index _ c.requires
+    c.as_slice-run-items.ensures c.loop-run-test.true
 
 pub loop-run-preserved : goal.loop-run-preserved
 loop-run-preserved c =
-    run_more c.args.draft.now.snapshot c.args.draft.now.placed c.args.entry.now c.as_slice-run-items.result.now c.loop-run.run-index _ c.loop-run.best c.better-best.result c.recall.ensures.orderly c.requires c.as_slice-run-items.ensures c.loop-run-test.true c.loop-run.invariant
+    run_more c.args.draft.now.snapshot c.args.draft.now.placed c.args.entry.now c.as_slice-run-items.result.now c.loop-run.run-index _ c.loop-run.best
+    c.better-best.result c.recall.ensures.orderly c.requires c.as_slice-run-items.ensures c.loop-run-test.true c.loop-run.invariant
     c.better-best.ensures
 
 pub returns : goal.returns

@@ -12,7 +12,8 @@ returns-clause-feasible c =
     let plan = c.fill.new.draft.placed in
     let filled : IsFilled s [] plan = subst (λ (b : Building). IsFilled b.snapshot b.placed plan) c.in_ok-draft.ensures c.fill.ensures.filled in
     IfOk-weaker c.from_slice.result (λ v. v.items ≡ c.placed.result.now) (λ v. IsFeasible s v.items)
-    (λ v is. subst (IsFeasible s) (sym (is ∙ c.placed.ensures.value)) (c.filled_is_saturated.ensures.feasible [] plan c.empty_is_feasible.ensures filled)) c.from_slice.ensures.items
+    (λ v is. subst (IsFeasible s) (sym (is ∙ c.placed.ensures.value))
+    (c.filled_is_saturated.ensures.feasible [] plan c.empty_is_feasible.ensures filled)) c.from_slice.ensures.items
 
 pub returns-clause-saturated : goal.returns-clause-saturated
 returns-clause-saturated c =

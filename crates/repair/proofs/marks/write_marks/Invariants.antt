@@ -3,4 +3,5 @@ use Rattle.repair.proofs.marks.write_marks.Given as goal
 
 abbrev pub invariant-loop-slot : goal.invariant-loop-slot
 invariant-loop-slot l =
-    (length l.marks.items ≡ length l.fn.marks.items) × ((i : ℕ) → slice_index_or l.marks.items i 0 ≡ cond (nat_le l.from i && nat_lt i l.slot) l.mark (slice_index_or l.fn.marks.items i 0))
+    (length l.marks.items ≡ length l.fn.marks.items)
+    × ((i : ℕ) → slice_index_or l.marks.items i 0 ≡ cond (nat_le l.from i && nat_lt i l.slot) l.mark (slice_index_or l.fn.marks.items i 0))

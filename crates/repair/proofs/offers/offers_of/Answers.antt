@@ -6,7 +6,8 @@ use Rattle.repair.proofs.offers.offers_of.Goals as goal
 
 pub loop-place-preserved : goal.loop-place-preserved
 loop-place-preserved c =
-    subst (AreOffersOf c.args.snapshot.now (c.loop-place.place + 1)) (sym c.in_ok-push.ensures.items) (offers_more c.args.snapshot.now c.loop-place.place c.loop-place.offers.items c.offer_at.result c.loop-place.invariant c.offer_at.ensures)
+    subst (AreOffersOf c.args.snapshot.now (c.loop-place.place + 1)) (sym c.in_ok-push.ensures.items)
+    (offers_more c.args.snapshot.now c.loop-place.place c.loop-place.offers.items c.offer_at.result c.loop-place.invariant c.offer_at.ensures)
 
 pub returns-clause-offers : goal.returns-clause-offers
 returns-clause-offers c =

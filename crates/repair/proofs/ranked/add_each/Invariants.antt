@@ -9,5 +9,6 @@ abbrev pub invariant-loop-rank : goal.invariant-loop-rank
 invariant-loop-rank l = record {
   same : l.draft.snapshot ≡ l.fn.draft.snapshot;
   feasible : IsFeasible l.fn.draft.snapshot l.draft.placed;
-  adds : (after : List Placement) → AddsEach l.fn.draft.snapshot l.draft.placed (drop l.rank-index (map start_of l.ranked)) after → AddsEach l.fn.draft.snapshot l.fn.draft.placed (map start_of l.ranked) after;
+  adds : (after : List Placement) → AddsEach l.fn.draft.snapshot l.draft.placed (drop l.rank-index (map start_of l.ranked)) after
+      → AddsEach l.fn.draft.snapshot l.fn.draft.placed (map start_of l.ranked) after;
 }

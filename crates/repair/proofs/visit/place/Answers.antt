@@ -7,7 +7,8 @@ returns-in_default-clause-placed c = (none_free c.args.draft.now.snapshot c.args
 
 pub returns-then-not-can_add-clause-placed : goal.returns-then-not-can_add-clause-placed
 returns-then-not-can_add-clause-placed c = (
-  none_free_within c.args.draft.now.snapshot c.args.draft.now.placed c.args.entry.now.request.0 c.in-Some.start c.recall.ensures.so_far c.in-Some.ensures c.requires.unplaced c.requires.alone
+  none_free_within c.args.draft.now.snapshot c.args.draft.now.placed c.args.entry.now.request.0 c.in-Some.start c.recall.ensures.so_far
+      c.in-Some.ensures c.requires.unplaced c.requires.alone
       (λ after. let bad = sym c.if-not-can_add.true ∙ c.can_add.ensures.1 after in cc),
   refl,
 )
@@ -15,6 +16,7 @@ returns-then-not-can_add-clause-placed c = (
 pub returns-clause-placed : goal.returns-clause-placed
 returns-clause-placed c = (
   c.in-Some.start,
-  earliest_free c.args.draft.now.snapshot c.args.draft.now.placed c.args.entry.now.request.0 c.in-Some.start c.recall.ensures.orderly c.in-Some.ensures (c.can_add.ensures.0 c.if-not-can_add.false),
+  earliest_free c.args.draft.now.snapshot c.args.draft.now.placed c.args.entry.now.request.0 c.in-Some.start c.recall.ensures.orderly
+      c.in-Some.ensures (c.can_add.ensures.0 c.if-not-can_add.false),
   cc,
 )

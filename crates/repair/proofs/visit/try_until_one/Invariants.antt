@@ -8,5 +8,6 @@ abbrev pub invariant-loop-entry : goal.invariant-loop-entry
 invariant-loop-entry l = record {
   same : l.draft.snapshot ≡ l.fn.draft.snapshot;
   none : l.draft.placed ≡ l.fn.draft.placed;
-  tries : (after : List Placement) → TriesUntilOne l.fn.draft.snapshot l.fn.draft.placed (numbers_of (drop l.entry-index l.entries)) after → TriesUntilOne l.fn.draft.snapshot l.fn.draft.placed (numbers_of l.entries) after;
+  tries : (after : List Placement) → TriesUntilOne l.fn.draft.snapshot l.fn.draft.placed (numbers_of (drop l.entry-index l.entries)) after
+      → TriesUntilOne l.fn.draft.snapshot l.fn.draft.placed (numbers_of l.entries) after;
 }

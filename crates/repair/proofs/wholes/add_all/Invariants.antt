@@ -9,5 +9,6 @@ invariant-loop-entry l = record {
   same : l.draft.snapshot ≡ l.fn.draft.snapshot;
   count : l.count ≡ length l.fn.draft.placed;
   grown : IsGrown l.fn.draft.placed l.draft.placed l.entries l.entry-index;
-  added : (starts : List Placement) → AreFirsts l.fn.draft.snapshot starts l.firsts → IsAdded l.fn.draft.snapshot starts l.fn.draft.placed l.draft.placed l.entries l.entry-index;
+  added : (starts : List Placement) → AreFirsts l.fn.draft.snapshot starts l.firsts
+      → IsAdded l.fn.draft.snapshot starts l.fn.draft.placed l.draft.placed l.entries l.entry-index;
 }

@@ -10,12 +10,14 @@ use Rattle.repair.proofs.wholes.add_whole.Goals as goal
 pub returns-in-And-clause-feasible : goal.returns-in-And-clause-feasible
 returns-in-And-clause-feasible c =
     let other : c.args.trial.now.op ≢ OneOf = λ e. cc in
-    places_feasible c.args.draft.now.snapshot c.args.draft.now.placed c.args.group _ c.add_all.new.draft.placed c.recall.ensures.orderly c.requires.feasible (ap numbers_of c.deref.ensures.value ∙ c.requires.trial.by_number other) c.add_all.ensures.placed
+    places_feasible c.args.draft.now.snapshot c.args.draft.now.placed c.args.group _ c.add_all.new.draft.placed c.recall.ensures.orderly
+    c.requires.feasible (ap numbers_of c.deref.ensures.value ∙ c.requires.trial.by_number other) c.add_all.ensures.placed
 
 pub returns-in-And-clause-adds : goal.returns-in-And-clause-adds
 returns-in-And-clause-adds c = λ starts are.
     let other : c.args.trial.now.op ≢ OneOf = λ e. cc in
-    adds_whole c.args.draft.now.snapshot starts c.args.draft.now.placed c.args.group _ c.add_all.new.draft.placed c.recall.ensures.orderly (subst (λ (k : Op). IsKind c.args.draft.now.snapshot k c.args.group) c.in-And.is c.requires.trial.kind) c.requires.feasible
+    adds_whole c.args.draft.now.snapshot starts c.args.draft.now.placed c.args.group _ c.add_all.new.draft.placed c.recall.ensures.orderly
+    (subst (λ (k : Op). IsKind c.args.draft.now.snapshot k c.args.group) c.in-And.is c.requires.trial.kind) c.requires.feasible
     (ap numbers_of c.deref.ensures.value ∙ c.requires.trial.by_number other) (c.add_all.ensures.adds starts are)
 
 pub returns-in-Single-clause-adds : goal.returns-in-Single-clause-adds

@@ -15,8 +15,11 @@ loop-group-preserved c =
       feasible = subst (λ (p : Parts). IsFeasible p c.add_whole.new.draft.placed) c.loop-group.invariant.same c.add_whole.ensures.feasible;
       adds = λ starts are. wholes_more s starts c.args.draft.now.placed c.loop-group.draft.placed c.add_whole.new.draft.placed c.loop-group.group (omega arith)
           (subst (λ (p : Parts). AddsWhole p starts c.loop-group.draft.placed c.loop-group.group c.add_whole.new.draft.placed) c.loop-group.invariant.same
-          (c.add_whole.ensures.adds starts (subst (λ (p : Parts). AreFirsts p starts c.args.firsts.now) (sym c.loop-group.invariant.same) are))) (c.loop-group.invariant.adds starts are);
+          (c.add_whole.ensures.adds starts (subst (λ (p : Parts). AreFirsts p starts c.args.firsts.now) (sym c.loop-group.invariant.same) are)))
+          (c.loop-group.invariant.adds starts are);
     }
 
 pub returns-clause-adds : goal.returns-clause-adds
-returns-clause-adds c = λ starts are. let count = c.requires.trials.groups.count in wholes_all c.args.draft.now.snapshot starts c.args.draft.now.placed c.loop-group.draft.placed c.loop-group.group (omega arith) (c.loop-group.invariant.adds starts are)
+returns-clause-adds c = λ starts are. let count = c.requires.trials.groups.count in
+    wholes_all c.args.draft.now.snapshot starts c.args.draft.now.placed c.loop-group.draft.placed c.loop-group.group (omega arith)
+    (c.loop-group.invariant.adds starts are)

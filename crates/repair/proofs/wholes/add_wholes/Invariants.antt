@@ -9,6 +9,7 @@ abbrev pub invariant-loop-group : goal.invariant-loop-group
 invariant-loop-group l = record {
   same : l.draft.snapshot ≡ l.fn.draft.snapshot;
   feasible : IsFeasible l.fn.draft.snapshot l.draft.placed;
-  adds : (starts : List Placement) → AreFirsts l.fn.draft.snapshot starts l.firsts → (after : List Placement) → AddsWholes l.fn.draft.snapshot starts l.draft.placed (drop l.group (group_places l.fn.draft.snapshot)) after
+  adds : (starts : List Placement) → AreFirsts l.fn.draft.snapshot starts l.firsts → (after : List Placement)
+      → AddsWholes l.fn.draft.snapshot starts l.draft.placed (drop l.group (group_places l.fn.draft.snapshot)) after
       → AddsWholes l.fn.draft.snapshot starts l.fn.draft.placed (group_places l.fn.draft.snapshot) after;
 }

@@ -12,7 +12,8 @@ publish_found-requires-clause-found c = c.into_parts-taken.ensures.found
 
 pub returns-clause-reply : goal.returns-clause-reply
 returns-clause-reply c =
-    plan_replied c.args.state.now c.into_parts-taken.result.0 c.in_ok-reply.reply (subst (λ (t : Taken). IsTakenOf c.args.state.now t) (sym c.into_parts-taken.ensures.same_taken) c.requires.taken)
+    plan_replied c.args.state.now c.into_parts-taken.result.0 c.in_ok-reply.reply
+    (subst (λ (t : Taken). IsTakenOf c.args.state.now t) (sym c.into_parts-taken.ensures.same_taken) c.requires.taken)
     c.in_ok-reply.ensures.publication c.in_ok-reply.ensures.claims
 
 pub returns-clause-left : goal.returns-clause-left

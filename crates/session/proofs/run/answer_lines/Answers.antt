@@ -34,7 +34,8 @@ do_line-requires-clause-version g c κs sub =
     let after = g.S.Source.left c.next.new.source in
     let due = going_due a b w x y r old now n s c.write_due.result c.in-Done.is was.going c.write_due.ensures.bytes in
     let line = c.in-Line.line in
-    let next = next_line a b after w y r c.next.new.self now n s line c.in_ok-line.field-0 c.in-Line.is due c.in_ok-line.ensures.next (λ e f. let same = c.in_ok-line.ensures.stays_ended e f in (ap (g.S.Source.left) same.0, same.1.0)) in
+    let next = next_line a b after w y r c.next.new.self now n s line c.in_ok-line.field-0 c.in-Line.is due c.in_ok-line.ensures.next
+    (λ e f. let same = c.in_ok-line.ensures.stays_ended e f in (ap (g.S.Source.left) same.0, same.1.0)) in
     omega (arith, few_done a b after w y r c.next.new.self now n s line next, was.going.version)
 
 pub loop-cache-preserved : goal.loop-cache-preserved
@@ -53,12 +54,24 @@ loop-cache-preserved g c =
     let after = g.S.Source.left c.next.new.source in
     let due = going_due a b w x y r old now n s c.write_due.result c.in-Done.is was.going c.write_due.ensures.bytes in
     let line = c.in-Line.line in
-    let next = next_line a b after w y r c.next.new.self now n s line c.in_ok-line.field-0 c.in-Line.is due c.in_ok-line.ensures.next (λ e f. let same = c.in_ok-line.ensures.stays_ended e f in (ap (g.S.Source.left) same.0, same.1.0)) in
+    let next = next_line a b after w y r c.next.new.self now n s line c.in_ok-line.field-0 c.in-Line.is due c.in_ok-line.ensures.next
+    (λ e f. let same = c.in_ok-line.ensures.stays_ended e f in (ap (g.S.Source.left) same.0, same.1.0)) in
     record {
-      going = going_line a b after w y r c.next.new.self now c.do_line.new.replies.items n s c.do_line.new.state line c.in_ok-do_line-in-Line.field-0 next c.in_ok-do_line-in-Line.ensures;
+      going = going_line a b after w y r c.next.new.self now c.do_line.new.replies.items n s c.do_line.new.state line c.in_ok-do_line-in-Line.field-0
+          next c.in_ok-do_line-in-Line.ensures;
       steady = next.steady;
-      reads = omega (arith, was.reads, later_read r (g.S.Source.faults c.loop-cache.source) (g.S.Source.faults c.next.new.source) c.in_ok-line.field-0 line c.in-Line.is c.in_ok-line.ensures.cause);
-      writes = omega (arith, was.writes, later_written (g.K.Sink.faults c.loop-cache.sink) (g.K.Sink.faults c.write_due.new.sink) c.write_due.result c.in-Done.is c.write_due.ensures.cause);
+      reads = omega (
+        arith,
+        was.reads,
+        later_read r (g.S.Source.faults c.loop-cache.source) (g.S.Source.faults c.next.new.source) c.in_ok-line.field-0 line c.in-Line.is
+            c.in_ok-line.ensures.cause,
+      );
+      writes = omega (
+        arith,
+        was.writes,
+        later_written (g.K.Sink.faults c.loop-cache.sink)
+            (g.K.Sink.faults c.write_due.new.sink) c.write_due.result c.in-Done.is c.write_due.ensures.cause,
+      );
     }
 
 pub loop-cache-preserved-in_ok-do_line-in-Line : goal.loop-cache-preserved-in_ok-do_line-in-Line
@@ -77,17 +90,30 @@ loop-cache-preserved-in_ok-do_line-in-Line g c =
     let after = g.S.Source.left c.next.new.source in
     let due = going_due a b w x y r old now n s c.write_due.result c.in-Done.is was.going c.write_due.ensures.bytes in
     let line = c.in-Line.line in
-    let next = next_line a b after w y r c.next.new.self now n s line c.in_ok-line.field-0 c.in-Line.is due c.in_ok-line.ensures.next (λ e f. let same = c.in_ok-line.ensures.stays_ended e f in (ap (g.S.Source.left) same.0, same.1.0)) in
+    let next = next_line a b after w y r c.next.new.self now n s line c.in_ok-line.field-0 c.in-Line.is due c.in_ok-line.ensures.next
+    (λ e f. let same = c.in_ok-line.ensures.stays_ended e f in (ap (g.S.Source.left) same.0, same.1.0)) in
     record {
-      going = going_line a b after w y r c.next.new.self now c.do_line.new.replies.items n s c.do_line.new.state line c.in_ok-do_line-in-Line.field-0 next c.in_ok-do_line-in-Line.ensures;
+      going = going_line a b after w y r c.next.new.self now c.do_line.new.replies.items n s c.do_line.new.state line c.in_ok-do_line-in-Line.field-0
+          next c.in_ok-do_line-in-Line.ensures;
       steady = next.steady;
-      reads = omega (arith, was.reads, later_read r (g.S.Source.faults c.loop-cache.source) (g.S.Source.faults c.next.new.source) c.in_ok-line.field-0 line c.in-Line.is c.in_ok-line.ensures.cause);
-      writes = omega (arith, was.writes, later_written (g.K.Sink.faults c.loop-cache.sink) (g.K.Sink.faults c.write_due.new.sink) c.write_due.result c.in-Done.is c.write_due.ensures.cause);
+      reads = omega (
+        arith,
+        was.reads,
+        later_read r (g.S.Source.faults c.loop-cache.source) (g.S.Source.faults c.next.new.source) c.in_ok-line.field-0 line c.in-Line.is
+            c.in_ok-line.ensures.cause,
+      );
+      writes = omega (
+        arith,
+        was.writes,
+        later_written (g.K.Sink.faults c.loop-cache.sink)
+            (g.K.Sink.faults c.write_due.new.sink) c.write_due.result c.in-Done.is c.write_due.ensures.cause,
+      );
     }
 
 pub returns-in_err-reader-clause-gathered : goal.returns-in_err-reader-clause-gathered
 returns-in_err-reader-clause-gathered g c =
-    on_err _ c.from_residual.result (gathered_none (g.S.Source.left c.args.source.now) (g.K.Sink.written c.args.sink.now) c.args.replies.now.items c.requires.none)
+    on_err _ c.from_residual.result
+    (gathered_none (g.S.Source.left c.args.source.now) (g.K.Sink.written c.args.sink.now) c.args.replies.now.items c.requires.none)
 
 pub returns-in-WriteFault-clause-session : goal.returns-in-WriteFault-clause-session
 returns-in-WriteFault-clause-session g c =
@@ -120,7 +146,8 @@ returns-in_err-line-clause-gathered g c =
     let due = going_due a b w x y r old now n s c.write_due.result c.in-Done.is was.going c.write_due.ensures.bytes in
     let after = g.S.Source.left c.next.new.source in
     on_err _ c.from_residual-in_err-line.result
-    (gathered_read a b after w y r c.next.new.self now n s due c.in_err-line.ensures.err c.in_err-line.ensures.err_state.1 (λ e f. (c.in_err-line.ensures.stays_ended e f).1))
+    (gathered_read a b after w y r c.next.new.self now n s due c.in_err-line.ensures.err c.in_err-line.ensures.err_state.1
+    (λ e f. (c.in_err-line.ensures.stays_ended e f).1))
 
 pub returns-in_err-do_line-in-Line-clause-gathered : goal.returns-in_err-do_line-in-Line-clause-gathered
 returns-in_err-do_line-in-Line-clause-gathered g c =
@@ -138,9 +165,11 @@ returns-in_err-do_line-in-Line-clause-gathered g c =
     let after = g.S.Source.left c.next.new.source in
     let due = going_due a b w x y r old now n s c.write_due.result c.in-Done.is was.going c.write_due.ensures.bytes in
     let line = c.in-Line.line in
-    let next = next_line a b after w y r c.next.new.self now n s line c.in_ok-line.field-0 c.in-Line.is due c.in_ok-line.ensures.next (λ e f. let same = c.in_ok-line.ensures.stays_ended e f in (ap (g.S.Source.left) same.0, same.1.0)) in
+    let next = next_line a b after w y r c.next.new.self now n s line c.in_ok-line.field-0 c.in-Line.is due c.in_ok-line.ensures.next
+    (λ e f. let same = c.in_ok-line.ensures.stays_ended e f in (ap (g.S.Source.left) same.0, same.1.0)) in
     on_err _ c.from_residual-in_err-do_line-in-Line.result
-    (gathered_line a b after w y r c.next.new.self now c.do_line.new.replies.items n s c.do_line.new.state line c.in_err-do_line-in-Line.field-0.0 next c.in_err-do_line-in-Line.ensures)
+    (gathered_line a b after w y r c.next.new.self now c.do_line.new.replies.items n s c.do_line.new.state line c.in_err-do_line-in-Line.field-0.0
+    next c.in_err-do_line-in-Line.ensures)
 
 pub returns-in-End-clause-session : goal.returns-in-End-clause-session
 returns-in-End-clause-session g c =
@@ -157,8 +186,11 @@ returns-in-End-clause-session g c =
     let was = c.loop-cache.invariant in
     let after = g.S.Source.left c.next.new.source in
     let due = going_due a b w x y r old now n s c.write_due.result c.in-Done.is was.going c.write_due.ensures.bytes in
-    let none : now ≡ [] = no_line_left r now c.in_ok-line.field-0 answer.End (λ line e. cc) c.in-End.is c.write_due.ensures.due (λ has. (c.in_ok-line.ensures.at_hand has).1) in
-    all_answered a b after w y r c.next.new.self now n s answer.End none due (subst (IsNext r b c.next.new.self after) c.in-End.is c.in_ok-line.ensures.next) (λ e f. let same = c.in_ok-line.ensures.stays_ended e f in (ap (g.S.Source.left) same.0, sym c.in-End.is ∙ same.1.0)) (λ line e. cc)
+    let none : now ≡ [] = no_line_left r now c.in_ok-line.field-0 answer.End (λ line e. cc) c.in-End.is c.write_due.ensures.due
+    (λ has. (c.in_ok-line.ensures.at_hand has).1) in
+    all_answered a b after w y r c.next.new.self now n s answer.End none due
+    (subst (IsNext r b c.next.new.self after) c.in-End.is c.in_ok-line.ensures.next) (λ e f. let same = c.in_ok-line.ensures.stays_ended e f in
+    (ap (g.S.Source.left) same.0, sym c.in-End.is ∙ same.1.0)) (λ line e. cc)
 
 pub returns-in-ReadFault-clause-session : goal.returns-in-ReadFault-clause-session
 returns-in-ReadFault-clause-session g c =
@@ -175,8 +207,11 @@ returns-in-ReadFault-clause-session g c =
     let was = c.loop-cache.invariant in
     let after = g.S.Source.left c.next.new.source in
     let due = going_due a b w x y r old now n s c.write_due.result c.in-Done.is was.going c.write_due.ensures.bytes in
-    let none : now ≡ [] = no_line_left r now c.in_ok-line.field-0 answer.ReadFault (λ line e. cc) c.in-ReadFault.is c.write_due.ensures.due (λ has. (c.in_ok-line.ensures.at_hand has).1) in
-    all_answered a b after w y r c.next.new.self now n s answer.ReadFault none due (subst (IsNext r b c.next.new.self after) c.in-ReadFault.is c.in_ok-line.ensures.next) (λ e f. let same = c.in_ok-line.ensures.stays_ended e f in (ap (g.S.Source.left) same.0, sym c.in-ReadFault.is ∙ same.1.0)) (λ line e. cc)
+    let none : now ≡ [] = no_line_left r now c.in_ok-line.field-0 answer.ReadFault (λ line e. cc) c.in-ReadFault.is c.write_due.ensures.due
+    (λ has. (c.in_ok-line.ensures.at_hand has).1) in
+    all_answered a b after w y r c.next.new.self now n s answer.ReadFault none due
+    (subst (IsNext r b c.next.new.self after) c.in-ReadFault.is c.in_ok-line.ensures.next)
+    (λ e f. let same = c.in_ok-line.ensures.stays_ended e f in (ap (g.S.Source.left) same.0, sym c.in-ReadFault.is ∙ same.1.0)) (λ line e. cc)
 
 pub returns-in-InputOver-clause-session : goal.returns-in-InputOver-clause-session
 returns-in-InputOver-clause-session g c =
@@ -193,5 +228,8 @@ returns-in-InputOver-clause-session g c =
     let was = c.loop-cache.invariant in
     let after = g.S.Source.left c.next.new.source in
     let due = going_due a b w x y r old now n s c.write_due.result c.in-Done.is was.going c.write_due.ensures.bytes in
-    let none : now ≡ [] = no_line_left r now c.in_ok-line.field-0 answer.InputOver (λ line e. cc) c.in-InputOver.is c.write_due.ensures.due (λ has. (c.in_ok-line.ensures.at_hand has).1) in
-    all_answered a b after w y r c.next.new.self now n s answer.InputOver none due (subst (IsNext r b c.next.new.self after) c.in-InputOver.is c.in_ok-line.ensures.next) (λ e f. let same = c.in_ok-line.ensures.stays_ended e f in (ap (g.S.Source.left) same.0, sym c.in-InputOver.is ∙ same.1.0)) (λ line e. cc)
+    let none : now ≡ [] = no_line_left r now c.in_ok-line.field-0 answer.InputOver (λ line e. cc) c.in-InputOver.is c.write_due.ensures.due
+    (λ has. (c.in_ok-line.ensures.at_hand has).1) in
+    all_answered a b after w y r c.next.new.self now n s answer.InputOver none due
+    (subst (IsNext r b c.next.new.self after) c.in-InputOver.is c.in_ok-line.ensures.next)
+    (λ e f. let same = c.in_ok-line.ensures.stays_ended e f in (ap (g.S.Source.left) same.0, sym c.in-InputOver.is ∙ same.1.0)) (λ line e. cc)

@@ -11,13 +11,18 @@ loop-place-preserved c =
     elim c.if-eq.branch [
       | then-eq+in_ok-push w ↦
           let same : nat_eq c.index.result.now.site.0 c.args.site.0 ≡ true = sym c.eq.ensures ∙ w.if-eq.true in
-          let pushed : c.if-eq.numbers.items ≡ c.loop-place.numbers.items ++ record { 0 = c.loop-place.place } ∷ [] = ap (λ v. v.items) w.numbers-is ∙ w.in_ok-push.ensures.items in
-          subst (AtSoFar es c.args.site (c.loop-place.place + 1)) (sym pushed) (one_more es c.args.site c.loop-place.place c.loop-place.numbers.items c.index.result.now c.loop-place.invariant few c.index.ensures same)
+          let pushed : c.if-eq.numbers.items ≡ c.loop-place.numbers.items ++ record { 0 = c.loop-place.place } ∷ [] = ap (λ v. v.items) w.numbers-is
+          ∙ w.in_ok-push.ensures.items in
+          subst (AtSoFar es c.args.site (c.loop-place.place + 1)) (sym pushed)
+          (one_more es c.args.site c.loop-place.place c.loop-place.numbers.items c.index.result.now c.loop-place.invariant
+          few c.index.ensures same)
       | else-eq w ↦
           let other : nat_eq c.index.result.now.site.0 c.args.site.0 ≡ false = sym c.eq.ensures ∙ w.if-eq.false in
           let kept : c.if-eq.numbers.items ≡ c.loop-place.numbers.items = ap (λ v. v.items) w.numbers-is in
-          subst (AtSoFar es c.args.site (c.loop-place.place + 1)) (sym kept) (none_more es c.args.site c.loop-place.place c.loop-place.numbers.items c.index.result.now c.loop-place.invariant c.index.ensures other)
+          subst (AtSoFar es c.args.site (c.loop-place.place + 1)) (sym kept)
+          (none_more es c.args.site c.loop-place.place c.loop-place.numbers.items c.index.result.now c.loop-place.invariant c.index.ensures other)
     ]
 
 pub returns-clause-numbers : goal.returns-clause-numbers
-returns-clause-numbers c = at_site c.args.telescopes.now.entries c.args.site c.loop-place.place c.loop-place.numbers.items c.loop-place.invariant (omega (arith, c.loop-place-test.false, c.len-place-end.ensures.len))
+returns-clause-numbers c = at_site c.args.telescopes.now.entries c.args.site c.loop-place.place c.loop-place.numbers.items c.loop-place.invariant
+    (omega (arith, c.loop-place-test.false, c.len-place-end.ensures.len))

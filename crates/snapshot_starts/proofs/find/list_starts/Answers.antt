@@ -20,14 +20,18 @@ runs_of-requires c = run_spans c.args.snapshot.now c.args.found.now c.recall_val
 
 pub from_runs-requires : goal.from_runs-requires
 from_runs-requires c =
-    subst CanKeep (sym c.in_ok-runs.ensures) (can_keep c.args.snapshot.now c.args.found.now c.count_starts-count.result c.recall_valid.ensures.orderly c.requires c.count_starts-count.ensures c.if-count-gt-MOST_STARTS.false)
+    subst CanKeep (sym c.in_ok-runs.ensures)
+    (can_keep c.args.snapshot.now c.args.found.now c.count_starts-count.result c.recall_valid.ensures.orderly c.requires
+    c.count_starts-count.ensures c.if-count-gt-MOST_STARTS.false)
 
 pub returns-clause-ok : goal.returns-clause-ok
 returns-clause-ok c =
-    subst (AreAllStarts c.args.snapshot.now) (sym (c.in_ok-from_runs.ensures ∙ ap starts_of c.in_ok-runs.ensures)) (all_found c.args.snapshot.now c.args.found.now c.recall_valid.ensures.orderly c.requires)
+    subst (AreAllStarts c.args.snapshot.now) (sym (c.in_ok-from_runs.ensures ∙ ap starts_of c.in_ok-runs.ensures))
+    (all_found c.args.snapshot.now c.args.found.now c.recall_valid.ensures.orderly c.requires)
 
 pub returns-clause-few : goal.returns-clause-few
 returns-clause-few c =
     let count : length c.in_ok-from_runs.field-0 ≡ sum_by (λ x. slice_count x.slices) c.args.found.now =
-    ap (λ (starts : List Placement). length starts) (c.in_ok-from_runs.ensures ∙ ap starts_of c.in_ok-runs.ensures) ∙ length_of_starts (runs_of c.args.found.now) ∙ count_of_runs c.args.found.now in
+    ap (λ (starts : List Placement). length starts) (c.in_ok-from_runs.ensures ∙ ap starts_of c.in_ok-runs.ensures)
+    ∙ length_of_starts (runs_of c.args.found.now) ∙ count_of_runs c.args.found.now in
     omega (arith, count, c.count_starts-count.ensures, c.if-count-gt-MOST_STARTS.false)

@@ -6,7 +6,8 @@ use Rattle.snapshot_starts.proofs.list.count_before.Goals as goal
 pub returns-clause-counted : goal.returns-clause-counted
 returns-clause-counted c =
     let facts = c.partition_point.ensures in
-    let point = IsPartitionPoint-from_clause (λ run. nat_lt run.request.0 c.args.request.0) c.args.runs.now _ facts.partitioned (IsPartitionedBy-ltb (λ (run : Run). run.request.0) c.args.runs.now c.args.request.0 c.requires) (λ a r f' called. search rules) in
+    let point = IsPartitionPoint-from_clause (λ run. nat_lt run.request.0 c.args.request.0) c.args.runs.now _ facts.partitioned
+    (IsPartitionedBy-ltb (λ (run : Run). run.request.0) c.args.runs.now c.args.request.0 c.requires) (λ a r f' called. search rules) in
     record {
       below = λ k d lt within. point.0 k d (omega arith) lt;
       others = λ k d le lt. point.1 k d le lt;

@@ -7,7 +7,8 @@ use Rattle.snapshot_starts.proofs.list.count_up_to.Goals as goal
 pub returns : goal.returns
 returns c =
     let facts = c.partition_point.ensures in
-    let point = IsPartitionPoint-from_clause (λ (sum : ℕ). nat_le sum c.args.most) c.args.sums.now _ facts.partitioned (IsPartitionedBy-leb (λ (sum : ℕ). sum) c.args.sums.now _ c.requires) (λ a r f' called. search rules) in
+    let point = IsPartitionPoint-from_clause (λ (sum : ℕ). nat_le sum c.args.most) c.args.sums.now _ facts.partitioned
+    (IsPartitionedBy-leb (λ (sum : ℕ). sum) c.args.sums.now _ c.requires) (λ a r f' called. search rules) in
     record {
       within = facts.bound;
       up_to = λ k below. grind (arith, nat_tests, point.0 k 0 (omega arith) below);

@@ -20,7 +20,8 @@ returns-then-is_empty c =
     let stay = c.in_ok-stay.stay in
     let same = c.parts.ensures.value ∙ c.snapshot.ensures in
     let are : AreSlices (λ k. CanStart s q t k × IsTrue (span_has earlier k)) stay =
-    stay_slices was s q t horizon earlier stay (subst IsOrderly c.snapshot.ensures c.parts.ensures.orderly) c.requires.orderly c.requires.known c.requires.steady c.horizon_for-horizon.ensures.horizon
+    stay_slices was s q t horizon earlier stay (subst IsOrderly c.snapshot.ensures c.parts.ensures.orderly) c.requires.orderly c.requires.known
+    c.requires.steady c.horizon_for-horizon.ensures.horizon
     (subst (λ (p : Parts). IsHorizonFor p q.seconds earlier) same c.horizon_for-earlier.ensures.horizon) c.in_ok-stay.ensures in
     stay_and_new s q t horizon earlier stay c.in_ok-new.new stay c.horizon_for-horizon.ensures.horizon c.if-horizon-earlier.false are c.in_ok-new.ensures
     (λ k. none_new stay c.in_ok-new.new k (c.is_empty.ensures.0 c.if-is_empty.true)) are.sorted
@@ -36,7 +37,9 @@ returns c =
     let stay = c.in_ok-stay.stay in
     let same = c.parts.ensures.value ∙ c.snapshot.ensures in
     let are : AreSlices (λ k. CanStart s q t k × IsTrue (span_has earlier k)) stay =
-    stay_slices was s q t horizon earlier stay (subst IsOrderly c.snapshot.ensures c.parts.ensures.orderly) c.requires.orderly c.requires.known c.requires.steady c.horizon_for-horizon.ensures.horizon
+    stay_slices was s q t horizon earlier stay (subst IsOrderly c.snapshot.ensures c.parts.ensures.orderly) c.requires.orderly c.requires.known
+    c.requires.steady c.horizon_for-horizon.ensures.horizon
     (subst (λ (p : Parts). IsHorizonFor p q.seconds earlier) same c.horizon_for-earlier.ensures.horizon) c.in_ok-stay.ensures in
-    IfOk-weaker c.union.result _ _ (λ union is. stay_and_new s q t horizon earlier stay c.in_ok-new.new union c.horizon_for-horizon.ensures.horizon c.if-horizon-earlier.false are c.in_ok-new.ensures
+    IfOk-weaker c.union.result _ _ (λ union is. stay_and_new s q t horizon earlier stay c.in_ok-new.new union c.horizon_for-horizon.ensures.horizon
+    c.if-horizon-earlier.false are c.in_ok-new.ensures
     is.seconds is.sorted) c.union.ensures

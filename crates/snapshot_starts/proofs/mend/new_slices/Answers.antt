@@ -37,4 +37,6 @@ returns c =
     let last = c.loop-slice.slice in
     let past : to ≤ last = omega (arith, c.loop-slice-test.false) in
     let tried : AreTried s q t from last c.as_slice.result.now = subst (AreTried s q t from last) (sym c.as_slice.ensures.value) c.loop-slice.invariant.0 in
-    IfOk-weaker c.from_list.result _ _ (λ set is. all_tried s q t from last to c.as_slice.result.now set past c.loop-slice.auto.slice-end c.loop-slice.invariant.1 tried is) c.from_list.ensures
+    IfOk-weaker c.from_list.result _ _
+    (λ set is. all_tried s q t from last to c.as_slice.result.now set past c.loop-slice.auto.slice-end c.loop-slice.invariant.1 tried is)
+    c.from_list.ensures

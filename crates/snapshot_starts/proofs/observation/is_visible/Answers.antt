@@ -9,7 +9,8 @@ use Rattle.snapshot_starts.proofs.observation.is_visible.Goals as goal
 
 pub lies_in_sorted-requires : goal.lies_in_sorted-requires
 lies_in_sorted-requires c =
-    subst IsSortedApart (sym c.as_slice.ensures) (All-contains (λ (y : Sky). IsSortedApart y.spans) c.args.skies.now c.in-Some.sky.now c.requires.apart c.in-Some.ensures.0)
+    subst IsSortedApart (sym c.as_slice.ensures)
+    (All-contains (λ (y : Sky). IsSortedApart y.spans) c.args.skies.now c.in-Some.sky.now c.requires.apart c.in-Some.ensures.0)
 
 pub returns-in-Some : goal.returns-in-Some
 returns-in-Some c =

@@ -13,7 +13,10 @@ returns-then-not-is_visible c =
     let b = c.args.times.to.0 in
     let site = c.args.site.0 in (
       λ yes. absurd (false≢true yes),
-      λ all. sym c.if-not-is_visible.true ∙ c.is_visible.ensures.1 (subst (λ (skies : List Sky). IsSeen skies (slice_index_or c.args.targets.now c.loop-target.target-index (record { 0 = 0 })).0 site a b) (sym c.as_slice.ensures) (all c.loop-target.target-index (record { 0 = 0 }) c.loop-target-test.true)),
+      λ all. sym c.if-not-is_visible.true
+          ∙ c.is_visible.ensures.1 (subst
+          (λ (skies : List Sky). IsSeen skies (slice_index_or c.args.targets.now c.loop-target.target-index (record { 0 = 0 })).0 site a b)
+          (sym c.as_slice.ensures) (all c.loop-target.target-index (record { 0 = 0 }) c.loop-target-test.true)),
     )
 
 pub loop-target-preserved : goal.loop-target-preserved
@@ -21,9 +24,12 @@ loop-target-preserved c =
     let a = c.args.times.from.0 in
     let b = c.args.times.to.0 in
     let site = c.args.site.0 in
-    below_more (λ k. HoldsAt (λ target. IsSeen c.args.parts.now.skies target.0 site a b) c.args.targets.now k) c.loop-target.target-index c.loop-target.invariant
-    (λ d. subst (λ (target : TargetNo). IsSeen c.args.parts.now.skies target.0 site a b) (get_or_default c.args.targets.now c.loop-target.target-index (record { 0 = 0 }) d c.loop-target-test.true)
-    (subst (λ (skies : List Sky). IsSeen skies (slice_index_or c.args.targets.now c.loop-target.target-index (record { 0 = 0 })).0 site a b) c.as_slice.ensures (c.is_visible.ensures.0 c.if-not-is_visible.false)))
+    below_more (λ k. HoldsAt (λ target. IsSeen c.args.parts.now.skies target.0 site a b) c.args.targets.now k)
+    c.loop-target.target-index c.loop-target.invariant
+    (λ d. subst (λ (target : TargetNo). IsSeen c.args.parts.now.skies target.0 site a b)
+    (get_or_default c.args.targets.now c.loop-target.target-index (record { 0 = 0 }) d c.loop-target-test.true)
+    (subst (λ (skies : List Sky). IsSeen skies (slice_index_or c.args.targets.now c.loop-target.target-index (record { 0 = 0 })).0 site a b)
+    c.as_slice.ensures (c.is_visible.ensures.0 c.if-not-is_visible.false)))
 
 pub returns : goal.returns
 returns c = (λ _ k d l. c.loop-target.invariant k (omega arith) d, λ _. refl)

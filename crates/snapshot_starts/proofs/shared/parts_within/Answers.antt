@@ -18,12 +18,16 @@ loop-span-preserved c =
     let is : IsPartOf w times c.common-part.result = record { from = c.common-part.ensures.from; to = c.common-part.ensures.to } in
     elim c.if-part.branch [
       | then-part+in_ok-push b ↦
-          subst (IsSameWithin times (take (i + 1) spans)) (sym b.in_ok-push.ensures.items ∙ sym (ap (λ v. v.items) b.parts-is)) (more_within times w c.common-part.result spans c.loop-span.parts.items i l at is c.loop-span.invariant)
+          subst (IsSameWithin times (take (i + 1) spans)) (sym b.in_ok-push.ensures.items ∙ sym (ap (λ v. v.items) b.parts-is))
+          (more_within times w c.common-part.result spans c.loop-span.parts.items i l at is c.loop-span.invariant)
       | else-part b ↦
-          subst (IsSameWithin times (take (i + 1) spans)) (sym (ap (λ v. v.items) b.parts-is)) (none_within times w c.common-part.result spans c.loop-span.parts.items i l at is (omega (arith, b.if-part.false)) c.loop-span.invariant)
+          subst (IsSameWithin times (take (i + 1) spans)) (sym (ap (λ v. v.items) b.parts-is))
+          (none_within times w c.common-part.result spans c.loop-span.parts.items i l at is
+          (omega (arith, b.if-part.false)) c.loop-span.invariant)
     ]
 
 pub returns : goal.returns
 returns c =
-    let whole : take c.loop-span.span-index c.args.spans.now ≡ c.args.spans.now = take_all c.loop-span.span-index c.args.spans.now (omega (arith, c.loop-span-test.false)) in
+    let whole : take c.loop-span.span-index c.args.spans.now ≡ c.args.spans.now =
+    take_all c.loop-span.span-index c.args.spans.now (omega (arith, c.loop-span-test.false)) in
     subst (λ (xs : List Span). IsSameWithin c.args.times xs c.loop-span.parts.items) whole c.loop-span.invariant

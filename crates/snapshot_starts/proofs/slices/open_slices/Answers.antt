@@ -15,6 +15,12 @@ returns c =
     let q = c.args.request.now in
     let part = c.args.part.now in
     let usable : AreSlices (λ k. OneHasAll part.usable (k * s.len) (k * s.len + q.seconds)) c.in_ok-usable.usable =
-    subst (λ (spans : List Span). AreSlices (λ k. OneHasAll spans (k * s.len) (k * s.len + q.seconds)) c.in_ok-usable.usable) c.as_slice-spans.ensures c.in_ok-usable.ensures in
-    IfOk-weaker c.slices_under_all.result _ _ (λ left are. open_set s q part c.in_ok-timely.timely c.in_ok-usable.usable c.in_ok-slices.slices left c.in_ok-timely.ensures usable c.in_ok-slices.ensures
-    (subst (λ (targets : List TargetNo). AreSlices (λ k. IsTrue (has c.in_ok-slices.slices k) × All (λ target. IsVisibleThrough s target.0 part.site.0 (k * s.len) (k * s.len + q.seconds)) targets) left) c.as_slice-targets.ensures are)) c.slices_under_all.ensures
+    subst (λ (spans : List Span). AreSlices (λ k. OneHasAll spans (k * s.len) (k * s.len + q.seconds)) c.in_ok-usable.usable) c.as_slice-spans.ensures
+    c.in_ok-usable.ensures in
+    IfOk-weaker c.slices_under_all.result _ _
+    (λ left are. open_set s q part c.in_ok-timely.timely c.in_ok-usable.usable c.in_ok-slices.slices left c.in_ok-timely.ensures
+    usable c.in_ok-slices.ensures
+    (subst (λ (targets : List TargetNo). AreSlices
+    (λ k. IsTrue (has c.in_ok-slices.slices k)
+    × All (λ target. IsVisibleThrough s target.0 part.site.0 (k * s.len) (k * s.len + q.seconds)) targets) left) c.as_slice-targets.ensures are))
+    c.slices_under_all.ensures

@@ -13,6 +13,8 @@ returns-in_ok-seen-in-Some c =
     let s = c.args.parts.now in
     let d = c.args.seconds in
     let seen : AreSlices (λ k. OneHasAll c.in-Some.sky.now.spans (k * s.len) (k * s.len + d)) c.in_ok-seen-in-Some.seen =
-    subst (λ (spans : List Span). AreSlices (λ k. OneHasAll spans (k * s.len) (k * s.len + d)) c.in_ok-seen-in-Some.seen) c.as_slice-in-Some.ensures c.in_ok-seen-in-Some.ensures in
+    subst (λ (spans : List Span). AreSlices (λ k. OneHasAll spans (k * s.len) (k * s.len + d)) c.in_ok-seen-in-Some.seen) c.as_slice-in-Some.ensures
+    c.in_ok-seen-in-Some.ensures in
     let in_skies : Contains s.skies c.in-Some.sky.now = subst (λ (skies : List Sky). Contains skies c.in-Some.sky.now) c.as_slice.ensures c.in-Some.ensures.0 in
-    IfOk-weaker c.meet.result _ _ (λ meet is. under_set s c.args.target.0 c.args.site.0 d c.in-Some.sky.now c.args.slices.now c.in_ok-seen-in-Some.seen meet c.requires in_skies c.in-Some.ensures.1 seen is) c.meet.ensures
+    IfOk-weaker c.meet.result _ _ (λ meet is. under_set s c.args.target.0 c.args.site.0 d c.in-Some.sky.now c.args.slices.now
+    c.in_ok-seen-in-Some.seen meet c.requires in_skies c.in-Some.ensures.1 seen is) c.meet.ensures

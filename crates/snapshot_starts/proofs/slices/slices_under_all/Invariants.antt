@@ -8,4 +8,6 @@ use Rattle.snapshot_starts.proofs.slices.slices_under_all.Given as goal
 
 abbrev pub invariant-loop-target : goal.invariant-loop-target
 invariant-loop-target l =
-    AreSlices (λ k. IsTrue (has l.fn.slices k) × AreSeen (λ target j. IsVisibleThrough l.parts target.0 l.site.0 (j * l.parts.len) (j * l.parts.len + l.seconds)) l.targets l.target-index k) l.left
+    AreSlices (λ k. IsTrue (has l.fn.slices k)
+    × AreSeen (λ target j. IsVisibleThrough l.parts target.0 l.site.0 (j * l.parts.len) (j * l.parts.len + l.seconds)) l.targets l.target-index k)
+    l.left

@@ -11,5 +11,7 @@ returns c =
     let s = c.args.parts.now in
     let q = c.args.request.now in
     let inside : AreSlices (λ k. OneHasAll q.windows (k * s.len) (k * s.len + q.seconds)) c.in_ok-inside.inside =
-    subst (λ (windows : List Span). AreSlices (λ k. OneHasAll windows (k * s.len) (k * s.len + q.seconds)) c.in_ok-inside.inside) c.as_slice-windows.ensures c.in_ok-inside.ensures in
-    IfOk-weaker c.meet.result _ _ (λ meet is. timely_set s q c.horizon_for-horizon.result c.in_ok-within.within c.in_ok-inside.inside meet c.horizon_for-horizon.ensures.horizon c.in_ok-within.ensures inside is) c.meet.ensures
+    subst (λ (windows : List Span). AreSlices (λ k. OneHasAll windows (k * s.len) (k * s.len + q.seconds)) c.in_ok-inside.inside)
+    c.as_slice-windows.ensures c.in_ok-inside.ensures in
+    IfOk-weaker c.meet.result _ _ (λ meet is. timely_set s q c.horizon_for-horizon.result c.in_ok-within.within c.in_ok-inside.inside meet
+    c.horizon_for-horizon.ensures.horizon c.in_ok-within.ensures inside is) c.meet.ensures

@@ -8,7 +8,8 @@ use Rattle.snapshot_starts.proofs.steady.is_seen_alike.Goals as goal
 
 pub returns-in-Some : goal.returns-in-Some
 returns-in-Some c =
-    let there : Contains c.args.was.now.skies c.in-Some.earlier.now = subst (λ (skies : List Sky). Contains skies c.in-Some.earlier.now) c.as_slice.ensures c.in-Some.ensures.0 in
+    let there : Contains c.args.was.now.skies c.in-Some.earlier.now =
+    subst (λ (skies : List Sky). Contains skies c.in-Some.earlier.now) c.as_slice.ensures c.in-Some.ensures.0 in
     IfOk-weaker c.is_same_within.result _ _ (λ alike same yes.
     seen_alike c.args.was.now c.args.sky.now c.in-Some.earlier.now c.args.times c.requires there c.in-Some.ensures.1
     (subst (λ (xs : List Span). IsSameWithin c.args.times xs c.args.sky.now.spans) c.as_slice-in-Some.ensures

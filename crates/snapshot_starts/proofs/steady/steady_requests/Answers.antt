@@ -15,6 +15,7 @@ loop-place-preserved c =
       | then-is_asked_alike+in_ok-push b ↦
           subst (All (λ r. IsSteadyRequest was s r.0)) (sym b.in_ok-push.ensures.items ∙ sym (ap (λ v. v.items) b.steady-is))
           (All-push (λ r. IsSteadyRequest was s r.0) c.loop-place.steady.items c.request_at-request.result.now.request c.loop-place.invariant
-          (steady_request was s c.loop-place.place c.request_at-request.result.now c.requires.orderly c.requires.len within c.request_at-request.ensures (c.is_asked_alike.ensures b.if-is_asked_alike.true)))
+          (steady_request was s c.loop-place.place c.request_at-request.result.now c.requires.orderly c.requires.len within
+          c.request_at-request.ensures (c.is_asked_alike.ensures b.if-is_asked_alike.true)))
       | else-is_asked_alike b ↦ subst (All (λ r. IsSteadyRequest was s r.0)) (sym (ap (λ v. v.items) b.steady-is)) c.loop-place.invariant
     ]

@@ -16,6 +16,7 @@ loop-sky-preserved c =
     elim c.if-branch.branch [
       | then-branch+in_ok-push b ↦
           subst (All (IsSteadySky was s)) (sym b.in_ok-push.ensures.items ∙ sym (ap (λ v. v.items) b.steady-is))
-          (All-push (IsSteadySky was s) c.loop-sky.steady.items (sky_key sky.target sky.site) c.loop-sky.invariant (steady_sky was s sky c.args.times c.requires.orderly c.requires.times here (c.in_ok-is_seen_alike.ensures b.if-branch.true)))
+          (All-push (IsSteadySky was s) c.loop-sky.steady.items (sky_key sky.target sky.site) c.loop-sky.invariant
+          (steady_sky was s sky c.args.times c.requires.orderly c.requires.times here (c.in_ok-is_seen_alike.ensures b.if-branch.true)))
       | else-branch b ↦ subst (All (IsSteadySky was s)) (sym (ap (λ v. v.items) b.steady-is)) c.loop-sky.invariant
     ]

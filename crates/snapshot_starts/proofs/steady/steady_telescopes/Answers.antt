@@ -19,6 +19,7 @@ loop-number-preserved c =
     elim c.if-branch.branch [
       | then-branch+in_ok-push b ↦
           subst (All (λ t. IsSteadyTelescope was s t.0)) (sym b.in_ok-push.ensures.items ∙ sym (ap (λ v. v.items) b.steady-is))
-          (All-push (λ t. IsSteadyTelescope was s t.0) c.loop-number.steady.items telescope c.loop-number.invariant (c.in_ok-is_open_alike.ensures b.if-branch.true))
+          (All-push (λ t. IsSteadyTelescope was s t.0) c.loop-number.steady.items telescope c.loop-number.invariant
+          (c.in_ok-is_open_alike.ensures b.if-branch.true))
       | else-branch b ↦ subst (All (λ t. IsSteadyTelescope was s t.0)) (sym (ap (λ v. v.items) b.steady-is)) c.loop-number.invariant
     ]

@@ -9,7 +9,9 @@ loop-init c = record { drawn = c.new-requests.ensures; next = refl }
 
 pub loop-preserved : goal.loop-preserved
 loop-preserved c = record {
-  drawn = c.in_ok-push.ensures.ok ∙ requests_more c.args.draws.now.x c.loop.counter c.loop.draws.x c.loop.requests c.draw_request.result c.loop.invariant.drawn c.loop.invariant.next c.draw_request.ensures.drawn;
+  drawn = c.in_ok-push.ensures.ok
+      ∙ requests_more c.args.draws.now.x c.loop.counter c.loop.draws.x c.loop.requests c.draw_request.result c.loop.invariant.drawn
+      c.loop.invariant.next c.draw_request.ensures.drawn;
   next = c.draw_request.ensures.next ∙ number_more_drawn c.args.draws.now.x c.loop.counter c.loop.draws.x c.loop.invariant.next;
 }
 

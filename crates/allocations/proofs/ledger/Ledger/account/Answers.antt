@@ -14,4 +14,5 @@ returns-clause-rising c = rw (← c.self.view_is) (subst (λ (l : List Key). Ris
 pub returns-clause-complete : goal.returns-clause-complete
 returns-clause-complete c =
     let s = c.self.inside.store in
-    rw (← c.self.view_is) (subst (λ (l : List Key). (k : Key) → Contains l k ↔ (has_grant (store_books s).entries k ≡ true)) c.self.invariant.listed (listed_granted s c.account.ensures.sound c.self.invariant.granted c.account.ensures.listed c.account.ensures.all))
+    rw (← c.self.view_is) (subst (λ (l : List Key). (k : Key) → Contains l k ↔ (has_grant (store_books s).entries k ≡ true)) c.self.invariant.listed
+    (listed_granted s c.account.ensures.sound c.self.invariant.granted c.account.ensures.listed c.account.ensures.all))

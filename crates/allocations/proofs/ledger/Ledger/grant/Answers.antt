@@ -16,7 +16,8 @@ pub returns-clause-full : goal.returns-clause-full
 returns-clause-full c =
     let s = c.self.inside.store in
     let key = c.args.key.now in
-    let P : LedgerFault → Type 0 = λ fault. fault ≢ NoMemory → (fault ≡ Full MOST_ACCOUNTS Accounts) × (Contains s.keys key → ⊥) × (MOST_ACCOUNTS ≤ length s.listed) in
+    let P : LedgerFault → Type 0 = λ fault. fault ≢ NoMemory → (fault ≡ Full MOST_ACCOUNTS Accounts) × (Contains s.keys key → ⊥)
+    × (MOST_ACCOUNTS ≤ length s.listed) in
     let Q : LedgerFault → Type 0 = λ fault. fault ≢ NoMemory → (fault ≡ Full MOST_ACCOUNTS Accounts) × IsFull MOST_ACCOUNTS (store_books s).entries key in
     rw (← c.self.view_is) (IfErr-weaker c.grant.result P Q
     (λ fault h ne.

@@ -34,13 +34,15 @@ returns-clause-books c =
     let there = number_at s.groups n j c.in-Some.ensures.found in
     rw (← c.self.view_is)
     (ap store_books c.refund.ensures.refunded
-    ∙ ap (λ (x : GroupNo). books_of s.keys (s.postings ++ map (refund_posting x) (option_to_list (group_at s.groups j).ipp)) (set s.groups j (record (group_at s.groups j) { ipp = None }))) there.1
+    ∙ ap (λ (x : GroupNo). books_of s.keys (s.postings ++ map (refund_posting x) (option_to_list (group_at s.groups j).ipp))
+    (set s.groups j (record (group_at s.groups j) { ipp = None }))) there.1
     ∙ sym (refunded_seen s.keys s.postings s.groups n j c.find_group.ensures.sound.grouped.rising c.in-Some.ensures.found))
 
 pub returns-clause-entry : goal.returns-clause-entry
 returns-clause-entry c =
     let books = returns-clause-books c in
-    ap (λ (b : Books). b.entries) books ∙ ap (λ (o : Option Hold). c.args.self.now.books.entries ++ map (refund_entry c.args.group) (option_to_list o)) c.requires.stands
+    ap (λ (b : Books). b.entries) books
+    ∙ ap (λ (o : Option Hold). c.args.self.now.books.entries ++ map (refund_entry c.args.group) (option_to_list o)) c.requires.stands
 
 pub returns-clause-once : goal.returns-clause-once
 returns-clause-once c =

@@ -23,8 +23,12 @@ book-requires-clause-places c =
     let sound = c.find_group.ensures.sound in
     let g : GroupState = group_at s.groups j in
     let within : j < length s.groups = c.in-Some.ensures.within in
-    let low : c.lowered-kept.result ≡ lowered_to s.keys g.holds hs = c.lowered-kept.ensures ∙ ap (λ (x : StoreSeen). lowered_to x.keys c.unbook-held.result hs) c.unbook-held.ensures.rest ∙ ap (λ (x : List Amount). lowered_to s.keys x hs) c.unbook-held.ensures.holds in
-    let is : IsLowered s.keys g.holds hs (lowered_to s.keys g.holds hs) = lowered_is s.keys g.holds hs (sound.grouped.ordered j no_group within) c.requires.rising (at_most_seen s.keys s.groups c.args.group j hs sound.grouped.rising c.in-Some.ensures.found (rw (← c.self.view_is) at c.requires.at_most)) in
+    let low : c.lowered-kept.result ≡ lowered_to s.keys g.holds hs = c.lowered-kept.ensures
+    ∙ ap (λ (x : StoreSeen). lowered_to x.keys c.unbook-held.result hs) c.unbook-held.ensures.rest
+    ∙ ap (λ (x : List Amount). lowered_to s.keys x hs) c.unbook-held.ensures.holds in
+    let is : IsLowered s.keys g.holds hs (lowered_to s.keys g.holds hs) =
+    lowered_is s.keys g.holds hs (sound.grouped.ordered j no_group within) c.requires.rising
+    (at_most_seen s.keys s.groups c.args.group j hs sound.grouped.rising c.in-Some.ensures.found (rw (← c.self.view_is) at c.requires.at_most)) in
     rw (c.unbook-held.ensures.rest, low) (lowered_places s.keys (length s.keys) g.holds hs (sound.of_accounts j no_group within).0)
 
 pub book-requires-clause-rising : goal.book-requires-clause-rising
@@ -35,9 +39,14 @@ book-requires-clause-rising c =
     let sound = c.find_group.ensures.sound in
     let g : GroupState = group_at s.groups j in
     let within : j < length s.groups = c.in-Some.ensures.within in
-    let low : c.lowered-kept.result ≡ lowered_to s.keys g.holds hs = c.lowered-kept.ensures ∙ ap (λ (x : StoreSeen). lowered_to x.keys c.unbook-held.result hs) c.unbook-held.ensures.rest ∙ ap (λ (x : List Amount). lowered_to s.keys x hs) c.unbook-held.ensures.holds in
-    let is : IsLowered s.keys g.holds hs (lowered_to s.keys g.holds hs) = lowered_is s.keys g.holds hs (sound.grouped.ordered j no_group within) c.requires.rising (at_most_seen s.keys s.groups c.args.group j hs sound.grouped.rising c.in-Some.ensures.found (rw (← c.self.view_is) at c.requires.at_most)) in
-    rw (c.unbook-held.ensures.rest, low) (subst (λ (ks : List Key). Rises key_cmp ks) (sym (keys_of_holds s.keys (lowered_to s.keys g.holds hs) hs is.stand)) c.requires.rising)
+    let low : c.lowered-kept.result ≡ lowered_to s.keys g.holds hs = c.lowered-kept.ensures
+    ∙ ap (λ (x : StoreSeen). lowered_to x.keys c.unbook-held.result hs) c.unbook-held.ensures.rest
+    ∙ ap (λ (x : List Amount). lowered_to s.keys x hs) c.unbook-held.ensures.holds in
+    let is : IsLowered s.keys g.holds hs (lowered_to s.keys g.holds hs) =
+    lowered_is s.keys g.holds hs (sound.grouped.ordered j no_group within) c.requires.rising
+    (at_most_seen s.keys s.groups c.args.group j hs sound.grouped.rising c.in-Some.ensures.found (rw (← c.self.view_is) at c.requires.at_most)) in
+    rw (c.unbook-held.ensures.rest, low)
+    (subst (λ (ks : List Key). Rises key_cmp ks) (sym (keys_of_holds s.keys (lowered_to s.keys g.holds hs) hs is.stand)) c.requires.rising)
 
 pub book-requires-clause-room : goal.book-requires-clause-room
 book-requires-clause-room c =
@@ -47,8 +56,12 @@ book-requires-clause-room c =
     let sound = c.find_group.ensures.sound in
     let g : GroupState = group_at s.groups j in
     let within : j < length s.groups = c.in-Some.ensures.within in
-    let low : c.lowered-kept.result ≡ lowered_to s.keys g.holds hs = c.lowered-kept.ensures ∙ ap (λ (x : StoreSeen). lowered_to x.keys c.unbook-held.result hs) c.unbook-held.ensures.rest ∙ ap (λ (x : List Amount). lowered_to s.keys x hs) c.unbook-held.ensures.holds in
-    let is : IsLowered s.keys g.holds hs (lowered_to s.keys g.holds hs) = lowered_is s.keys g.holds hs (sound.grouped.ordered j no_group within) c.requires.rising (at_most_seen s.keys s.groups c.args.group j hs sound.grouped.rising c.in-Some.ensures.found (rw (← c.self.view_is) at c.requires.at_most)) in
+    let low : c.lowered-kept.result ≡ lowered_to s.keys g.holds hs = c.lowered-kept.ensures
+    ∙ ap (λ (x : StoreSeen). lowered_to x.keys c.unbook-held.result hs) c.unbook-held.ensures.rest
+    ∙ ap (λ (x : List Amount). lowered_to s.keys x hs) c.unbook-held.ensures.holds in
+    let is : IsLowered s.keys g.holds hs (lowered_to s.keys g.holds hs) =
+    lowered_is s.keys g.holds hs (sound.grouped.ordered j no_group within) c.requires.rising
+    (at_most_seen s.keys s.groups c.args.group j hs sound.grouped.rising c.in-Some.ensures.found (rw (← c.self.view_is) at c.requires.at_most)) in
     rw (c.unbook-held.ensures.rest, low) (λ i l. rebooked_room s.postings s.groups j (lowered_to s.keys g.holds hs) i within (sound.covered i l) (is.less i))
 
 pub returns-in-Some-clause-books : goal.returns-in-Some-clause-books
@@ -59,12 +72,17 @@ returns-in-Some-clause-books c =
     let sound = c.find_group.ensures.sound in
     let g : GroupState = group_at s.groups j in
     let within : j < length s.groups = c.in-Some.ensures.within in
-    let low : c.lowered-kept.result ≡ lowered_to s.keys g.holds hs = c.lowered-kept.ensures ∙ ap (λ (x : StoreSeen). lowered_to x.keys c.unbook-held.result hs) c.unbook-held.ensures.rest ∙ ap (λ (x : List Amount). lowered_to s.keys x hs) c.unbook-held.ensures.holds in
-    let is : IsLowered s.keys g.holds hs (lowered_to s.keys g.holds hs) = lowered_is s.keys g.holds hs (sound.grouped.ordered j no_group within) c.requires.rising (at_most_seen s.keys s.groups c.args.group j hs sound.grouped.rising c.in-Some.ensures.found (rw (← c.self.view_is) at c.requires.at_most)) in
+    let low : c.lowered-kept.result ≡ lowered_to s.keys g.holds hs = c.lowered-kept.ensures
+    ∙ ap (λ (x : StoreSeen). lowered_to x.keys c.unbook-held.result hs) c.unbook-held.ensures.rest
+    ∙ ap (λ (x : List Amount). lowered_to s.keys x hs) c.unbook-held.ensures.holds in
+    let is : IsLowered s.keys g.holds hs (lowered_to s.keys g.holds hs) =
+    lowered_is s.keys g.holds hs (sound.grouped.ordered j no_group within) c.requires.rising
+    (at_most_seen s.keys s.groups c.args.group j hs sound.grouped.rising c.in-Some.ensures.found (rw (← c.self.view_is) at c.requires.at_most)) in
     rw (c.book.ensures, c.unbook-held.ensures.rest, low, rebooked s.groups j (lowered_to s.keys g.holds hs) within, ← c.self.view_is)
     (sym (released_seen s.keys s.postings s.groups c.args.group j hs (lowered_to s.keys g.holds hs) sound.grouped.rising c.in-Some.ensures.found is.stand))
 
 pub returns-in_default-clause-books : goal.returns-in_default-clause-books
 returns-in_default-clause-books c =
     let s = c.self.inside.store in
-    rw (← c.self.view_is) (sym (ap (λ (l : List GroupHolds). record { entries = map (entry_of s.keys) s.postings; holds = l }) (change_absent s.keys s.groups c.args.group (with_holds c.args.holds.now) c.in_default.ensures.found)))
+    rw (← c.self.view_is) (sym (ap (λ (l : List GroupHolds). record { entries = map (entry_of s.keys) s.postings; holds = l })
+    (change_absent s.keys s.groups c.args.group (with_holds c.args.holds.now) c.in_default.ensures.found)))

@@ -22,7 +22,8 @@ settle-requires-clause-bound c =
 pub returns-clause-booked : goal.returns-clause-booked
 returns-clause-booked c =
     let same = freed_seen c.self.inside.store c.find_group-index.result c.args.old c.find_group-index.ensures.sound c.find_group-index.ensures.found in
-    rw (← c.self.view_is) (subst (λ (b : Books). OnOk c.settle.result (store_books c.settle.new.store ≡ booked c.args.group c.args.holds.now c.args.ipp b)) same c.settle.ensures.booked)
+    rw (← c.self.view_is) (subst (λ (b : Books). OnOk c.settle.result
+    (store_books c.settle.new.store ≡ booked c.args.group c.args.holds.now c.args.ipp b)) same c.settle.ensures.booked)
 
 pub returns-clause-given : goal.returns-clause-given
 returns-clause-given c =
@@ -32,4 +33,5 @@ returns-clause-given c =
 pub returns-clause-refused : goal.returns-clause-refused
 returns-clause-refused c =
     let same = freed_seen c.self.inside.store c.find_group-index.result c.args.old c.find_group-index.ensures.sound c.find_group-index.ensures.found in
-    rw (← c.self.view_is) (subst (λ (b : Books). IfErr c.settle.result (λ (fault : LedgerFault). fault ≢ NoMemory → refusal_of b c.args.holds.now c.args.ipp ≡ Some fault)) same c.settle.ensures.refused)
+    rw (← c.self.view_is) (subst (λ (b : Books). IfErr c.settle.result
+    (λ (fault : LedgerFault). fault ≢ NoMemory → refusal_of b c.args.holds.now c.args.ipp ≡ Some fault)) same c.settle.ensures.refused)

@@ -12,7 +12,8 @@ invariant_of-self-2 c =
     let keys : c.add.new.self.keys ≡ c.self.inside.register.keys ++ c.args.key.now ∷ [] = c.in_ok-add.ensures.keys in
     let inside = c.self.inside in
     record {
-      tied = rw (pushed, keys) (tied_add inside.register.keys inside.sums.items inside.postings.items inside.groups.items c.args.key.now c.self.invariant.tied (rw (← c.self.view_is) at c.requires.absent));
+      tied = rw (pushed, keys) (tied_add inside.register.keys inside.sums.items inside.postings.items inside.groups.items c.args.key.now
+          c.self.invariant.tied (rw (← c.self.view_is) at c.requires.absent));
       grouped = rw keys (grouped_add inside.register.keys c.args.key.now inside.groups.items c.self.invariant.tied.of_accounts c.self.invariant.grouped);
       room = c.self.invariant.room;
     }

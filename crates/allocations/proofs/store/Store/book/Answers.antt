@@ -15,19 +15,26 @@ invariant_of-self c =
     let within : j < length inside.groups.items = rw (← c.self.view_is) at c.requires.index in
     let nothing : (group_at inside.groups.items j).holds ≡ [] = rw (← c.self.view_is) at c.requires.nothing in
     let room = rw (← c.self.view_is) at c.requires.room in
-    let state : c.index_mut.result.now ≡ group_at inside.groups.items j = c.index_mut.ensures.value ∙ get_or_default inside.groups.items j c.index_mut.result.now no_group within in
+    let state : c.index_mut.result.now ≡ group_at inside.groups.items j = c.index_mut.ensures.value
+    ∙ get_or_default inside.groups.items j c.index_mut.result.now no_group within in
     let g = record (group_at inside.groups.items j) { holds = c.args.holds } in
     let sums : c.as_mut_slice.result.now ≡ inside.sums.items = c.as_mut_slice.ensures.value in
     let lengths : length c.raise.new.sums ≡ length inside.sums.items = c.raise.auto.sums ∙ ap (λ (l : List Sums). length l) sums in
-    let more : (i : ℕ) → i < length inside.sums.items → (get_or c.raise.new.sums i no_sums).held ≡ (get_or inside.sums.items i no_sums).held + amount_at i c.args.holds = rw (sums, c.as_slice.ensures) at c.raise.ensures.held in
-    let same : (i : ℕ) → i < length inside.sums.items → (get_or c.raise.new.sums i no_sums).balance ≡ (get_or inside.sums.items i no_sums).balance = rw sums at c.raise.ensures.balance in
-    let held : (i : ℕ) → i < length inside.register.keys → (get_or c.raise.new.sums i no_sums).held ≡ (get_or inside.sums.items i no_sums).held + amount_at i c.args.holds = λ i l. more i (omega (arith, t.lengths)) in
-    let balance : (i : ℕ) → i < length inside.register.keys → (get_or c.raise.new.sums i no_sums).balance ≡ (get_or inside.sums.items i no_sums).balance = λ i l. same i (omega (arith, t.lengths)) in
-    let tied = tied_set inside.register.keys inside.sums.items c.raise.new.sums inside.postings.items inside.groups.items j g t within (rw (← c.self.view_is) at c.requires.places, (t.of_accounts j no_group within).1) lengths balance
+    let more : (i : ℕ) → i < length inside.sums.items → (get_or c.raise.new.sums i no_sums).held ≡ (get_or inside.sums.items i no_sums).held
+    + amount_at i c.args.holds = rw (sums, c.as_slice.ensures) at c.raise.ensures.held in
+    let same : (i : ℕ) → i < length inside.sums.items → (get_or c.raise.new.sums i no_sums).balance ≡ (get_or inside.sums.items i no_sums).balance =
+    rw sums at c.raise.ensures.balance in
+    let held : (i : ℕ) → i < length inside.register.keys → (get_or c.raise.new.sums i no_sums).held ≡ (get_or inside.sums.items i no_sums).held
+    + amount_at i c.args.holds = λ i l. more i (omega (arith, t.lengths)) in
+    let balance : (i : ℕ) → i < length inside.register.keys
+    → (get_or c.raise.new.sums i no_sums).balance ≡ (get_or inside.sums.items i no_sums).balance = λ i l. same i (omega (arith, t.lengths)) in
+    let tied = tied_set inside.register.keys inside.sums.items c.raise.new.sums inside.postings.items inside.groups.items j g t within
+    (rw (← c.self.view_is) at c.requires.places, (t.of_accounts j no_group within).1) lengths balance
     (λ i l. let h = held i l in rw nothing (omega (arith, h)))
     (λ i l. let h = held i l in let b = balance i l in let o = t.held i l in let d = t.balance i l in let r = room i l in omega (arith, h, b, o, d, r)) in
     rw state record {
-      tied = subst (λ (s : List Sums). Tied inside.register.keys s inside.postings.items (set inside.groups.items j g)) (sym (put_all inside.sums.len c.raise.new.sums inside.sums.items inside.sums.ok.0 lengths)) tied;
+      tied = subst (λ (s : List Sums). Tied inside.register.keys s inside.postings.items (set inside.groups.items j g))
+          (sym (put_all inside.sums.len c.raise.new.sums inside.sums.items inside.sums.ok.0 lengths)) tied;
       grouped = grouped_set inside.register.keys inside.groups.items j g c.self.invariant.grouped refl (rw (← c.self.view_is) at c.requires.rising);
       room = c.self.invariant.room;
     }

@@ -10,4 +10,5 @@ pub returns-clause-found : goal.returns-clause-found
 returns-clause-found c =
     let position = c.binary_search_by.ensures.position (λ g. nat_cmp g.group.0 c.args.group.0) (always_returns_same _ _ _ (λ a r f called. search rules)) in
     rw (← c.self.view_is)
-    (found_at nat_cmp nat_cmp_total (λ g. g.group.0) nat_same c.self.inside.groups.items c.args.group.0 c.binary_search_by.result (rw c.deref.ensures.value at c.binary_search_by.ensures.bound) (rw c.deref.ensures.value at position) c.self.invariant.grouped.rising)
+    (found_at nat_cmp nat_cmp_total (λ g. g.group.0) nat_same c.self.inside.groups.items c.args.group.0 c.binary_search_by.result
+    (rw c.deref.ensures.value at c.binary_search_by.ensures.bound) (rw c.deref.ensures.value at position) c.self.invariant.grouped.rising)

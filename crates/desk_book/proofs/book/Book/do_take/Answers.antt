@@ -13,7 +13,8 @@ invariant_of-self-2 c =
     let b : BookSeen = seen_book c.self.inside in
     let low : c.args.caller < length b.scripts = subst (λ (v : BookSeen). c.args.caller < length v.scripts) (sym c.self.view_is) c.requires.caller in
     let shut : take_of b.takes c.args.caller ≡ None = subst (λ (v : BookSeen). take_of v.takes c.args.caller ≡ None) (sym c.self.view_is) c.requires.shut in
-    let next : SaysNext b c.args.caller c.args.read.now = subst (λ (v : BookSeen). SaysNext v c.args.caller c.args.read.now) (sym c.self.view_is) c.requires.next in
+    let next : SaysNext b c.args.caller c.args.read.now =
+    subst (λ (v : BookSeen). SaysNext v c.args.caller c.args.read.now) (sym c.self.view_is) c.requires.next in
     let asks : IsPlanning b.state c.args.read.now = subst (λ (v : BookSeen). IsPlanning v.state c.args.read.now) (sym c.self.view_is) c.requires.plan in
     let twin : c.in_ok-kept.kept ≡ c.in_ok-taken.taken = c.in_ok-kept.ensures in
     let was : IsTakenOf b.state c.in_ok-kept.kept = subst (λ (t : Taken). IsTakenOf b.state t) (sym twin) c.in_ok-taken.ensures.taken in
@@ -23,7 +24,8 @@ invariant_of-self-2 c =
     subst (λ (k : ℕ). c.index.result.now ≡ get_or c.self.inside.done.items k c.index.result.now) place c.index.ensures in
     let x = take_fields b c.self.inside.done.items c.args.caller c.index.result.now c.version.result c.args.read.now c.in_ok-kept.kept c.push.new.self.items
     c.self.invariant.sound c.self.invariant.counted low at shut next asks was named c.version.ensures.version
-    (pushed c.push.result c.unwrap.result c.self.inside.history.items c.reserve.new.self.items c.push.new.self.items _ c.unwrap.ensures c.push.ensures.items c.in_ok-reserve.ensures.items) in
+    (pushed c.push.result c.unwrap.result c.self.inside.history.items c.reserve.new.self.items c.push.new.self.items _ c.unwrap.ensures
+    c.push.ensures.items c.in_ok-reserve.ensures.items) in
     let now : ℕ → BookSeen = λ k. book_with b c.push.new.self.items b.state (set b.takes k (Some c.in_ok-kept.kept)) in
     record {
       sound = subst (λ (k : ℕ). IsSound (now k)) (sym place) x.0;

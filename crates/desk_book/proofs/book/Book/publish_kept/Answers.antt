@@ -23,11 +23,13 @@ pub overflow_add-line : goal.overflow_add-line
 overflow_add-line c =
     let b : BookSeen = seen_book c.self.inside in
     let taken : Taken = c.taken.result.now in
-    let opens : take_of b.takes taken.caller ≡ Some taken = was_open b c.args.self.now taken c.args.solved.taken c.self.view_is c.taken.ensures.value c.requires in
+    let opens : take_of b.takes taken.caller ≡ Some taken =
+    was_open b c.args.self.now taken c.args.solved.taken c.self.view_is c.taken.ensures.value c.requires in
     let low : taken.caller < length b.scripts = open_caller b taken.caller taken c.self.invariant.sound opens in
     let at : c.index.result.now ≡ get_or c.self.inside.done.items taken.caller c.index.result.now =
     subst (λ (k : ℕ). c.index.result.now ≡ get_or c.self.inside.done.items k c.index.result.now) c.from-place.ensures c.index.ensures in
-    let number : c.index.result.now ≡ done_of taken.caller b.history = number_of b c.self.inside.done.items taken.caller c.index.result.now c.self.invariant.counted low at in
+    let number : c.index.result.now ≡ done_of taken.caller b.history =
+    number_of b c.self.inside.done.items taken.caller c.index.result.now c.self.invariant.counted low at in
     let few : done_of taken.caller b.history ≤ 65536 = few_done b taken.caller c.self.invariant.sound in
     omega arith
 
@@ -35,34 +37,47 @@ pub publish_found-requires-clause-version : goal.publish_found-requires-clause-v
 publish_found-requires-clause-version c =
     let b : BookSeen = seen_book c.self.inside in
     let taken : Taken = c.into_parts-taken.result.0 in
-    let opens : take_of b.takes taken.caller ≡ Some taken = was_open b c.args.self.now taken c.args.solved.taken c.self.view_is c.into_parts-taken.ensures.same_taken c.requires in
+    let opens : take_of b.takes taken.caller ≡ Some taken =
+    was_open b c.args.self.now taken c.args.solved.taken c.self.view_is c.into_parts-taken.ensures.same_taken c.requires in
     let low : taken.caller < length b.scripts = open_caller b taken.caller taken c.self.invariant.sound opens in
     few_changes b c.self.inside.done.items taken.caller c.self.invariant.sound c.self.invariant.counted low
-    (place_open (script_of b.scripts taken.caller) (turns_of taken.caller b.history) (done_of taken.caller b.history) (open_place b taken.caller taken c.self.invariant.sound opens))
+    (place_open (script_of b.scripts taken.caller) (turns_of taken.caller b.history) (done_of taken.caller b.history)
+    (open_place b taken.caller taken c.self.invariant.sound opens))
 
 pub publish_found-requires-clause-behind : goal.publish_found-requires-clause-behind
 publish_found-requires-clause-behind c =
     let b : BookSeen = seen_book c.self.inside in
     let taken : Taken = c.into_parts-taken.result.0 in
-    let opens : take_of b.takes taken.caller ≡ Some taken = was_open b c.args.self.now taken c.args.solved.taken c.self.view_is c.into_parts-taken.ensures.same_taken c.requires in
+    let opens : take_of b.takes taken.caller ≡ Some taken =
+    was_open b c.args.self.now taken c.args.solved.taken c.self.view_is c.into_parts-taken.ensures.same_taken c.requires in
     c.self.invariant.sound.behind taken.caller taken opens
 
 pub invariant_of-self-2 : goal.invariant_of-self-2
 invariant_of-self-2 c =
     let b : BookSeen = seen_book c.self.inside in
     let taken : Taken = c.into_parts-taken.result.0 in
-    let opens : take_of b.takes taken.caller ≡ Some taken = was_open b c.args.self.now taken c.args.solved.taken c.self.view_is c.into_parts-taken.ensures.same_taken c.requires in
+    let opens : take_of b.takes taken.caller ≡ Some taken =
+    was_open b c.args.self.now taken c.args.solved.taken c.self.view_is c.into_parts-taken.ensures.same_taken c.requires in
     let low : taken.caller < length b.scripts = open_caller b taken.caller taken c.self.invariant.sound opens in
     let caller : c.taken.result.now.caller ≡ taken.caller = ap (λ (t : Taken). t.caller) (c.taken.ensures.value ∙ sym c.into_parts-taken.ensures.same_taken) in
     let place : c.from-place.result ≡ taken.caller = c.from-place.ensures ∙ caller in
     let at : c.index.result.now ≡ get_or c.self.inside.done.items taken.caller c.index.result.now =
     subst (λ (k : ℕ). c.index.result.now ≡ get_or c.self.inside.done.items k c.index.result.now) place c.index.ensures in
-    let entry : ℕ → EventEntry = λ k. record { caller = k; line = c.index.result.now + 1; what = Publish; version = c.version-version.result; reply = c.in_ok-reply.reply } in
+    let entry : ℕ → EventEntry = λ k. record {
+      caller = k;
+      line = c.index.result.now + 1;
+      what = Publish;
+      version = c.version-version.result;
+      reply = c.in_ok-reply.reply;
+    } in
     let more : c.push.new.self.items ≡ b.history ++ entry taken.caller ∷ [] =
     subst (λ (k : ℕ). c.push.new.self.items ≡ b.history ++ entry k ∷ []) caller
-    (pushed c.push.result c.unwrap.result c.self.inside.history.items c.reserve.new.self.items c.push.new.self.items _ c.unwrap.ensures c.push.ensures.items c.in_ok-reserve.ensures.items) in
-    let x = publish_fields b c.self.inside.done.items taken c.index.result.now c.version-version.result c.in_ok-reply.reply c.publish_found.new.state c.push.new.self.items
-    c.self.invariant.sound c.self.invariant.counted low at opens c.in_ok-reply.ensures.publication c.in_ok-reply.ensures.claims c.in_ok-reply.ensures.left c.version-version.ensures.version
+    (pushed c.push.result c.unwrap.result c.self.inside.history.items c.reserve.new.self.items c.push.new.self.items _ c.unwrap.ensures
+    c.push.ensures.items c.in_ok-reserve.ensures.items) in
+    let x = publish_fields b c.self.inside.done.items taken c.index.result.now c.version-version.result c.in_ok-reply.reply
+    c.publish_found.new.state c.push.new.self.items
+    c.self.invariant.sound c.self.invariant.counted low at opens c.in_ok-reply.ensures.publication c.in_ok-reply.ensures.claims
+    c.in_ok-reply.ensures.left c.version-version.ensures.version
     more in
     let now : ℕ → BookSeen = λ k. book_with b c.push.new.self.items c.publish_found.new.state (set b.takes k None) in
     record {
@@ -74,7 +89,8 @@ pub returns-clause-ok : goal.returns-clause-ok
 returns-clause-ok c =
     let b : BookSeen = seen_book c.self.inside in
     let taken : Taken = c.into_parts-taken.result.0 in
-    let opens : take_of b.takes taken.caller ≡ Some taken = was_open b c.args.self.now taken c.args.solved.taken c.self.view_is c.into_parts-taken.ensures.same_taken c.requires in
+    let opens : take_of b.takes taken.caller ≡ Some taken =
+    was_open b c.args.self.now taken c.args.solved.taken c.self.view_is c.into_parts-taken.ensures.same_taken c.requires in
     let low : taken.caller < length b.scripts = open_caller b taken.caller taken c.self.invariant.sound opens in
     let caller : c.taken.result.now.caller ≡ taken.caller = ap (λ (t : Taken). t.caller) (c.taken.ensures.value ∙ sym c.into_parts-taken.ensures.same_taken) in
     let place : c.from-place.result ≡ taken.caller = c.from-place.ensures ∙ caller in
@@ -82,18 +98,35 @@ returns-clause-ok c =
     subst (λ (k : ℕ). c.index.result.now ≡ get_or c.self.inside.done.items k c.index.result.now) place c.index.ensures in
     let make : Taken → Outcome → SolvedTake = λ t o. record { taken = t; outcome = o } in
     let whole : make taken c.into_parts-taken.result.1 ≡ c.args.solved =
-    ap (λ (t : Taken). make t c.into_parts-taken.result.1) c.into_parts-taken.ensures.same_taken ∙ ap (λ (o : Outcome). make c.args.solved.taken o) c.into_parts-taken.ensures.same_outcome in
-    let told : c.in_ok-told.told ≡ publish_reply b.state (make taken c.into_parts-taken.result.1) = c.in_ok-told.ensures ∙ ap (publish_reply b.state) (sym whole) in
-    let entry : ℕ → EventEntry = λ k. record { caller = k; line = c.index.result.now + 1; what = Publish; version = c.version-version.result; reply = c.in_ok-reply.reply } in
+    ap (λ (t : Taken). make t c.into_parts-taken.result.1) c.into_parts-taken.ensures.same_taken
+    ∙ ap (λ (o : Outcome). make c.args.solved.taken o) c.into_parts-taken.ensures.same_outcome in
+    let told : c.in_ok-told.told ≡ publish_reply b.state (make taken c.into_parts-taken.result.1) = c.in_ok-told.ensures
+    ∙ ap (publish_reply b.state) (sym whole) in
+    let entry : ℕ → EventEntry = λ k. record {
+      caller = k;
+      line = c.index.result.now + 1;
+      what = Publish;
+      version = c.version-version.result;
+      reply = c.in_ok-reply.reply;
+    } in
     let more : c.push.new.self.items ≡ b.history ++ entry taken.caller ∷ [] =
     subst (λ (k : ℕ). c.push.new.self.items ≡ b.history ++ entry k ∷ []) caller
-    (pushed c.push.result c.unwrap.result c.self.inside.history.items c.reserve.new.self.items c.push.new.self.items _ c.unwrap.ensures c.push.ensures.items c.in_ok-reserve.ensures.items) in
+    (pushed c.push.result c.unwrap.result c.self.inside.history.items c.reserve.new.self.items c.push.new.self.items _ c.unwrap.ensures
+    c.push.ensures.items c.in_ok-reserve.ensures.items) in
     let x =
-    published_fields b c.self.inside.done.items taken c.into_parts-taken.result.1 c.index.result.now c.version-version.result c.in_ok-reply.reply c.in_ok-told.told
+    published_fields b c.self.inside.done.items taken c.into_parts-taken.result.1 c.index.result.now c.version-version.result
+    c.in_ok-reply.reply c.in_ok-told.told
     c.publish_found.new.state c.push.new.self.items
-    c.self.invariant.counted low at opens c.in_ok-reply.ensures.reply (told ∙ sym c.in_ok-reply.ensures.reply) c.in_ok-reply.ensures.left c.version-version.ensures.version
+    c.self.invariant.counted low at opens c.in_ok-reply.ensures.reply
+    (told ∙ sym c.in_ok-reply.ensures.reply) c.in_ok-reply.ensures.left c.version-version.ensures.version
     more in
-    let e : ℕ → EventEntry = λ k. record { caller = k; line = c.index.result.now + 1; what = Publish; version = c.version-version.result; reply = c.in_ok-told.told } in
+    let e : ℕ → EventEntry = λ k. record {
+      caller = k;
+      line = c.index.result.now + 1;
+      what = Publish;
+      version = c.version-version.result;
+      reply = c.in_ok-told.told;
+    } in
     let now : ℕ → BookSeen = λ k. book_with b c.push.new.self.items c.publish_found.new.state (set b.takes k None) in
     let mine : IsPublished b c.args.solved (e taken.caller) (now taken.caller) =
     subst (λ (p : SolvedTake). IsPublished b p (e taken.caller) (now taken.caller)) whole x in

@@ -10,7 +10,8 @@ use Rattle.desk_core.proofs.Replacing.{refused_as, passed_on, not_made}
 use Rattle.desk_core.proofs.desk.Desk.amend.Goals as goal
 
 pub amend_made-requires-clause-made : goal.amend_made-requires-clause-made
-amend_made-requires-clause-made c = made_are (seen c.args.self.now) c.args.document.now (map seen_made c.in_ok-made.made.items) c.requires.document c.in_ok-made.ensures.ok
+amend_made-requires-clause-made c =
+    made_are (seen c.args.self.now) c.args.document.now (map seen_made c.in_ok-made.made.items) c.requires.document c.in_ok-made.ensures.ok
 
 pub returns-in_err-made : goal.returns-in_err-made
 returns-in_err-made c =

@@ -49,7 +49,8 @@ returns-in_err-has_room c =
     let f = is_freed d c.args.old c.requires.desk c.requires.may (omega (arith, c.requires.room)) in
     let left_pending = pending_without d.progress c.args.old f.group c.requires.desk.sound f.there in
     let of_old : c.pending-2.result ≡ pending_of f.group = c.pending-2.ensures.pending ∙ ap pending_of (c.known.ensures ∙ f.is) in
-    let others : c.pending.result - c.pending-2.result ≡ pending_count (withdrawn c.args.old d.progress).groups = omega (arith, left_pending, of_old, c.pending.ensures) in
+    let others : c.pending.result - c.pending-2.result ≡ pending_count (withdrawn c.args.old d.progress).groups =
+    omega (arith, left_pending, of_old, c.pending.ensures) in
     let count : c.len.result ≡ length made = search (rules, c.len.ensures, length-map) in
     let fault = c.in_err-has_room.field-0.0 in
     let full = c.in_err-has_room.ensures.full in
@@ -82,10 +83,12 @@ returns-in_err-new c =
     let f = is_freed d c.args.old c.requires.desk c.requires.may (omega (arith, c.requires.room)) in
     let left_pending = pending_without d.progress c.args.old f.group c.requires.desk.sound f.there in
     let of_old : c.pending-2.result ≡ pending_of f.group = c.pending-2.ensures.pending ∙ ap pending_of (c.known.ensures ∙ f.is) in
-    let others : c.pending.result - c.pending-2.result ≡ pending_count (withdrawn c.args.old d.progress).groups = omega (arith, left_pending, of_old, c.pending.ensures) in
+    let others : c.pending.result - c.pending-2.result ≡ pending_count (withdrawn c.args.old d.progress).groups =
+    omega (arith, left_pending, of_old, c.pending.ensures) in
     let count : c.len.result ≡ length made = search (rules, c.len.ensures, length-map) in
     let room : nat_lt 1024 (pending_count (withdrawn c.args.old d.progress).groups + length made) ≡ false =
-    ap (λ n. nat_lt 1024 (n + length made)) (sym others) ∙ ap (λ n. nat_lt 1024 (c.pending.result - c.pending-2.result + n)) (sym count) ∙ c.in_ok-has_room.ensures.room in
+    ap (λ n. nat_lt 1024 (n + length made)) (sym others) ∙ ap (λ n. nat_lt 1024 (c.pending.result - c.pending-2.result + n)) (sym count)
+    ∙ c.in_ok-has_room.ensures.room in
     let fault = c.in_err-new.field-0.0 in
     let decision = on_freed d c.args.old c.args.document.now (Ok made) in
     passed_on decision d (seen c.enter.new.self) fault _ c.from_residual-in_err-new.ensures.1
@@ -97,7 +100,8 @@ pub replace-requires-clause-may : goal.replace-requires-clause-may
 replace-requires-clause-may c =
     let d = seen c.args.self.now in
     let made : List MadeSeen = map seen_made c.args.made.items in
-    let runs : c.enter.new.self.runs ≡ with_group (op_of c.args.document.now made) (asks_of made) d.progress = ap (λ (x : DeskSeen). x.progress) c.in_ok-new.ensures.entered in
+    let runs : c.enter.new.self.runs ≡ with_group (op_of c.args.document.now made) (asks_of made) d.progress =
+    ap (λ (x : DeskSeen). x.progress) c.in_ok-new.ensures.entered in
     subst (IsWithdrawable c.args.old) (sym runs) (still_withdrawable (op_of c.args.document.now made) (asks_of made) d.progress c.args.old c.requires.may)
 
 pub replace-requires-clause-holds : goal.replace-requires-clause-holds
@@ -106,14 +110,16 @@ replace-requires-clause-holds c =
     let made : List MadeSeen = map seen_made c.args.made.items in
     let books : c.enter.new.self.ledger.books ≡ d.books = ap (λ (x : DeskSeen). x.books) c.in_ok-new.ensures.entered in
     let holds : c.in_ok-new.new.holds ≡ holds_for d c.args.document.now made = ap (λ (n : NewGroup). n.holds) c.in_ok-new.ensures.new in
-    let charged : c.in_ok-new.new.submitted.charged ≡ charge_for d c.args.document.now made = ap (λ (n : NewGroup). n.submitted.charged) c.in_ok-new.ensures.new in
+    let charged : c.in_ok-new.new.submitted.charged ≡ charge_for d c.args.document.now made =
+    ap (λ (n : NewGroup). n.submitted.charged) c.in_ok-new.ensures.new in
     subst IsHoldList (sym holds) (is_booked d c.args.document.now made c.requires.made)
 
 pub replace-requires-clause-free : goal.replace-requires-clause-free
 replace-requires-clause-free c =
     let d = seen c.args.self.now in
     let books : c.enter.new.self.ledger.books ≡ d.books = ap (λ (x : DeskSeen). x.books) c.in_ok-new.ensures.entered in
-    subst (λ (b : Books). IsFree c.in_ok-new.new.number b.holds) (sym books) (is_free d c.in_ok-new.new.number c.requires.desk (ap (λ (n : NewGroup). n.number.0) c.in_ok-new.ensures.new))
+    subst (λ (b : Books). IsFree c.in_ok-new.new.number b.holds) (sym books)
+    (is_free d c.in_ok-new.new.number c.requires.desk (ap (λ (n : NewGroup). n.number.0) c.in_ok-new.ensures.new))
 
 pub replace-requires-clause-bound : goal.replace-requires-clause-bound
 replace-requires-clause-bound c =
@@ -122,7 +128,8 @@ replace-requires-clause-bound c =
     let f = is_freed d c.args.old c.requires.desk c.requires.may (omega (arith, c.requires.room)) in
     let books : c.enter.new.self.ledger.books ≡ d.books = ap (λ (x : DeskSeen). x.books) c.in_ok-new.ensures.entered in
     let holds : c.in_ok-new.new.holds ≡ holds_for d c.args.document.now made = ap (λ (n : NewGroup). n.holds) c.in_ok-new.ensures.new in
-    let charged : c.in_ok-new.new.submitted.charged ≡ charge_for d c.args.document.now made = ap (λ (n : NewGroup). n.submitted.charged) c.in_ok-new.ensures.new in
+    let charged : c.in_ok-new.new.submitted.charged ≡ charge_for d c.args.document.now made =
+    ap (λ (n : NewGroup). n.submitted.charged) c.in_ok-new.ensures.new in
     let small = small_holds d c.args.document.now made c.requires.made in
     let charge = charge_at_most c.args.document.now.ipp (holds_for d c.args.document.now made) c.requires.document.share.high in
     omega (arith, small, charge, f.seconds, c.requires.room, ap (λ (b : Books). total_seconds (freed c.args.old b)) books, ap seconds_of_holds holds, charged)
@@ -149,13 +156,16 @@ returns-in-Err c =
     let f = is_freed d c.args.old c.requires.desk c.requires.may (omega (arith, c.requires.room)) in
     let left_pending = pending_without d.progress c.args.old f.group c.requires.desk.sound f.there in
     let of_old : c.pending-2.result ≡ pending_of f.group = c.pending-2.ensures.pending ∙ ap pending_of (c.known.ensures ∙ f.is) in
-    let others : c.pending.result - c.pending-2.result ≡ pending_count (withdrawn c.args.old d.progress).groups = omega (arith, left_pending, of_old, c.pending.ensures) in
+    let others : c.pending.result - c.pending-2.result ≡ pending_count (withdrawn c.args.old d.progress).groups =
+    omega (arith, left_pending, of_old, c.pending.ensures) in
     let count : c.len.result ≡ length made = search (rules, c.len.ensures, length-map) in
     let room : nat_lt 1024 (pending_count (withdrawn c.args.old d.progress).groups + length made) ≡ false =
-    ap (λ n. nat_lt 1024 (n + length made)) (sym others) ∙ ap (λ n. nat_lt 1024 (c.pending.result - c.pending-2.result + n)) (sym count) ∙ c.in_ok-has_room.ensures.room in
+    ap (λ n. nat_lt 1024 (n + length made)) (sym others) ∙ ap (λ n. nat_lt 1024 (c.pending.result - c.pending-2.result + n)) (sym count)
+    ∙ c.in_ok-has_room.ensures.room in
     let books : c.enter.new.self.ledger.books ≡ d.books = ap (λ (x : DeskSeen). x.books) c.in_ok-new.ensures.entered in
     let holds : c.in_ok-new.new.holds ≡ holds_for d c.args.document.now made = ap (λ (n : NewGroup). n.holds) c.in_ok-new.ensures.new in
-    let charged : c.in_ok-new.new.submitted.charged ≡ charge_for d c.args.document.now made = ap (λ (n : NewGroup). n.submitted.charged) c.in_ok-new.ensures.new in
+    let charged : c.in_ok-new.new.submitted.charged ≡ charge_for d c.args.document.now made =
+    ap (λ (n : NewGroup). n.submitted.charged) c.in_ok-new.ensures.new in
     let entered : IsEntered c.targets-known.result d (seen c.replace.new.self) = record {
       sound = c.requires.desk.sound;
       document = c.args.document.now;
@@ -165,10 +175,13 @@ returns-in-Err c =
       unseen = c.targets-known.ensures.unseen;
       entered = c.in-Err.ensures.unchanged ∙ c.in_ok-new.ensures.entered;
     } in
-    let as_entered : option_and_then refusal_of_ledger (refusal_of (freed c.args.old d.books) (holds_for d c.args.document.now made) (charge_for d c.args.document.now made))
+    let as_entered : option_and_then refusal_of_ledger
+    (refusal_of (freed c.args.old d.books) (holds_for d c.args.document.now made) (charge_for d c.args.document.now made))
     ≡ option_and_then refusal_of_ledger (refusal_of (freed c.args.old c.enter.new.self.ledger.books) c.in_ok-new.new.holds c.in_ok-new.new.submitted.charged) =
-    ap (λ (b : Books). option_and_then refusal_of_ledger (refusal_of (freed c.args.old b) (holds_for d c.args.document.now made) (charge_for d c.args.document.now made))) (sym books)
-    ∙ ap (λ (h : List Hold). option_and_then refusal_of_ledger (refusal_of (freed c.args.old c.enter.new.self.ledger.books) h (charge_for d c.args.document.now made))) (sym holds)
+    ap (λ (b : Books). option_and_then refusal_of_ledger
+    (refusal_of (freed c.args.old b) (holds_for d c.args.document.now made) (charge_for d c.args.document.now made))) (sym books)
+    ∙ ap (λ (h : List Hold). option_and_then refusal_of_ledger
+    (refusal_of (freed c.args.old c.enter.new.self.ledger.books) h (charge_for d c.args.document.now made))) (sym holds)
     ∙ ap (λ n. option_and_then refusal_of_ledger (refusal_of (freed c.args.old c.enter.new.self.ledger.books) c.in_ok-new.new.holds n)) (sym charged) in
     refused_as (on_freed d c.args.old c.args.document.now (Ok made)) d (seen c.forget.new.self) c.in-Err.fault
     (λ memory. ledger_only d c.args.old c.args.document.now made f room c.in_ok-new.ensures.few ∙ as_entered ∙ c.in-Err.ensures.refused memory)
@@ -181,22 +194,32 @@ returns c =
     let f = is_freed d c.args.old c.requires.desk c.requires.may (omega (arith, c.requires.room)) in
     let left_pending = pending_without d.progress c.args.old f.group c.requires.desk.sound f.there in
     let of_old : c.pending-2.result ≡ pending_of f.group = c.pending-2.ensures.pending ∙ ap pending_of (c.known.ensures ∙ f.is) in
-    let others : c.pending.result - c.pending-2.result ≡ pending_count (withdrawn c.args.old d.progress).groups = omega (arith, left_pending, of_old, c.pending.ensures) in
+    let others : c.pending.result - c.pending-2.result ≡ pending_count (withdrawn c.args.old d.progress).groups =
+    omega (arith, left_pending, of_old, c.pending.ensures) in
     let count : c.len.result ≡ length made = search (rules, c.len.ensures, length-map) in
     let room : nat_lt 1024 (pending_count (withdrawn c.args.old d.progress).groups + length made) ≡ false =
-    ap (λ n. nat_lt 1024 (n + length made)) (sym others) ∙ ap (λ n. nat_lt 1024 (c.pending.result - c.pending-2.result + n)) (sym count) ∙ c.in_ok-has_room.ensures.room in
+    ap (λ n. nat_lt 1024 (n + length made)) (sym others) ∙ ap (λ n. nat_lt 1024 (c.pending.result - c.pending-2.result + n)) (sym count)
+    ∙ c.in_ok-has_room.ensures.room in
     let books : c.enter.new.self.ledger.books ≡ d.books = ap (λ (x : DeskSeen). x.books) c.in_ok-new.ensures.entered in
     let holds : c.in_ok-new.new.holds ≡ holds_for d c.args.document.now made = ap (λ (n : NewGroup). n.holds) c.in_ok-new.ensures.new in
-    let charged : c.in_ok-new.new.submitted.charged ≡ charge_for d c.args.document.now made = ap (λ (n : NewGroup). n.submitted.charged) c.in_ok-new.ensures.new in
-    let as_entered : option_and_then refusal_of_ledger (refusal_of (freed c.args.old d.books) (holds_for d c.args.document.now made) (charge_for d c.args.document.now made))
+    let charged : c.in_ok-new.new.submitted.charged ≡ charge_for d c.args.document.now made =
+    ap (λ (n : NewGroup). n.submitted.charged) c.in_ok-new.ensures.new in
+    let as_entered : option_and_then refusal_of_ledger
+    (refusal_of (freed c.args.old d.books) (holds_for d c.args.document.now made) (charge_for d c.args.document.now made))
     ≡ option_and_then refusal_of_ledger (refusal_of (freed c.args.old c.enter.new.self.ledger.books) c.in_ok-new.new.holds c.in_ok-new.new.submitted.charged) =
-    ap (λ (b : Books). option_and_then refusal_of_ledger (refusal_of (freed c.args.old b) (holds_for d c.args.document.now made) (charge_for d c.args.document.now made))) (sym books)
-    ∙ ap (λ (h : List Hold). option_and_then refusal_of_ledger (refusal_of (freed c.args.old c.enter.new.self.ledger.books) h (charge_for d c.args.document.now made))) (sym holds)
+    ap (λ (b : Books). option_and_then refusal_of_ledger
+    (refusal_of (freed c.args.old b) (holds_for d c.args.document.now made) (charge_for d c.args.document.now made))) (sym books)
+    ∙ ap (λ (h : List Hold). option_and_then refusal_of_ledger
+    (refusal_of (freed c.args.old c.enter.new.self.ledger.books) h (charge_for d c.args.document.now made))) (sym holds)
     ∙ ap (λ n. option_and_then refusal_of_ledger (refusal_of (freed c.args.old c.enter.new.self.ledger.books) c.in_ok-new.new.holds n)) (sym charged) in
     let document = c.args.document.now in
     let new : NewGroup = c.in_ok-new.new in
     let push : DeskSeen → Submitted → DeskSeen = λ x w. record x { groups = x.groups ++ w ∷ [] } in
-    let book : DeskSeen → NewGroup → DeskSeen = λ x n. record x { books = booked n.number n.holds n.submitted.charged (freed c.args.old x.books); progress = withdrawn c.args.old x.progress } in
+    let book : DeskSeen → NewGroup → DeskSeen =
+    λ x n. record x {
+      books = booked n.number n.holds n.submitted.charged (freed c.args.old x.books);
+      progress = withdrawn c.args.old x.progress;
+    } in
     let after : seen c.keep-ipp_charged.new.self ≡ with_submission (without_group c.args.old d) document made =
     c.keep-ipp_charged.ensures.kept ∙ ap (λ (x : DeskSeen). push x new.submitted) c.in_default.ensures.booked
     ∙ ap (λ (x : DeskSeen). push (book x new) new.submitted) c.in_ok-new.ensures.entered

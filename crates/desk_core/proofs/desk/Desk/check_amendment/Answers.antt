@@ -24,7 +24,8 @@ none_found : (p : Request → Bool) (qs : List Request) → None ≡ option_map 
 none_found p [] e = All-nil (λ q. p q ≡ false)
 none_found p (q ∷ qs) e = by (p q) refl e (none_found p qs)
   where
-    by : (b : Bool) → p q ≡ b → None ≡ option_map (λ x. x.number) (cond b (Some q) (find p qs)) → (None ≡ option_map (λ x. x.number) (find p qs) → All (λ x. p x ≡ false) qs) → All (λ x. p x ≡ false) (q ∷ qs)
+    by : (b : Bool) → p q ≡ b → None ≡ option_map (λ x. x.number) (cond b (Some q) (find p qs))
+        → (None ≡ option_map (λ x. x.number) (find p qs) → All (λ x. p x ≡ false) qs) → All (λ x. p x ≡ false) (q ∷ qs)
     by true is f rest = cc
     by false is f rest = All-cons (λ x. p x ≡ false) q qs is (rest f)
 
@@ -33,7 +34,8 @@ returns-in-Some-clause-refused c =
     let d = seen c.args.self.now in
     let g : Group = c.in_ok-group.group.now in
     let opened : is_open g ≡ true = c.in_ok-group.ensures.opened in
-    let found = c.in-Some.ensures ∙ ap (λ (l : List Request). option_map (λ (q : Request). q.number) (find (λ q. is_placed c.args.self.now.runs.running q.number || is_completed q.state) l)) c.as_slice.ensures in
+    let found = c.in-Some.ensures ∙ ap (λ (l : List Request). option_map (λ (q : Request). q.number)
+    (find (λ q. is_placed c.args.self.now.runs.running q.number || is_completed q.state) l)) c.as_slice.ensures in
     ap (ending_refusal (begun_member d)) c.in_ok-group.ensures.there
     ∙ ap (λ (b : Bool). cond b (begun_member d g) (Some (GroupClosed (state_of g)))) opened
     ∙ started_as (find (λ q. is_placed c.args.self.now.runs.running q.number || is_completed q.state) g.requests) c.in-Some.request found
@@ -41,9 +43,11 @@ returns-in-Some-clause-refused c =
 pub returns-in-None-clause-may : goal.returns-in-None-clause-may
 returns-in-None-clause-may c =
     let g : Group = c.in_ok-group.group.now in
-    let found = c.in-None.ensures ∙ ap (λ (l : List Request). option_map (λ (q : Request). q.number) (find (λ q. is_placed c.args.self.now.runs.running q.number || is_completed q.state) l)) c.as_slice.ensures in
+    let found = c.in-None.ensures ∙ ap (λ (l : List Request). option_map (λ (q : Request). q.number)
+    (find (λ q. is_placed c.args.self.now.runs.running q.number || is_completed q.state) l)) c.as_slice.ensures in
     let none = none_found (λ q. is_placed c.args.self.now.runs.running q.number || is_completed q.state) g.requests found in
-    let parts : (i : ℕ) (q : Request) → i < length g.requests → (is_placed c.args.self.now.runs.running (get_or g.requests i q).number ≡ false) × (is_completed (get_or g.requests i q).state ≡ false) =
+    let parts : (i : ℕ) (q : Request) → i < length g.requests → (is_placed c.args.self.now.runs.running (get_or g.requests i q).number ≡ false)
+    × (is_completed (get_or g.requests i q).state ≡ false) =
     λ i q l. or_parts (is_placed c.args.self.now.runs.running (get_or g.requests i q).number) (is_completed (get_or g.requests i q).state) (none i q l) in
     let opened : is_open g ≡ true = c.in_ok-group.ensures.opened in
     record {

@@ -18,24 +18,29 @@ use Rattle.desk_core.proofs.desk.Desk.complete.Goals as goal
 
 pub charge-requires-clause-granted : goal.charge-requires-clause-granted
 charge-requires-clause-granted c =
-    let now : seen c.go_on.new.self ≡ with_progress (reported c.args.number true c.args.self.now.runs) (seen c.args.self.now) = c.in_ok-go_on.ensures.seen ∙ ap (λ (p : Progress). with_progress p (seen c.args.self.now)) c.in_ok-canceled.ensures.reported in
+    let now : seen c.go_on.new.self ≡ with_progress (reported c.args.number true c.args.self.now.runs) (seen c.args.self.now) =
+    c.in_ok-go_on.ensures.seen ∙ ap (λ (p : Progress). with_progress p (seen c.args.self.now)) c.in_ok-canceled.ensures.reported in
     let entries : c.go_on.new.self.ledger.books.entries ≡ c.args.self.now.ledger.books.entries =
     ap (λ (x : DeskSeen). x.books.entries) now
-    ∙ entries_stay c.args.self.now.ledger.books (groups_along (seen c.args.self.now) (reported c.args.number true c.args.self.now.runs)) c.requires.charge.none in
+    ∙ entries_stay c.args.self.now.ledger.books (groups_along (seen c.args.self.now) (reported c.args.number true c.args.self.now.runs))
+    c.requires.charge.none in
     subst (λ (xs : List Entry). IsTrue (has_grant xs c.args.key.now)) (sym entries) c.requires.charge.granted
 
 pub charge-requires-clause-available : goal.charge-requires-clause-available
 charge-requires-clause-available c =
-    let now : seen c.go_on.new.self ≡ with_progress (reported c.args.number true c.args.self.now.runs) (seen c.args.self.now) = c.in_ok-go_on.ensures.seen ∙ ap (λ (p : Progress). with_progress p (seen c.args.self.now)) c.in_ok-canceled.ensures.reported in
+    let now : seen c.go_on.new.self ≡ with_progress (reported c.args.number true c.args.self.now.runs) (seen c.args.self.now) =
+    c.in_ok-go_on.ensures.seen ∙ ap (λ (p : Progress). with_progress p (seen c.args.self.now)) c.in_ok-canceled.ensures.reported in
     let d : DeskSeen = seen c.args.self.now in
     let after : DeskSeen = with_progress (reported c.args.number true c.args.self.now.runs) d in
     subst (λ (b : Books). c.args.used ≤ available_of b c.args.key.now) (sym (ap (λ (x : DeskSeen). x.books) now))
-    (enough d.books after.books c.args.key.now c.args.used c.available.result c.requires.charge.granted c.available.ensures.available c.available.ensures.covered
+    (enough d.books after.books c.args.key.now c.args.used c.available.result c.requires.charge.granted c.available.ensures.available
+    c.available.ensures.covered
     (entries_stay d.books (groups_along d (reported c.args.number true c.args.self.now.runs)) c.requires.charge.none) c.requires.charge.less)
 
 pub charge-requires-clause-bound : goal.charge-requires-clause-bound
 charge-requires-clause-bound c =
-    let now : seen c.go_on.new.self ≡ with_progress (reported c.args.number true c.args.self.now.runs) (seen c.args.self.now) = c.in_ok-go_on.ensures.seen ∙ ap (λ (p : Progress). with_progress p (seen c.args.self.now)) c.in_ok-canceled.ensures.reported in
+    let now : seen c.go_on.new.self ≡ with_progress (reported c.args.number true c.args.self.now.runs) (seen c.args.self.now) =
+    c.in_ok-go_on.ensures.seen ∙ ap (λ (p : Progress). with_progress p (seen c.args.self.now)) c.in_ok-canceled.ensures.reported in
     let d : DeskSeen = seen c.args.self.now in
     let after : Progress = reported c.args.number true c.args.self.now.runs in
     let few : all_seconds d.books ≤ 10 ^ 18 = omega (arith, c.requires.room) in
@@ -45,7 +50,8 @@ charge-requires-clause-bound c =
 
 pub returns : goal.returns
 returns c = λ w v g k known n.
-    let now : seen c.go_on.new.self ≡ with_progress (reported c.args.number true c.args.self.now.runs) (seen c.args.self.now) = c.in_ok-go_on.ensures.seen ∙ ap (λ (p : Progress). with_progress p (seen c.args.self.now)) c.in_ok-canceled.ensures.reported in
+    let now : seen c.go_on.new.self ≡ with_progress (reported c.args.number true c.args.self.now.runs) (seen c.args.self.now) =
+    c.in_ok-go_on.ensures.seen ∙ ap (λ (p : Progress). with_progress p (seen c.args.self.now)) c.in_ok-canceled.ensures.reported in
     let d : DeskSeen = seen c.args.self.now in
     let after : Progress = reported c.args.number true c.args.self.now.runs in
     let e : Entry = request_entry c.args.key.now c.args.used c.args.group c.args.number in

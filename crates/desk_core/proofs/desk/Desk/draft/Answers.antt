@@ -23,11 +23,13 @@ pub add-requires-clause-late : goal.add-requires-clause-late
 add-requires-clause-late c =
     let s : Progress = c.args.self.now.runs in
     let made : List MadeSeen = map seen_made c.args.made.items in
-    let asks : c.as_slice-2.result.now ≡ asks_of made = c.as_slice-2.ensures.value ∙ c.in_ok-asks.ensures ∙ ap (λ (ms : List Made). asks_of (map seen_made ms)) c.as_slice.ensures.value in
+    let asks : c.as_slice-2.result.now ≡ asks_of made = c.as_slice-2.ensures.value ∙ c.in_ok-asks.ensures
+    ∙ ap (λ (ms : List Made). asks_of (map seen_made ms)) c.as_slice.ensures.value in
     subst (λ (l : List Ask). All (λ a. s.moment.0 < a.last.0) l) (sym asks) (late_asks s.moment made c.requires.made.each)
 
 -- the new group is that of what is asked for
-is_added : (op : Op) (asks : List Ask) (made : List MadeSeen) (s t : Progress) (number : GroupNo) → asks ≡ asks_of made → t ≡ with_group op asks s → number.0 ≡ length s.groups + 1 → group_of t.groups number ≡ next_group op (asks_of made) s
+is_added : (op : Op) (asks : List Ask) (made : List MadeSeen) (s t : Progress) (number : GroupNo) → asks ≡ asks_of made → t ≡ with_group op asks s
+    → number.0 ≡ length s.groups + 1 → group_of t.groups number ≡ next_group op (asks_of made) s
 is_added op asks made s t number a e n =
     ap (λ (p : Progress). group_of p.groups number) e ∙ added_group op asks s number n ∙ ap (λ (l : List Ask). next_group op l s) a
 
@@ -35,8 +37,10 @@ pub new_group-requires-clause-count : goal.new_group-requires-clause-count
 new_group-requires-clause-count c =
     let s : Progress = c.args.self.now.runs in
     let made : List MadeSeen = map seen_made c.args.made.items in
-    let asks : c.as_slice-2.result.now ≡ asks_of made = c.as_slice-2.ensures.value ∙ c.in_ok-asks.ensures ∙ ap (λ (ms : List Made). asks_of (map seen_made ms)) c.as_slice.ensures.value in
-    let group = is_added c.op_of-op.result c.as_slice-2.result.now made s c.add.new.self c.in_ok-number.number asks c.in_ok-number.ensures.added c.in_ok-number.ensures.number in
+    let asks : c.as_slice-2.result.now ≡ asks_of made = c.as_slice-2.ensures.value ∙ c.in_ok-asks.ensures
+    ∙ ap (λ (ms : List Made). asks_of (map seen_made ms)) c.as_slice.ensures.value in
+    let group = is_added c.op_of-op.result c.as_slice-2.result.now made s c.add.new.self c.in_ok-number.number asks c.in_ok-number.ensures.added
+    c.in_ok-number.ensures.number in
     ap length c.in_ok-wanted.ensures ∙ length-map made (wanted_of c.args.self.now.network.registry.targets c.args.document.now)
     ∙ sym (added_count c.op_of-op.result made s) ∙ ap (λ (g : Group). length g.requests) (sym group)
 
@@ -44,8 +48,10 @@ pub new_group-requires-clause-few : goal.new_group-requires-clause-few
 new_group-requires-clause-few c =
     let s : Progress = c.args.self.now.runs in
     let made : List MadeSeen = map seen_made c.args.made.items in
-    let asks : c.as_slice-2.result.now ≡ asks_of made = c.as_slice-2.ensures.value ∙ c.in_ok-asks.ensures ∙ ap (λ (ms : List Made). asks_of (map seen_made ms)) c.as_slice.ensures.value in
-    let group = is_added c.op_of-op.result c.as_slice-2.result.now made s c.add.new.self c.in_ok-number.number asks c.in_ok-number.ensures.added c.in_ok-number.ensures.number in
+    let asks : c.as_slice-2.result.now ≡ asks_of made = c.as_slice-2.ensures.value ∙ c.in_ok-asks.ensures
+    ∙ ap (λ (ms : List Made). asks_of (map seen_made ms)) c.as_slice.ensures.value in
+    let group = is_added c.op_of-op.result c.as_slice-2.result.now made s c.add.new.self c.in_ok-number.number asks c.in_ok-number.ensures.added
+    c.in_ok-number.ensures.number in
     let few = few_of (op_of c.args.document.now made) (length made) c.requires.made.shape.high in
     let count : length (group_of c.add.new.self.groups c.in_ok-number.number).requests ≡ length made =
     ap (λ (g : Group). length g.requests) group ∙ added_count c.op_of-op.result made s in
@@ -55,8 +61,10 @@ pub new_group-requires-clause-short : goal.new_group-requires-clause-short
 new_group-requires-clause-short c =
     let s : Progress = c.args.self.now.runs in
     let made : List MadeSeen = map seen_made c.args.made.items in
-    let asks : c.as_slice-2.result.now ≡ asks_of made = c.as_slice-2.ensures.value ∙ c.in_ok-asks.ensures ∙ ap (λ (ms : List Made). asks_of (map seen_made ms)) c.as_slice.ensures.value in
-    let group = is_added c.op_of-op.result c.as_slice-2.result.now made s c.add.new.self c.in_ok-number.number asks c.in_ok-number.ensures.added c.in_ok-number.ensures.number in
+    let asks : c.as_slice-2.result.now ≡ asks_of made = c.as_slice-2.ensures.value ∙ c.in_ok-asks.ensures
+    ∙ ap (λ (ms : List Made). asks_of (map seen_made ms)) c.as_slice.ensures.value in
+    let group = is_added c.op_of-op.result c.as_slice-2.result.now made s c.add.new.self c.in_ok-number.number asks c.in_ok-number.ensures.added
+    c.in_ok-number.ensures.number in
     subst (λ (g : Group). All (λ q. q.seconds ≤ 86400) g.requests) (sym group) (added_short c.op_of-op.result s.moment made s c.requires.made.each)
 
 pub returns-clause-unchanged : goal.returns-clause-unchanged
@@ -64,11 +72,28 @@ returns-clause-unchanged c =
     let before = c.args.self.now in
     let made : List MadeSeen = map seen_made c.args.made.items in
     let some : 1 ≤ length c.as_slice-2.result.now =
-    let asks : c.as_slice-2.result.now ≡ asks_of made = c.as_slice-2.ensures.value ∙ c.in_ok-asks.ensures ∙ ap (λ (ms : List Made). asks_of (map seen_made ms)) c.as_slice.ensures.value in
+    let asks : c.as_slice-2.result.now ≡ asks_of made = c.as_slice-2.ensures.value ∙ c.in_ok-asks.ensures
+    ∙ ap (λ (ms : List Made). asks_of (map seen_made ms)) c.as_slice.ensures.value in
     omega (arith, ap length asks, count_asks made, c.requires.made.shape.low) in
-    let one : IsOneMore before.runs c.add.new.self = record { sound = c.requires.sound; op = c.op_of-op.result; asks = c.as_slice-2.result.now; some = some; added = c.in_ok-number.ensures.added } in
-    let of : List Submitted → Progress → DeskSeen = λ groups progress. record { opening = before.opening; network = before.network; books = before.ledger.books; groups = groups; progress = progress; published = before.published } in
-    ap (λ (l : List Submitted). of l c.forget_last.new.self) c.in_ok-reserve.ensures.items ∙ ap (of before.submitted.items) (c.forget_last.ensures before.runs one)
+    let one : IsOneMore before.runs c.add.new.self =
+    record {
+      sound = c.requires.sound;
+      op = c.op_of-op.result;
+      asks = c.as_slice-2.result.now;
+      some = some;
+      added = c.in_ok-number.ensures.added;
+    } in
+    let of : List Submitted → Progress
+    → DeskSeen = λ groups progress. record {
+      opening = before.opening;
+      network = before.network;
+      books = before.ledger.books;
+      groups = groups;
+      progress = progress;
+      published = before.published;
+    } in
+    ap (λ (l : List Submitted). of l c.forget_last.new.self) c.in_ok-reserve.ensures.items
+    ∙ ap (of before.submitted.items) (c.forget_last.ensures before.runs one)
 
 pub add-requires-clause-some : goal.add-requires-clause-some
 add-requires-clause-some c = grind (arith, common_steps)

@@ -14,7 +14,8 @@ pub push_ending-requires : goal.push_ending-requires
 push_ending-requires c =
     let i = c.loop-after.after-index in
     let within : i < length c.args.change.now.groups = let l = ap length c.as_slice-told.ensures in omega (arith, l, c.loop-after-test.true) in
-    let f : Picked (seen c.args.self.now) (told_along c.args.change.now.groups (seen c.args.self.now) (changed c.args.self.now.runs c.args.change.now)) i c.after-item.result =
+    let f : Picked (seen c.args.self.now)
+    (told_along c.args.change.now.groups (seen c.args.self.now) (changed c.args.self.now.runs c.args.change.now)) i c.after-item.result =
     picked (seen c.args.self.now) c.args.change.now i c.after-item.result c.requires.desk c.requires.can within
     (c.after-item.is ∙ ap (λ (l : List Group). get_or l i c.after-item.result) c.as_slice-told.ensures) in
     (f.one, f.told)
@@ -38,4 +39,5 @@ returns c =
     let long : length ps ≡ length c.args.change.now.groups = told_length (seen c.args.self.now) c.args.change.now c.requires.desk c.requires.can in
     let l = ap length c.as_slice-told.ensures in
     let none : drop c.loop-after.after-index ps ≡ [] = drop_of_length-le ps (omega (arith, l, long, c.loop-after-test.false)) in
-    sym (append-nil c.loop-after.endings.items) ∙ ap (λ (x : List (Submitted × (Group × Group))). c.loop-after.endings.items ++ endings_of x) (sym none) ∙ c.loop-after.invariant
+    sym (append-nil c.loop-after.endings.items)
+    ∙ ap (λ (x : List (Submitted × (Group × Group))). c.loop-after.endings.items ++ endings_of x) (sym none) ∙ c.loop-after.invariant

@@ -6,4 +6,5 @@ use Rattle.desk_core.proofs.desk.Desk.endings.Given as goal
 
 abbrev pub invariant-loop-after : goal.invariant-loop-after
 invariant-loop-after l =
-    l.endings.items ++ endings_of (drop l.after-index (told_along l.change.groups (seen l.self) (changed l.self.runs l.change))) ≡ endings_of (told_along l.change.groups (seen l.self) (changed l.self.runs l.change))
+    l.endings.items ++ endings_of (drop l.after-index (told_along l.change.groups (seen l.self) (changed l.self.runs l.change)))
+    ≡ endings_of (told_along l.change.groups (seen l.self) (changed l.self.runs l.change))

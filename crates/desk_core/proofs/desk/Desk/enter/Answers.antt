@@ -13,7 +13,8 @@ returns-in-Ok-clause-new c =
     let old = c.args.self.now in
     let made : List MadeSeen = map seen_made c.args.made.items in
     let of : NetworkSeen → DeskSeen = λ n. record (seen old) { network = n } in
-    let numbered : c.number_targets.new.network ≡ with_targets (all_numbered old.network.registry.targets (target_names c.args.document.now.requests)) old.network =
+    let numbered : c.number_targets.new.network
+    ≡ with_targets (all_numbered old.network.registry.targets (target_names c.args.document.now.requests)) old.network =
     c.in_ok-number_targets.ensures.numbered
     ∙ ap (λ (rs : List RequestDoc). with_targets (all_numbered old.network.registry.targets (target_names rs)) old.network) c.as_slice.ensures in
     c.in-Ok.ensures.new ∙ ap (λ (n : NetworkSeen). drafted (of n) c.args.document.now made) numbered
@@ -23,7 +24,8 @@ returns-in-Err-clause-unchanged c =
     let old = c.args.self.now in
     let with_network : DeskSeen → NetworkSeen → DeskSeen = λ d n. record d { network = n } in
     let names = target_names c.as_slice.result.now in
-    let numbered : c.number_targets.new.network ≡ with_targets (all_numbered old.network.registry.targets names) old.network = c.in_ok-number_targets.ensures.numbered in
+    let numbered : c.number_targets.new.network ≡ with_targets (all_numbered old.network.registry.targets names) old.network =
+    c.in_ok-number_targets.ensures.numbered in
     let same : c.draft.new.self.network ≡ c.number_targets.new.network = ap (λ (d : DeskSeen). d.network) c.in-Err.ensures.unchanged in
     let gone : c.forget_targets.new.self ≡ old.network =
     c.forget_targets.ensures ∙ ap (forgets_targets c.targets-known.result) same

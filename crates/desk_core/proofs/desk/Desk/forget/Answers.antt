@@ -14,7 +14,14 @@ returns c = λ before h.
     let self = c.args.self.now in
     let with_both : DeskSeen → NetworkSeen → Progress → DeskSeen = λ d n p. record d { network = n; progress = p } in
     let some : 1 ≤ length (asks_of h.made) = omega (arith, h.some, count_asks h.made) in
-    let one : IsOneMore before.progress self.runs = record { sound = h.sound; op = op_of h.document h.made; asks = asks_of h.made; some = some; added = ap (λ (d : DeskSeen). d.progress) h.entered } in
+    let one : IsOneMore before.progress self.runs =
+    record {
+      sound = h.sound;
+      op = op_of h.document h.made;
+      asks = asks_of h.made;
+      some = some;
+      added = ap (λ (d : DeskSeen). d.progress) h.entered;
+    } in
     let names = target_names h.document.requests in
     let grown = grown_by names before.network self.network (ap (λ (d : DeskSeen). d.network) h.entered) in
     let network : c.forget_targets.new.self ≡ before.network =

@@ -26,7 +26,8 @@ pub end_groups-requires-clause-can : goal.end_groups-requires-clause-can
 end_groups-requires-clause-can c =
     let d : DeskSeen = seen c.args.self.now in
     let after : Progress = changed c.args.self.now.runs c.args.change in
-    let ends : EndsAll d.books (groups_along d after) (told_along c.args.change.groups d after) = ends_of d after c.args.change.groups c.requires.desk c.requires.can.later c.requires.can.told c.requires.few in
+    let ends : EndsAll d.books (groups_along d after) (told_along c.args.change.groups d after) =
+    ends_of d after c.args.change.groups c.requires.desk c.requires.can.later c.requires.can.told c.requires.few in
     subst (λ (b : Books). CanEndAll b c.as_slice-2.result.now) (sym c.in_ok-reserve.ensures.books)
     (subst (CanEndAll d.books) (sym (c.as_slice-2.ensures.value ∙ c.in_ok-endings.ensures)) ends.can)
 
@@ -40,7 +41,8 @@ pub returns-clause-seen : goal.returns-clause-seen
 returns-clause-seen c =
     let d : DeskSeen = seen c.args.self.now in
     let after : Progress = changed c.args.self.now.runs c.args.change in
-    let ends : EndsAll d.books (groups_along d after) (told_along c.args.change.groups d after) = ends_of d after c.args.change.groups c.requires.desk c.requires.can.later c.requires.can.told c.requires.few in
+    let ends : EndsAll d.books (groups_along d after) (told_along c.args.change.groups d after) =
+    ends_of d after c.args.change.groups c.requires.desk c.requires.can.later c.requires.can.told c.requires.few in
     let books : c.end_groups.new.ledger.books ≡ fold after_group d.books (groups_along d after) =
     c.end_groups.ensures.books ∙ ap (λ (b : Books). fold ended b c.as_slice-2.result.now) c.in_ok-reserve.ensures.books
     ∙ ap (fold ended d.books) (c.as_slice-2.ensures.value ∙ c.in_ok-endings.ensures) ∙ sym ends.same in
@@ -50,7 +52,8 @@ returns-clause-seen c =
 pub returns-clause-refunds : goal.returns-clause-refunds
 returns-clause-refunds c =
     c.in_ok-refunds.ensures ∙ ap refunds_in (c.as_slice.ensures.value ∙ c.in_ok-endings.ensures)
-    ∙ refunds_are (seen c.args.self.now) (changed c.args.self.now.runs c.args.change) c.args.change.groups c.requires.desk c.requires.can.later c.requires.can.told
+    ∙ refunds_are (seen c.args.self.now) (changed c.args.self.now.runs c.args.change) c.args.change.groups c.requires.desk
+    c.requires.can.later c.requires.can.told
 
 pub returns-clause-spare : goal.returns-clause-spare
 returns-clause-spare c =

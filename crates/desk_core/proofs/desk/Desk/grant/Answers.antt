@@ -12,7 +12,8 @@ returns-then-not-has_instrument_of c = record {
   ok = tt;
   refused = λ _. (
     NoSuchInstrument 0,
-    lacking (instrument_lacks (seen c.args.self.now) c.args.key.now) (NoSuchInstrument 0) (accounts_refusal (seen c.args.self.now) c.args.key.now) c.if-not-has_instrument_of.ensures,
+    lacking (instrument_lacks (seen c.args.self.now) c.args.key.now) (NoSuchInstrument 0)
+        (accounts_refusal (seen c.args.self.now) c.args.key.now) c.if-not-has_instrument_of.ensures,
     ap refusal_in c.into.ensures,
   );
   unchanged = refl;

@@ -17,5 +17,6 @@ submission-submitted-requires c = (c.requires.number.0, omega (arith, c.requires
 pub returns : goal.returns
 returns c p e =
     let d = seen c.args.self.now in
-    group_part_is d p c.submission-submitted.result.now c.known-group.result.now c.in_ok-request_parts.field-0 c.quota_place.result (submission_is d c.args.number p c.submission-submitted.result.now e c.submission-submitted.ensures)
+    group_part_is d p c.submission-submitted.result.now c.known-group.result.now c.in_ok-request_parts.field-0 c.quota_place.result
+    (submission_is d c.args.number p c.submission-submitted.result.now e c.submission-submitted.ensures)
     (c.known-group.ensures ∙ group_at d c.args.number p e) c.in_ok-request_parts.ensures c.quota_place.ensures

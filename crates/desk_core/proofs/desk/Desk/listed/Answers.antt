@@ -12,18 +12,21 @@ use Rattle.desk_core.proofs.desk.Desk.listed.Goals as goal
 pub is_listed-requires-clause-number : goal.is_listed-requires-clause-number
 is_listed-requires-clause-number c =
     let d = seen c.args.self.now in
-    let next = next_is d (opened_of d) c.open-number-items.result.now c.loop-number.number-index (opened_at d c.requires) (c.open-number-items.ensures ∙ opened_numbers d c.requires)
+    let next = next_is d (opened_of d) c.open-number-items.result.now c.loop-number.number-index (opened_at d c.requires)
+    (c.open-number-items.ensures ∙ opened_numbers d c.requires)
     c.loop-number-test.true
     in subst (IsGroupNo d) (sym next.number) next.numbered.known
 
 pub loop-number-preserved : goal.loop-number-preserved
 loop-number-preserved c =
     let d = seen c.args.self.now in
-    let next = next_is d (opened_of d) c.open-number-items.result.now c.loop-number.number-index (opened_at d c.requires) (c.open-number-items.ensures ∙ opened_numbers d c.requires)
+    let next = next_is d (opened_of d) c.open-number-items.result.now c.loop-number.number-index (opened_at d c.requires)
+    (c.open-number-items.ensures ∙ opened_numbers d c.requires)
     c.loop-number-test.true
     in
     let told = c.is_listed.ensures next.group (ap (both_at d) next.number ∙ next.numbered.at) in
-    let more = kept_more (λ p. p.1.number) (is_listed d) (opened_of d) c.loop-number.number-index next.group next.in_range next.stands c.loop-number.listed.items
+    let more = kept_more (λ p. p.1.number) (is_listed d) (opened_of d) c.loop-number.number-index next.group next.in_range next.stands
+    c.loop-number.listed.items
     c.if-is_listed.listed.items c.loop-number.invariant c.is_listed.result told
     in
     elim c.if-is_listed.branch [
@@ -40,6 +43,12 @@ returns c =
     let d = seen c.args.self.now in
     let groups = opened_of d in
     let count : length groups ≤ c.loop-number.number-index
-    = omega (arith, c.loop-number-test.false, ap length (c.open-number-items.ensures ∙ opened_numbers d c.requires), length-map groups (λ (p : Submitted × Group). p.1.number))
+    = omega (
+      arith,
+      c.loop-number-test.false,
+      ap length (c.open-number-items.ensures ∙ opened_numbers d c.requires),
+      length-map groups (λ (p : Submitted × Group). p.1.number),
+    )
     in
-    c.loop-number.invariant ∙ ap (λ l. map (λ p. p.1.number) (filter (is_listed d) l)) (take_all c.loop-number.number-index groups count) ∙ ap (map (λ p. p.1.number)) (listed_of_opened d)
+    c.loop-number.invariant ∙ ap (λ l. map (λ p. p.1.number) (filter (is_listed d) l)) (take_all c.loop-number.number-index groups count)
+    ∙ ap (map (λ p. p.1.number)) (listed_of_opened d)

@@ -7,4 +7,5 @@ use Rattle.desk_core.proofs.desk.Desk.made_of.Given as goal
 abbrev pub invariant-loop-index : goal.invariant-loop-index
 invariant-loop-index l =
     made_of (seen l.self) l.document
-    ≡ turned_into (gathered (map (made_from (seen l.self) l.document.op) (enumerate_from l.index (drop l.index l.document.requests)))) (λ rest. map seen_made l.made.items ++ rest)
+    ≡ turned_into (gathered (map (made_from (seen l.self) l.document.op) (enumerate_from l.index (drop l.index l.document.requests))))
+    (λ rest. map seen_made l.made.items ++ rest)

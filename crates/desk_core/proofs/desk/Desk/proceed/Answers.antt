@@ -62,7 +62,8 @@ returns-in-Report c =
     let e = seen c.report.new.self in
     let x = c.in-Report in
     of_line c.args.version d e c.args.command.now (command.Report x.request x.percent x.used) c.report.result x.is
-    (decides_does c.args.version d (command.Report x.request x.percent x.used) (on_report d x.request x.percent x.used) e c.report.result refl tt refl c.report.ensures)
+    (decides_does c.args.version d (command.Report x.request x.percent x.used)
+    (on_report d x.request x.percent x.used) e c.report.result refl tt refl c.report.ensures)
 
 pub returns-in-Publish : goal.returns-in-Publish
 returns-in-Publish c =

@@ -10,15 +10,20 @@ use Rattle.desk_core.proofs.desk.Desk.proposals.Goals as goal
 pub submission-requires : goal.submission-requires
 submission-requires c =
     let d = seen c.args.self.now in
-    let next = next_is d (listed_groups d) c.args.listed.now c.loop-number.number-index (listed_at d c.requires.desk) c.requires.listed c.loop-number-test.true in
+    let next = next_is d (listed_groups d) c.args.listed.now c.loop-number.number-index
+    (listed_at d c.requires.desk) c.requires.listed c.loop-number-test.true in
     let known = subst (IsGroupNo d) (sym next.number) next.numbered.known in
     (known.0, omega (arith, known.1, as_many d c.requires.desk))
 
 pub loop-number-preserved : goal.loop-number-preserved
 loop-number-preserved c =
     let d = seen c.args.self.now in
-    let next = next_is d (listed_groups d) c.args.listed.now c.loop-number.number-index (listed_at d c.requires.desk) c.requires.listed c.loop-number-test.true in
-    let submitted : c.submission.result.now ≡ next.group.0 = submission_is d _ next.group c.submission.result.now (ap (both_at d) next.number ∙ next.numbered.at) c.submission.ensures in
-    folded_more (λ names p. numbered names p.0.document.proposal) [] (listed_groups d) c.loop-number.number-index next.group next.in_range next.stands c.loop-number.proposals.keys
+    let next = next_is d (listed_groups d) c.args.listed.now c.loop-number.number-index
+    (listed_at d c.requires.desk) c.requires.listed c.loop-number-test.true in
+    let submitted : c.submission.result.now ≡ next.group.0 =
+    submission_is d _ next.group c.submission.result.now (ap (both_at d) next.number ∙ next.numbered.at) c.submission.ensures in
+    folded_more (λ names p. numbered names p.0.document.proposal) [] (listed_groups d) c.loop-number.number-index next.group next.in_range next.stands
+    c.loop-number.proposals.keys
     c.insert.new.self.keys c.loop-number.invariant
-    (c.in_ok-insert.ensures.keys ∙ ap (numbered c.loop-number.proposals.keys) (c.in_ok-clone.ensures.cases ∙ ap (λ (w : Submitted). w.document.proposal) submitted))
+    (c.in_ok-insert.ensures.keys ∙ ap (numbered c.loop-number.proposals.keys)
+    (c.in_ok-clone.ensures.cases ∙ ap (λ (w : Submitted). w.document.proposal) submitted))

@@ -18,7 +18,8 @@ pub returns-in_err-snapshot : goal.returns-in_err-snapshot
 returns-in_err-snapshot c = no_memory_from c.args.version (seen c.args.self.now) c.args.asked c.args.claim.now c.from_residual.result c.from_residual.ensures.1
 
 pub returns-in_err-check : goal.returns-in_err-check
-returns-in_err-check c = no_memory_from c.args.version (seen c.args.self.now) c.args.asked c.args.claim.now c.from_residual-in_err-check.result c.from_residual-in_err-check.ensures.1
+returns-in_err-check c = no_memory_from c.args.version (seen c.args.self.now) c.args.asked c.args.claim.now c.from_residual-in_err-check.result
+    c.from_residual-in_err-check.ensures.1
 
 pub returns-in-No : goal.returns-in-No
 returns-in-No c =

@@ -11,4 +11,5 @@ pub publish-requires : goal.publish-requires
 publish-requires c =
     let d = seen c.args.self.now in
     let certified = subst (λ (s : Parts). IsCertified s c.args.claim.now) c.requires.snapshot c.requires.certified in
-    subst (λ (o : List Observation). CanPublish o d.progress) (sym c.in_ok-observations.ensures.observations) (can_publish c.args.snapshot.version d c.args.claim.now c.requires.desk certified.feasible)
+    subst (λ (o : List Observation). CanPublish o d.progress) (sym c.in_ok-observations.ensures.observations)
+    (can_publish c.args.snapshot.version d c.args.claim.now c.requires.desk certified.feasible)

@@ -17,17 +17,23 @@ returns-then-not-is_open c = λ p h.
 
 pub submission-submitted-requires : goal.submission-submitted-requires
 submission-submitted-requires c =
-    let within : c.args.after.now.number.0 - 1 < length c.args.self.now.submitted.items = slice_get_within c.args.self.now.submitted.items (c.args.after.now.number.0 - 1) c.requires.0.0 c.requires.1.submitted in
+    let within : c.args.after.now.number.0 - 1 < length c.args.self.now.submitted.items =
+    slice_get_within c.args.self.now.submitted.items (c.args.after.now.number.0 - 1) c.requires.0.0 c.requires.1.submitted in
     (c.requires.1.from, omega (arith, within))
 
 pub find_ending-requires-clause-count : goal.find_ending-requires-clause-count
 find_ending-requires-clause-count c =
-    ap (λ (x : Submitted). length x.requests) (submitted_is (seen c.args.self.now) c.requires.0 c.args.after.now c.submission-submitted.result.now c.requires.1 c.submission-submitted.ensures)
+    ap (λ (x : Submitted). length x.requests)
+    (submitted_is (seen c.args.self.now) c.requires.0 c.args.after.now c.submission-submitted.result.now c.requires.1
+    c.submission-submitted.ensures)
     ∙ c.requires.1.count
 
 pub returns : goal.returns
 returns c = λ p h.
     let w : Submitted = c.submission-submitted.result.now in
     let opened : is_open c.known-before.result.now ≡ true = cc in
-    let one : endings_of (p ∷ []) ≡ ending_of (w, (c.known-before.result.now, c.args.after.now)) ∷ [] = one_ends (seen c.args.self.now) p w c.known-before.result.now c.args.after.now h c.submission-submitted.ensures c.known-before.ensures opened in
-    c.in_ok-push.ensures.items ∙ ap (λ (e : Ending). c.args.endings.now.items ++ e ∷ []) c.in_ok-ending.ensures ∙ ap (λ (l : List Ending). c.args.endings.now.items ++ l) (sym one)
+    let one : endings_of (p ∷ []) ≡ ending_of (w, (c.known-before.result.now, c.args.after.now)) ∷ [] =
+    one_ends (seen c.args.self.now) p w c.known-before.result.now c.args.after.now h c.submission-submitted.ensures
+    c.known-before.ensures opened in
+    c.in_ok-push.ensures.items ∙ ap (λ (e : Ending). c.args.endings.now.items ++ e ∷ []) c.in_ok-ending.ensures
+    ∙ ap (λ (l : List Ending). c.args.endings.now.items ++ l) (sym one)

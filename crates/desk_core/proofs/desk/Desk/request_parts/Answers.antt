@@ -19,7 +19,8 @@ returns c =
     = elim c.in-None.ensures.steps [ inl first ↦ none_left_first requests wanted first.1.0 | inr second ↦ none_left_second requests wanted second.1.0 ]
     in
     sym (append-nil c.loop-request.parts)
-    ∙ sym (ap (λ l. c.loop-request.parts ++ map (request_part (seen c.args.self.now)) (filter (λ m. is_waiting c.args.self.now.runs.running m.0) l)) none) ∙ c.loop-request.invariant
+    ∙ sym (ap (λ l. c.loop-request.parts ++ map (request_part (seen c.args.self.now)) (filter (λ m. is_waiting c.args.self.now.runs.running m.0) l))
+    none) ∙ c.loop-request.invariant
 
 pub loop-request-preserved-in_ok-push : goal.loop-request-preserved-in_ok-push
 loop-request-preserved-in_ok-push c = grind (arith, common_steps)

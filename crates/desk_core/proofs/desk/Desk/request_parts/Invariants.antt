@@ -8,5 +8,6 @@ use Rattle.desk_core.proofs.desk.Desk.request_parts.Given as goal
 
 abbrev pub invariant-loop-request : goal.invariant-loop-request
 invariant-loop-request l =
-    l.parts ++ map (request_part (seen l.self)) (filter (λ m. is_waiting l.self.runs.running m.0) (zip l.request-iterator.a.rest.now l.request-iterator.b.rest.now))
+    l.parts ++ map (request_part (seen l.self))
+    (filter (λ m. is_waiting l.self.runs.running m.0) (zip l.request-iterator.a.rest.now l.request-iterator.b.rest.now))
     ≡ map (request_part (seen l.self)) (waiting_of (seen l.self) (l.submitted, l.group))

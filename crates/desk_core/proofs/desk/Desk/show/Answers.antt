@@ -21,12 +21,17 @@ returns-in_default c =
     let d = seen c.args.self.now in
     record {
       ok = tt;
-      refused = λ _. (NoSuchGroup, ap shown_group (not_found c.args.number d.groups d.progress.groups (sym c.in_default.ensures)), ap refusal_in c.into.ensures);
+      refused = λ _. (
+        NoSuchGroup,
+        ap shown_group (not_found c.args.number d.groups d.progress.groups (sym c.in_default.ensures)),
+        ap refusal_in c.into.ensures,
+      );
     }
 
 -- the group's place
 found : (d : DeskSeen) → IsDesk d → (n : GroupNo) (g : Group) → Some g ≡ group_at d.progress.groups n → IsFound 0 n d.groups d.progress.groups g
-found d h n g there = found_at 0 n d.groups d.progress.groups g (as_submitted d h) (counted_from (map (λ x. x.number.0) d.progress.groups) h.sound.numbered.groups) (sym there)
+found d h n g there = found_at 0 n d.groups d.progress.groups g (as_submitted d h)
+    (counted_from (map (λ x. x.number.0) d.progress.groups) h.sound.numbered.groups) (sym there)
 
 pub submission-submitted-requires : goal.submission-submitted-requires
 submission-submitted-requires c =
@@ -44,7 +49,8 @@ returns c =
     let place = found d c.requires n g c.in-Some.ensures in
     let at : n.0 ≡ 0 + place.place + 1 = place.at in
     let index : n.0 - 1 ≡ place.place = omega (arith, at) in
-    let is : w ≡ get_or d.groups place.place w = sym (get_or_from_slice_get d.groups (n.0 - 1) w w c.submission-submitted.ensures) ∙ (λ j. get_or d.groups (index j) w) in
+    let is : w ≡ get_or d.groups place.place w = sym (get_or_from_slice_get d.groups (n.0 - 1) w w c.submission-submitted.ensures)
+    ∙ (λ j. get_or d.groups (index j) w) in
     let clone = c.in_ok-clone.ensures.cases in
     let document : w.document ≡ c.in_ok-clone.field-0 = sym (λ j. record {
       name = clone.0 j;

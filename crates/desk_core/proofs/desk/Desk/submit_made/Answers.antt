@@ -36,7 +36,8 @@ pub hold-requires-clause-free : goal.hold-requires-clause-free
 hold-requires-clause-free c =
     let d = seen c.args.self.now in
     let books : c.enter.new.self.ledger.books ≡ d.books = ap (λ (x : DeskSeen). x.books) c.in_ok-new.ensures.entered in
-    subst (λ (b : Books). IsFree c.in_ok-new.new.number b.holds) (sym books) (is_free d c.in_ok-new.new.number c.requires.desk (ap (λ (n : NewGroup). n.number.0) c.in_ok-new.ensures.new))
+    subst (λ (b : Books). IsFree c.in_ok-new.new.number b.holds) (sym books)
+    (is_free d c.in_ok-new.new.number c.requires.desk (ap (λ (n : NewGroup). n.number.0) c.in_ok-new.ensures.new))
 
 pub hold-requires-clause-bound : goal.hold-requires-clause-bound
 hold-requires-clause-bound c =
@@ -44,7 +45,8 @@ hold-requires-clause-bound c =
     let made : List MadeSeen = map seen_made c.args.made.items in
     let books : c.enter.new.self.ledger.books ≡ d.books = ap (λ (x : DeskSeen). x.books) c.in_ok-new.ensures.entered in
     let same : c.as_slice.result.now ≡ holds_for d c.args.document.now made = c.as_slice.ensures ∙ ap (λ (n : NewGroup). n.holds) c.in_ok-new.ensures.new in
-    let charged : c.in_ok-new.new.submitted.charged ≡ charge_for d c.args.document.now made = ap (λ (n : NewGroup). n.submitted.charged) c.in_ok-new.ensures.new in
+    let charged : c.in_ok-new.new.submitted.charged ≡ charge_for d c.args.document.now made =
+    ap (λ (n : NewGroup). n.submitted.charged) c.in_ok-new.ensures.new in
     let room = books_room d c.args.document.now made c.requires.document c.requires.made c.requires.room in
     omega (arith, room, ap total_seconds books, ap seconds_of_holds same, charged)
 
@@ -72,10 +74,12 @@ returns-in-Err c =
     let with_books : Books → DeskSeen = λ b. record (seen c.enter.new.self) { books = b } in
     let count : c.len.result ≡ length made = search (rules, c.len.ensures, length-map) in
     let room : nat_lt 1024 (pending_count d.progress.groups + length made) ≡ false =
-    ap (λ n. nat_lt 1024 (n + length made)) (sym c.pending.ensures) ∙ ap (λ n. nat_lt 1024 (c.pending.result + n)) (sym count) ∙ c.in_ok-has_room.ensures.room in
+    ap (λ n. nat_lt 1024 (n + length made)) (sym c.pending.ensures) ∙ ap (λ n. nat_lt 1024 (c.pending.result + n)) (sym count)
+    ∙ c.in_ok-has_room.ensures.room in
     let books : c.enter.new.self.ledger.books ≡ d.books = ap (λ (x : DeskSeen). x.books) c.in_ok-new.ensures.entered in
     let holds : c.as_slice.result.now ≡ holds_for d c.args.document.now made = c.as_slice.ensures ∙ ap (λ (n : NewGroup). n.holds) c.in_ok-new.ensures.new in
-    let charged : c.in_ok-new.new.submitted.charged ≡ charge_for d c.args.document.now made = ap (λ (n : NewGroup). n.submitted.charged) c.in_ok-new.ensures.new in
+    let charged : c.in_ok-new.new.submitted.charged ≡ charge_for d c.args.document.now made =
+    ap (λ (n : NewGroup). n.submitted.charged) c.in_ok-new.ensures.new in
     let entered : IsEntered c.targets-known.result d (with_books c.hold.new.self.books) = record {
       sound = c.requires.desk.sound;
       document = c.args.document.now;

@@ -15,14 +15,16 @@ loop-telescope-preserved c =
     let lt : i < length all = omega (arith, c.loop-telescope-test.true, c.telescopes-telescope-end.ensures.count) in
     let here = place_at all i lt in
     let in_range : i < length (enumerate_from 0 all) = omega (arith, length-enumerate_from 0 all) in
-    let more = kept_more (λ p. record { 0 = p.0 }) (λ p. is_fit c.args.wanted.now.location c.args.wanted.now.instrument p.1) (enumerate_from 0 all) i (i, here.0) in_range here.2 c.loop-telescope.telescopes
+    let more = kept_more (λ p. record { 0 = p.0 }) (λ p. is_fit c.args.wanted.now.location c.args.wanted.now.instrument p.1) (enumerate_from 0 all) i
+    (i, here.0) in_range here.2 c.loop-telescope.telescopes
     c.if-fits.telescopes c.loop-telescope.invariant c.fits.result (c.fits.ensures here.0 here.1)
     in
     elim c.if-fits.branch [
       | then-fits+in_ok-push w ↦
           more (w.telescopes-is ∙ w.in_ok-push.ensures.ok ∙ ap (λ b. c.loop-telescope.telescopes ++ cond b (record { 0 = i } ∷ []) []) (sym w.if-fits.true))
       | else-fits w ↦
-          more (w.telescopes-is ∙ sym (append-nil c.loop-telescope.telescopes) ∙ ap (λ b. c.loop-telescope.telescopes ++ cond b (record { 0 = i } ∷ []) []) (sym w.if-fits.false))
+          more (w.telescopes-is ∙ sym (append-nil c.loop-telescope.telescopes)
+          ∙ ap (λ b. c.loop-telescope.telescopes ++ cond b (record { 0 = i } ∷ []) []) (sym w.if-fits.false))
     ]
 
 pub returns : goal.returns
@@ -32,4 +34,5 @@ returns c =
     = omega (arith, length-enumerate_from 0 all, c.loop-telescope-test.false, c.telescopes-telescope-end.ensures.count)
     in
     c.loop-telescope.invariant
-    ∙ ap (λ l. map (λ p. record { 0 = p.0 }) (filter (λ p. is_fit c.args.wanted.now.location c.args.wanted.now.instrument p.1) l)) (take_all c.loop-telescope.telescope (enumerate_from 0 all) count)
+    ∙ ap (λ l. map (λ p. record { 0 = p.0 }) (filter (λ p. is_fit c.args.wanted.now.location c.args.wanted.now.instrument p.1) l))
+    (take_all c.loop-telescope.telescope (enumerate_from 0 all) count)

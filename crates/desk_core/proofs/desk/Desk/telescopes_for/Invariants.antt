@@ -6,4 +6,5 @@ use Rattle.desk_core.proofs.desk.Desk.telescopes_for.Given as goal
 
 abbrev pub invariant-loop-telescope : goal.invariant-loop-telescope
 invariant-loop-telescope l =
-    l.telescopes ≡ map (λ p. record { 0 = p.0 }) (filter (λ p. is_fit l.wanted.location l.wanted.instrument p.1) (take l.telescope (enumerate_from 0 l.self.network.registry.telescopes)))
+    l.telescopes ≡ map (λ p. record { 0 = p.0 })
+    (filter (λ p. is_fit l.wanted.location l.wanted.instrument p.1) (take l.telescope (enumerate_from 0 l.self.network.registry.telescopes)))

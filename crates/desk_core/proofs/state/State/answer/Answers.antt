@@ -13,5 +13,6 @@ invariant_of-self-2 c =
     let same = ap (λ (s : StateSeen). s.version) c.self.view_is in
     let few : version < 524288 = omega (arith, c.requires.version, same) in
     answered_keeps version c.changes.result (seen c.in-Some.desk) (seen c.answer.new.self) c.args.command.now c.in_ok-reply.reply few
-    (subst (λ (o : Option Desk). IsState record { version = version; desk = option_map seen o }) c.in-Some.is c.self.invariant) c.requires.ranges c.changes.ensures.count
+    (subst (λ (o : Option Desk). IsState record { version = version; desk = option_map seen o }) c.in-Some.is c.self.invariant)
+    c.requires.ranges c.changes.ensures.count
     c.in_ok-reply.ensures.ok

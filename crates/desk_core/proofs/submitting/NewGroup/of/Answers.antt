@@ -15,7 +15,8 @@ ipp_charge-charged-requires c =
     let small = small_needs c.args.document group.requests c.args.wanted c.requires.few c.requires.short in
     let most = holds_at_most group.op needs in
     let same : seconds_of_holds c.as_slice-2.result.now ≡ seconds_of_holds (holds_of group.op needs) =
-    ap seconds_of_holds (c.as_slice-2.ensures.value ∙ c.in_ok-holds.ensures ∙ ap (λ (ws : List Wanted). holds_of group.op (needs_of c.args.document (zip group.requests ws))) c.as_slice.ensures) in
+    ap seconds_of_holds (c.as_slice-2.ensures.value ∙ c.in_ok-holds.ensures
+    ∙ ap (λ (ws : List Wanted). holds_of group.op (needs_of c.args.document (zip group.requests ws))) c.as_slice.ensures) in
     omega (arith, small, most, same)
 
 pub returns : goal.returns

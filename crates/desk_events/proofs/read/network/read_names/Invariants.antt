@@ -8,4 +8,5 @@ use Rattle.desk_events.proofs.read.network.read_names.Given as goal
 -- the names so far, before those of the elements that are left
 abbrev pub invariant-loop-index : goal.invariant-loop-index
 invariant-loop-index l =
-    result_map (λ rest. l.names ++ rest) (read_each (text_in Instruments) (drop l.index (elements_of l.list))) ≡ read_each (text_in Instruments) (elements_of l.list)
+    result_map (λ rest. l.names ++ rest) (read_each (text_in Instruments) (drop l.index (elements_of l.list)))
+    ≡ read_each (text_in Instruments) (elements_of l.list)

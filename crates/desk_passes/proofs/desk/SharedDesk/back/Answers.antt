@@ -10,7 +10,8 @@ join_seat-requires c = (
   c.args.pass.no_slot,
   omega (arith, c.args.self.now.two_words),
   λ s h at ne there.
-      joins_pass c.args.self.now.table.shared.key s c.args.root.now.inner.id c.args.pass.inner.id c.args.pass.caller c.args.root.now.inner.me.0 c.args.pass.inner.me.0 c.args.root.now.first
+      joins_pass c.args.self.now.table.shared.key s c.args.root.now.inner.id c.args.pass.inner.id c.args.pass.caller c.args.root.now.inner.me.0
+      c.args.pass.inner.me.0 c.args.root.now.first
       c.args.pass.mine c.args.pass.no_turn h at ne there,
 )
 

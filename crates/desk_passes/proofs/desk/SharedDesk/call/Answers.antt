@@ -34,7 +34,8 @@ count_and_give_back-place-requires-clause-more g c =
     let b = c.take_book-book.result in
     let took = c.take_book-book.ensures.book in
     let now = ready pass.inner.me.0 b pass.caller pass.mine c.requires.shut c.requires.room took.2 in
-    let it = called b pass.caller c.args.line c.call-called.new.self took.2.full c.callers.ensures.book now.low now.shut _ c.in-Ok.answer c.in-Ok.ensures.ok in (
+    let it = called b pass.caller c.args.line c.call-called.new.self took.2.full c.callers.ensures.book now.low now.shut _
+    c.in-Ok.answer c.in-Ok.ensures.ok in (
       b,
       ap (λ (me : Seated). me.0.turn) took.0,
       ap (λ (me : Seated). me.0.caller) took.0 ∙ pass.mine,

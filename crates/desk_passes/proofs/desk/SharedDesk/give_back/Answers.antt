@@ -10,6 +10,7 @@ swap-requires c =
       c.put_book.ensures.desk,
       omega (arith, c.args.self.now.two_words),
       λ s h _ at _.
-          given c.args.self.now.table.shared.key s seat.id seat.me h at c.requires.mine.0 c.args.book (ap (λ (me : Seated). me.0.caller) put ∙ c.requires.mine.1)
+          given c.args.self.now.table.shared.key s seat.id seat.me h at c.requires.mine.0 c.args.book
+          (ap (λ (me : Seated). me.0.caller) put ∙ c.requires.mine.1)
           (ap (λ (me : Seated). me.0.turn) put ∙ c.requires.turn) (ap (λ (me : Seated). me.1) put),
     )

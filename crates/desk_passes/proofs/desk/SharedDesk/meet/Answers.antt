@@ -10,7 +10,8 @@ join_seat-requires c = (
   c.args.note.no_slot,
   omega (arith, c.args.self.now.two_words),
   λ s h at ne there.
-      joins_note c.args.self.now.table.shared.key s c.args.pass.now.inner.id c.args.note.inner.id c.args.pass.now.inner.me.0 c.args.note.inner.me.0 c.args.pass.now.no_turn c.args.note.nobody
+      joins_note c.args.self.now.table.shared.key s c.args.pass.now.inner.id c.args.note.inner.id c.args.pass.now.inner.me.0 c.args.note.inner.me.0
+      c.args.pass.now.no_turn c.args.note.nobody
       c.args.note.no_passes h at ne there,
 )
 

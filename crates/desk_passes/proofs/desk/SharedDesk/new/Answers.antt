@@ -13,6 +13,7 @@ new-requires c =
     let n = c.callers-callers.result in
     let b = c.args.book in
     let is : b ≡ empty_book n = c.requires ∙ ap empty_book (sym c.callers-callers.ensures.count) in
-    let items : c.push.new.self.items ≡ Some b ∷ [] = c.in_ok-push.ensures.items ∙ ap (λ (xs : List (Option BookSeen)). xs ++ Some b ∷ []) c.new-slots.ensures.items in
+    let items : c.push.new.self.items ≡ Some b ∷ [] = c.in_ok-push.ensures.items
+    ∙ ap (λ (xs : List (Option BookSeen)). xs ++ Some b ∷ []) c.new-slots.ensures.items in
     subst (λ (xs : List (Option BookSeen)). RuleHolds n (opening (0 ∷ 0 ∷ []) xs (first_view n))) (sym (items ∙ ap (λ (x : BookSeen). Some x ∷ []) is))
     (opens n (full_new n (subst IsBook is c.callers-callers.ensures.book)))

@@ -18,7 +18,8 @@ count_and_give_back-place-requires-clause-more g c =
     let b = c.take_book-book.result in
     let took = c.take_book-book.ensures.book in
     let now = opened pass.inner.me.0 b pass.caller c.args.solved pass.mine took.2 c.requires.taken in
-    let it = published b c.publish_open-published.new.book pass.caller c.args.solved c.in-Ok.ensures.ok.0 took.2.full c.callers.ensures.book now.low now.named c.in-Ok.ensures.ok.1 in (
+    let it = published b c.publish_open-published.new.book pass.caller c.args.solved c.in-Ok.ensures.ok.0 took.2.full c.callers.ensures.book now.low
+    now.named c.in-Ok.ensures.ok.1 in (
       b,
       ap (λ (me : Seated). me.0.turn) took.0,
       ap (λ (me : Seated). me.0.caller) took.0 ∙ pass.mine,
@@ -36,12 +37,14 @@ returns-in-Ok-clause-ok g c =
     let b = c.take_book-book.result in
     let took = c.take_book-book.ensures.book in
     let now = opened v b pass.caller c.args.solved pass.mine took.2 c.requires.taken in
-    let it = published b c.publish_open-published.new.book pass.caller c.args.solved c.in-Ok.ensures.ok.0 took.2.full c.callers.ensures.book now.low now.named c.in-Ok.ensures.ok.1 in
+    let it = published b c.publish_open-published.new.book pass.caller c.args.solved c.in-Ok.ensures.ok.0 took.2.full c.callers.ensures.book now.low
+    now.named c.in-Ok.ensures.ok.1 in
     let place = c.count_and_give_back-place.ensures.place ∙ ap (λ (me : Seated). length me.0.seen) took.0 in
     let left = ap (λ (me : Seated). me.0) c.count_and_give_back-place.ensures.given
     ∙ ap (λ (me : Seated). without_turn (with_entry c.publish_open-published.new.book pass.caller me.0)) took.0 in
     subst (λ (w : PassView). IsPublished v c.args.solved c.count_and_give_back-place.result w) (sym left)
-    (is_published v b c.publish_open-published.new.book pass.caller c.count_and_give_back-place.result c.args.solved now.take pass.mine took.1 took.2 place now.is_open now.line it)
+    (is_published v b c.publish_open-published.new.book pass.caller c.count_and_give_back-place.result c.args.solved now.take pass.mine took.1 took.2
+    place now.is_open now.line it)
 
 pub returns-in-Err-clause-err : goal.returns-in-Err-clause-err
 returns-in-Err-clause-err g c =

@@ -9,5 +9,6 @@ compare_exchange-found-requires g c =
       c.loop.invariant.2 ∙ c.requires.desk,
       omega (arith, c.args.self.now.two_words),
       λ s h _ at _.
-          tries c.args.self.now.table.shared.key s seat.id seat.me h at c.requires.mine.0 (ap (λ (me : Seated). me.0.caller) c.loop.invariant.3 ∙ c.requires.mine.1),
+          tries c.args.self.now.table.shared.key s seat.id seat.me h at c.requires.mine.0
+          (ap (λ (me : Seated). me.0.caller) c.loop.invariant.3 ∙ c.requires.mine.1),
     )

@@ -17,5 +17,6 @@ returns-clause-more g c =
 
 pub returns-clause-ok : goal.returns-clause-ok
 returns-clause-ok g c =
-    writes c.write_entry-written.result c.args.pass.now.inner.me.0 c.take_book-book.result c.args.place c.in-Some.entry.now c.args.into.now.items c.write_entry-written.new.into.items
+    writes c.write_entry-written.result c.args.pass.now.inner.me.0 c.take_book-book.result c.args.place c.in-Some.entry.now c.args.into.now.items
+    c.write_entry-written.new.into.items
     c.take_book-book.ensures.book.1 c.requires.place (sym (ap option_copied c.in-Some.is) ∙ c.entry.ensures) c.write_entry-written.ensures.ok

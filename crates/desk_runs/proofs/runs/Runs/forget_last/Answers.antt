@@ -13,14 +13,18 @@ use Rattle.desk_runs.proofs.runs.Runs.forget_last.Goals as goal
 
 pub overflow_sub-requests : goal.overflow_sub-requests
 overflow_sub-requests c =
-    let last : Last c.self.inside c.requires.0 c.len-count.result = found_last c.self.inside c.args.self.now c.requires.0 c.as_slice.result.now c.index.result.now c.len-count.result c.self.invariant c.self.view_is c.requires.1 c.as_slice.ensures.value c.index.ensures c.len-count.ensures in
+    let last : Last c.self.inside c.requires.0 c.len-count.result =
+    found_last c.self.inside c.args.self.now c.requires.0 c.as_slice.result.now c.index.result.now c.len-count.result c.self.invariant
+    c.self.view_is c.requires.1 c.as_slice.ensures.value c.index.ensures c.len-count.ensures in
     let owned : c.len-count.result ≤ length c.self.inside.owners.items = last.owned in
     let same : length c.as_slice-2.result.now ≡ length c.self.inside.owners.items = ap length c.as_slice-2.ensures.value in
     omega (arith, owned, same)
 
 pub overflow_sub-self : goal.overflow_sub-self
 overflow_sub-self c =
-    let last : Last c.self.inside c.requires.0 c.len-count.result = found_last c.self.inside c.args.self.now c.requires.0 c.as_slice.result.now c.index.result.now c.len-count.result c.self.invariant c.self.view_is c.requires.1 c.as_slice.ensures.value c.index.ensures c.len-count.ensures in
+    let last : Last c.self.inside c.requires.0 c.len-count.result =
+    found_last c.self.inside c.args.self.now c.requires.0 c.as_slice.result.now c.index.result.now c.len-count.result c.self.invariant
+    c.self.view_is c.requires.1 c.as_slice.ensures.value c.index.ensures c.len-count.ensures in
     let pending : c.self.inside.pending ≡ pending_count c.requires.0.groups + c.len-count.result = last.pending in
     omega (arith, pending)
 
@@ -29,17 +33,25 @@ invariant_of-self c =
     let a = c.self.inside in
     let before : Progress = c.requires.0 in
     let more : IsOneMore before c.args.self.now = c.requires.1 in
-    let last : Last a before c.len-count.result = found_last a c.args.self.now before c.as_slice.result.now c.index.result.now c.len-count.result c.self.invariant c.self.view_is more c.as_slice.ensures.value c.index.ensures c.len-count.ensures in
-    let are : c.truncate.new.self.items ≡ before.groups = c.truncate.ensures.items ∙ ap (λ (l : List Group). take (length l - 1) a.groups.items) c.as_slice.ensures.value ∙ last.front in
-    let state : record (progress_of a) { groups = c.truncate.new.self.items } ≡ before = left_of (progress_of a) before c.truncate.new.self.items (subst (IsOneMore before) (sym c.self.view_is) more) are in
+    let last : Last a before c.len-count.result =
+    found_last a c.args.self.now before c.as_slice.result.now c.index.result.now c.len-count.result c.self.invariant c.self.view_is more
+    c.as_slice.ensures.value c.index.ensures c.len-count.ensures in
+    let are : c.truncate.new.self.items ≡ before.groups = c.truncate.ensures.items
+    ∙ ap (λ (l : List Group). take (length l - 1) a.groups.items) c.as_slice.ensures.value ∙ last.front in
+    let state : record (progress_of a) { groups = c.truncate.new.self.items } ≡ before =
+    left_of (progress_of a) before c.truncate.new.self.items (subst (IsOneMore before) (sym c.self.view_is) more) are in
     record {
       sound = subst IsSound (sym state) more.sound;
       opened =
           let many : vec_len a.opened - 1 ≡ length a.opened.items - 1 = omega (arith, a.opened.ok.0) in
-          c.pop.ensures.rest ∙ ap (λ (n : ℕ). take n a.opened.items) many ∙ last.opened ∙ ap (λ (l : List Group). map (λ g. g.number) (filter is_open l)) (sym are);
-      owners = c.truncate-2.ensures.items ∙ ap (λ (l : List ℕ). take (length l - c.len-count.result) a.owners.items) c.as_slice-2.ensures.value ∙ last.owners ∙ ap (owners_from 0) (sym are);
-      pending = let pending : a.pending ≡ pending_count before.groups + c.len-count.result = last.pending in let left : a.pending - c.len-count.result ≡ pending_count before.groups = omega (arith, pending) in left ∙ ap pending_count (sym are);
-      few_groups = let many : length a.groups.items ≡ length before.groups + 1 = last.groups in subst (λ (l : List Group). length l < 2 ^ 32) (sym are) (omega (arith, many, c.self.invariant.few_groups));
+          c.pop.ensures.rest ∙ ap (λ (n : ℕ). take n a.opened.items) many ∙ last.opened
+          ∙ ap (λ (l : List Group). map (λ g. g.number) (filter is_open l)) (sym are);
+      owners = c.truncate-2.ensures.items ∙ ap (λ (l : List ℕ). take (length l - c.len-count.result) a.owners.items) c.as_slice-2.ensures.value
+          ∙ last.owners ∙ ap (owners_from 0) (sym are);
+      pending = let pending : a.pending ≡ pending_count before.groups + c.len-count.result = last.pending in
+          let left : a.pending - c.len-count.result ≡ pending_count before.groups = omega (arith, pending) in left ∙ ap pending_count (sym are);
+      few_groups = let many : length a.groups.items ≡ length before.groups + 1 = last.groups in
+          subst (λ (l : List Group). length l < 2 ^ 32) (sym are) (omega (arith, many, c.self.invariant.few_groups));
       few_requests =
           let many : length (requests_of a.groups.items) ≡ length (requests_of before.groups) + c.len-count.result = last.requests in
           subst (λ (l : List Group). length (requests_of l) < 2 ^ 32) (sym are) (omega (arith, many, c.self.invariant.few_requests));

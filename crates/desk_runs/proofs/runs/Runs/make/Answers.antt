@@ -30,7 +30,8 @@ kept c = c.keep_open.ensures ∙ ap (λ l. filter (is_open_at l) c.self.inside.o
 recount : (c : goal.After-as_slice-3) → Recounted c.as_slice-2.result.now c.as_slice-3.result.now
 recount c =
     subst (λ (l : List Group). Recounted l c.as_slice-3.result.now) (sym (c.as_slice-2.ensures.value ∙ are c))
-    (recounted c.self.inside.groups.items (after c) c.self.inside.opened.items c.as_slice-3.result.now (can c).later (can c).sound.numbered c.self.invariant.few_requests c.self.invariant.opened (c.as_slice-3.ensures.value ∙ kept c))
+    (recounted c.self.inside.groups.items (after c) c.self.inside.opened.items c.as_slice-3.result.now (can c).later
+    (can c).sound.numbered c.self.invariant.few_requests c.self.invariant.opened (c.as_slice-3.ensures.value ∙ kept c))
 
 pub count_pending-self-inside-requires-clause-there : goal.count_pending-self-inside-requires-clause-there
 count_pending-self-inside-requires-clause-there c = (recount c).there
@@ -45,15 +46,24 @@ invariant_of-self c =
     let can : CanChange (progress_of inside) c.args.change = rw (← c.self.view_is) at c.requires in
     let hs : List Group = fold put gs c.args.change.groups in
     let are : c.put_groups.new.groups.items ≡ hs = c.put_groups.ensures ∙ ap (λ l. fold put gs l) c.into_vec.ensures in
-    let kept : c.keep_open.new.numbers.items ≡ filter (is_open_at hs) inside.opened.items = c.keep_open.ensures ∙ ap (λ l. filter (is_open_at l) inside.opened.items) (c.as_slice.ensures.value ∙ are) in
-    let counted : Recounted hs c.as_slice-3.result.now = recounted gs hs inside.opened.items c.as_slice-3.result.now can.later can.sound.numbered c.self.invariant.few_requests c.self.invariant.opened (c.as_slice-3.ensures.value ∙ kept) in
+    let kept : c.keep_open.new.numbers.items ≡ filter (is_open_at hs) inside.opened.items = c.keep_open.ensures
+    ∙ ap (λ l. filter (is_open_at l) inside.opened.items) (c.as_slice.ensures.value ∙ are) in
+    let counted : Recounted hs c.as_slice-3.result.now =
+    recounted gs hs inside.opened.items c.as_slice-3.result.now can.later can.sound.numbered c.self.invariant.few_requests c.self.invariant.opened
+    (c.as_slice-3.ensures.value ∙ kept) in
     record {
-      sound = subst (λ (l : List Group). IsSound (record { len = inside.len; moment = c.args.change.now; groups = l; kept = c.args.change.kept; running = c.args.change.running })) (sym are) can.sound;
-      opened = opened_after gs hs inside.opened.items c.keep_open.new.numbers.items can.later can.sound.numbered c.self.invariant.opened kept ∙ ap (λ l. map (λ g. g.number) (filter is_open l)) (sym are);
+      sound = subst (λ (l : List Group). IsSound
+          (record { len = inside.len; moment = c.args.change.now; groups = l; kept = c.args.change.kept; running = c.args.change.running }))
+          (sym are) can.sound;
+      opened = opened_after gs hs inside.opened.items c.keep_open.new.numbers.items can.later can.sound.numbered c.self.invariant.opened kept
+          ∙ ap (λ l. map (λ g. g.number) (filter is_open l)) (sym are);
       owners = c.self.invariant.owners ∙ sym (owners_later 0 gs hs can.later) ∙ ap (λ l. owners_from 0 l) (sym are);
       pending =
-          c.count_pending-self-inside.ensures ∙ ap (λ (l : List Group). sum_by (λ n. pending_of (group_of l n)) c.as_slice-3.result.now) (c.as_slice-2.ensures.value ∙ are)
+          c.count_pending-self-inside.ensures
+          ∙ ap (λ (l : List Group). sum_by (λ n. pending_of (group_of l n)) c.as_slice-3.result.now) (c.as_slice-2.ensures.value ∙ are)
           ∙ counted.all ∙ ap pending_count (sym are);
-      few_groups = subst (λ (l : List Group). length l < 2 ^ 32) (sym are) (subst (λ (n : ℕ). n < 2 ^ 32) (sym (as_many gs hs can.later)) c.self.invariant.few_groups);
-      few_requests = subst (λ (l : List Group). length (requests_of l) < 2 ^ 32) (sym are) (subst (λ (n : ℕ). n < 2 ^ 32) (sym (as_many_requests gs hs can.later)) c.self.invariant.few_requests);
+      few_groups = subst (λ (l : List Group). length l < 2 ^ 32) (sym are)
+          (subst (λ (n : ℕ). n < 2 ^ 32) (sym (as_many gs hs can.later)) c.self.invariant.few_groups);
+      few_requests = subst (λ (l : List Group). length (requests_of l) < 2 ^ 32) (sym are)
+          (subst (λ (n : ℕ). n < 2 ^ 32) (sym (as_many_requests gs hs can.later)) c.self.invariant.few_requests);
     }

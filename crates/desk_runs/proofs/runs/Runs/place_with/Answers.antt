@@ -15,7 +15,8 @@ pub returns-then-place-owners : goal.returns-then-place-owners
 returns-then-place-owners c =
     let gs = c.self.inside.groups.items in
     let counted = counted_from (map (λ q. q.number.0) (requests_of gs)) c.self.invariant.sound.numbered.requests in
-    let many : length c.as_slice-owners.result.now ≡ length (requests_of gs) = ap length (c.as_slice-owners.ensures.value ∙ c.self.invariant.owners) ∙ owners_length 0 gs in
+    let many : length c.as_slice-owners.result.now ≡ length (requests_of gs) = ap length (c.as_slice-owners.ensures.value ∙ c.self.invariant.owners)
+    ∙ owners_length 0 gs in
     let place : c.args.number.0 ≡ 0 + (c.args.number.0 - 1) + 1 = omega arith in
     let far : length (requests_of gs) ≤ c.args.number.0 - 1 = omega arith in
     rw (← c.self.view_is) (with_beyond 0 0 (c.args.number.0 - 1) c.args.number gs counted place far)
@@ -30,7 +31,8 @@ returns c =
     let place : c.args.number.0 ≡ 0 + i + 1 = omega arith in
     let inside : i < length (requests_of gs) = omega arith in
     let owns : Owns 0 (get_or (owners_from 0 gs) i 0) c.args.number gs = owner_from 0 0 i c.args.number gs counted place inside in
-    rw (← c.self.view_is) (subst (λ (o : ℕ). (o < length gs) × (group_with gs c.args.number ≡ Some (get_or gs o no_group))) (minus_zero (get_or (owners_from 0 gs) i 0) ∙ ap (λ (l : List ℕ). get_or l i 0) (sym are)) (owns.within, owns.group))
+    rw (← c.self.view_is) (subst (λ (o : ℕ). (o < length gs) × (group_with gs c.args.number ≡ Some (get_or gs o no_group)))
+    (minus_zero (get_or (owners_from 0 gs) i 0) ∙ ap (λ (l : List ℕ). get_or l i 0) (sym are)) (owns.within, owns.group))
   where
     minus_zero : (n : ℕ) → n - 0 ≡ n
     minus_zero n = omega arith

@@ -29,13 +29,27 @@ found c =
     let g : Group = c.known-group.result.now in
     let may : IsWithdrawable c.args.number s = subst (IsWithdrawable c.args.number) (sym c.self.view_is) c.requires in
     let known : IsKnown s.groups c.args.number may.group = known_there s.groups c.args.number may.group c.self.invariant.sound.numbered.groups may.there in
-    let stands : g ≡ group_of s.groups c.args.number = subst (λ (p : Progress). g ≡ group_of p.groups c.args.number) (sym c.self.view_is) c.known-group.ensures in
+    let stands : g ≡ group_of s.groups c.args.number =
+    subst (λ (p : Progress). g ≡ group_of p.groups c.args.number) (sym c.self.view_is) c.known-group.ensures in
     let there : group_at s.groups c.args.number ≡ Some g = may.there ∙ ap Some (sym (stands ∙ known.is)) in
-    withdrawal_found s c.args.number g c.in_ok-after.after c.in_ok-over.over.items c.in_ok-running.running.items c.in_ok-change.change c.self.invariant.sound there (idle_found s c.args.number g may there)
+    withdrawal_found s c.args.number g c.in_ok-after.after c.in_ok-over.over.items c.in_ok-running.running.items c.in_ok-change.change
+    c.self.invariant.sound there (idle_found s c.args.number g may there)
     c.in_ok-after.ensures c.in_ok-over.ensures (c.in_ok-running.ensures.items ∙ c.as_slice.ensures)
     (c.in_ok-change.ensures
-    ∙ ap (λ (l : List RequestNo). let x : Change = record { now = c.self.inside.moment; groups = c.in_ok-after.after ∷ []; kept = filter (λ o. not (is_among o.request l)) c.as_slice-kept.result.now; running = c.in_ok-running.running.items } in x) c.as_slice-2.ensures.value
-    ∙ ap (λ (l : List Observation). let x : Change = record { now = c.self.inside.moment; groups = c.in_ok-after.after ∷ []; kept = filter (λ o. not (is_among o.request c.in_ok-over.over.items)) l; running = c.in_ok-running.running.items } in x) c.as_slice-kept.ensures)
+    ∙ ap (λ (l : List RequestNo). let x : Change = record {
+      now = c.self.inside.moment;
+      groups = c.in_ok-after.after ∷ [];
+      kept = filter (λ o. not (is_among o.request l)) c.as_slice-kept.result.now;
+      running = c.in_ok-running.running.items;
+    } in
+    x) c.as_slice-2.ensures.value
+    ∙ ap (λ (l : List Observation). let x : Change = record {
+      now = c.self.inside.moment;
+      groups = c.in_ok-after.after ∷ [];
+      kept = filter (λ o. not (is_among o.request c.in_ok-over.over.items)) l;
+      running = c.in_ok-running.running.items;
+    } in
+    x) c.as_slice-kept.ensures)
 
 pub returns-clause-withdrawn : goal.returns-clause-withdrawn
 returns-clause-withdrawn c = rw (← c.self.view_is) ((found c).does)

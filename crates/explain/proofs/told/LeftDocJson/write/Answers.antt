@@ -22,5 +22,7 @@ object_with blocking excluded forced request starts =
 pub returns : goal.returns
 returns c =
     let left = c.args.self.now.left.now in
-    subst (λ (b : Bool). AddsNested c.write.result c.args.out.now.items c.write.new.out.items 3 (object_with left.blocking b left.forced left.request.0 left.starts)) c.is_excluded-excluded.ensures
-    (subst (λ (ps : List Placement). AddsNested c.write.result c.args.out.now.items c.write.new.out.items 3 (object_with ps c.is_excluded-excluded.result left.forced left.request.0 left.starts)) c.as_list-blocking.ensures c.write.ensures)
+    subst (λ (b : Bool). AddsNested c.write.result c.args.out.now.items c.write.new.out.items 3
+    (object_with left.blocking b left.forced left.request.0 left.starts)) c.is_excluded-excluded.ensures
+    (subst (λ (ps : List Placement). AddsNested c.write.result c.args.out.now.items c.write.new.out.items 3
+    (object_with ps c.is_excluded-excluded.result left.forced left.request.0 left.starts)) c.as_list-blocking.ensures c.write.ensures)

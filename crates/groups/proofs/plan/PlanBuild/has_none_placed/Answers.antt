@@ -13,4 +13,5 @@ returns c =
     let within : c.args.group < length members = subst (λ n. c.args.group < n) (sym c.self.invariant.kept.tables.groups) below in
     let here : c.index.result.now ≡ slice_index_or members c.args.group 0 = c.index.ensures ∙ get_or_default members c.args.group c.index.result.now 0 within in
     subst (λ (b : Building). IsTrue (nat_eq c.index.result.now 0) ↔ HasNonePlaced b.snapshot b.placed c.args.group) c.self.view_is
-    (count_tells s c.args.group c.index.result.now c.self.inside.placements.items c.recall_valid.ensures.orderly c.self.invariant.kept.so_far (here ∙ c.self.invariant.kept.tables.members c.args.group))
+    (count_tells s c.args.group c.index.result.now c.self.inside.placements.items c.recall_valid.ensures.orderly c.self.invariant.kept.so_far
+    (here ∙ c.self.invariant.kept.tables.members c.args.group))

@@ -17,7 +17,8 @@ returns-then-le c =
     let count : c.len-count.result ≡ length spans = omega (arith, c.len-count.ensures, c.self.inside.items.ok.0) in
     let at : IsAt spans (c.len-count.result - 1) last = record { in_range = omega (arith, count); is = c.index_mut-last.ensures.value } in
     let read : last ≡ c.index.result.now = at_is spans (c.len-count.result - 1) last at c.index.result.now ∙ sym c.index.ensures in
-    let touch : c.args.span.from.0 ≤ last.to.0 = let first : c.args.span.from.0 ≤ c.index.result.now.to.0 = le_if_true _ _ _ c.le.ensures c.if-le.true in omega (arith, ap (λ (s : Span). s.to.0) read, first) in
+    let touch : c.args.span.from.0 ≤ last.to.0 = let first : c.args.span.from.0 ≤ c.index.result.now.to.0 =
+    le_if_true _ _ _ c.le.ensures c.if-le.true in omega (arith, ap (λ (s : Span). s.to.0) read, first) in
     let to : c.max-last.result.0 ≡ max last.to.0 c.args.span.to.0 = ap (λ (s : Sec). s.0) c.max-last.ensures ∙ grind (arith, nat_tests) in
     let begin : BeginBy spans c.args.span.from.0 = rw c.self.view_is c.requires in
     rw (← c.self.view_is) (adds_joined spans (c.len-count.result - 1) c.args.span last _ c.self.invariant at (omega (arith, count)) begin touch refl to)
@@ -29,7 +30,8 @@ pushed c =
     let count : c.len-count.result ≡ length spans = omega (arith, c.len-count.ensures, c.self.inside.items.ok.0) in
     let ended : All (λ (s : Span). s.to.0 < c.args.span.from.0) spans = elim c.else-count-gt0.branch [
       | else-count-gt0-via-then-count-gt0+else-le w ↦
-          all_ended spans (c.len-count.result - 1) _ w.index.result.now c.self.invariant (record { in_range = omega (arith, count, w.if-count-gt0.true); is = w.index.ensures })
+          all_ended spans (c.len-count.result - 1) _ w.index.result.now c.self.invariant
+          (record { in_range = omega (arith, count, w.if-count-gt0.true); is = w.index.ensures })
           (omega (arith, count, w.if-count-gt0.true)) (gt_if_not_le _ _ _ w.le.ensures w.if-le.false)
       | else-count-gt0-via-else-count-gt0 w ↦ λ k d lt. absurd (omega (arith, count, w.if-count-gt0.false))
     ] in

@@ -14,8 +14,10 @@ pub returns-then-begun-gt0 : goal.returns-then-begun-gt0
 returns-then-begun-gt0 c =
     let begun = c.count_begun-begun.ensures in
     let some : 0 < c.count_begun-begun.result = c.if-begun-gt0.true in
-    let at : IsAt c.args.self.now (c.count_begun-begun.result - 1) c.index.result.now = rw (← c.self.view_is) (record { in_range = omega (arith, begun.within, some, ap length c.self.view_is); is = c.index.ensures }) in
-    covers_exactly _ _ _ _ _ (subst IsSortedApart c.self.view_is c.self.invariant) begun (gt_if_not_le _ _ _ c.le.ensures c.if-le.false) some at c.le-then-begun-gt0.ensures
+    let at : IsAt c.args.self.now (c.count_begun-begun.result - 1) c.index.result.now =
+    rw (← c.self.view_is) (record { in_range = omega (arith, begun.within, some, ap length c.self.view_is); is = c.index.ensures }) in
+    covers_exactly _ _ _ _ _ (subst IsSortedApart c.self.view_is c.self.invariant) begun
+    (gt_if_not_le _ _ _ c.le.ensures c.if-le.false) some at c.le-then-begun-gt0.ensures
 
 pub returns-else-begun-gt0 : goal.returns-else-begun-gt0
 returns-else-begun-gt0 c =

@@ -17,7 +17,8 @@ loop-i-preserved-then-le c =
 
 pub add-requires-else-le : goal.add-requires-else-le
 add-requires-else-le c =
-    next_is (λ s. BeginBy c.loop-i.union s.from.0) c.list-theirs.result.now c.loop-i.j _ (at_place _ _ nothing c.if-j-theirs.true) c.loop-i.invariant.begin_theirs
+    next_is (λ s. BeginBy c.loop-i.union s.from.0) c.list-theirs.result.now c.loop-i.j _
+    (at_place _ _ nothing c.if-j-theirs.true) c.loop-i.invariant.begin_theirs
 
 pub loop-i-preserved : goal.loop-i-preserved
 loop-i-preserved c =

@@ -5,7 +5,8 @@ use Rattle.interval_set.proofs.spans.Spans.with_later.Goals as goal
 
 pub add-requires : goal.add-requires
 add-requires c =
-    next_is (λ s. BeginBy c.loop-span.self s.from.0) c.args.spans.now c.loop-span.span-index _ (at_place _ _ nothing c.loop-span-test.true) c.loop-span.invariant.begin
+    next_is (λ s. BeginBy c.loop-span.self s.from.0) c.args.spans.now c.loop-span.span-index _
+    (at_place _ _ nothing c.loop-span-test.true) c.loop-span.invariant.begin
 
 pub loop-span-preserved : goal.loop-span-preserved
 loop-span-preserved c =

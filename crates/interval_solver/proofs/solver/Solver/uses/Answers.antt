@@ -9,4 +9,5 @@ use Rattle.interval_solver.proofs.solver.Solver.uses.Goals as goal
 pub returns : goal.returns
 returns c =
     subst (λ (b : Solving). HoldsAt (λ x. c.count.result ≡ uses_of b.chosen x.request.request.0) (listed b.snapshot) c.args.member) c.self.view_is
-    (subst (λ (s : Parts). HoldsAt (λ x. c.count.result ≡ uses_of c.self.inside.uses.starts x.request.request.0) (listed s) c.args.member) c.self.invariant.snapshot c.count.ensures)
+    (subst (λ (s : Parts). HoldsAt (λ x. c.count.result ≡ uses_of c.self.inside.uses.starts x.request.request.0) (listed s) c.args.member)
+    c.self.invariant.snapshot c.count.ensures)

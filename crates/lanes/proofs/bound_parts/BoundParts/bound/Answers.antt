@@ -7,7 +7,8 @@ use Rattle.groups.proofs.NetRanges.{nets_in_range}
 use Rattle.lanes.proofs.bound_parts.BoundParts.bound.Goals as goal
 
 pub net-requires-clause-range : goal.net-requires-clause-range
-net-requires-clause-range c = nets_in_range c.args.snapshot.now c.args.prices.now.0 c.args.quota_prices.now.0 c.recall_valid.ensures.orderly c.requires.range c.requires.quota_range
+net-requires-clause-range c = nets_in_range c.args.snapshot.now c.args.prices.now.0 c.args.quota_prices.now.0 c.recall_valid.ensures.orderly
+    c.requires.range c.requires.quota_range
 
 pub write_rebates-requires-clause-range : goal.write_rebates-requires-clause-range
 write_rebates-requires-clause-range c =
@@ -16,7 +17,8 @@ write_rebates-requires-clause-range c =
 
 pub bound_of-requires-clause-bests : goal.bound_of-requires-clause-bests
 bound_of-requires-clause-bests c =
-    subst (AreParts (length c.args.snapshot.now.telescopes) (λ t. IsBest c.args.snapshot.now c.args.prices.now.0 t c.args.snapshot.now.first.0)) (sym c.as_slice.ensures.value) c.requires.bests
+    subst (AreParts (length c.args.snapshot.now.telescopes) (λ t. IsBest c.args.snapshot.now c.args.prices.now.0 t c.args.snapshot.now.first.0))
+    (sym c.as_slice.ensures.value) c.requires.bests
 
 pub write_rebates-requires-clause-count : goal.write_rebates-requires-clause-count
 write_rebates-requires-clause-count c = grind (arith, common_steps)

@@ -58,7 +58,8 @@ returns-clause-bound c =
     let x = c.self.inside.steps in
     let d : LanePrices = (element_at x.lanes 0 (omega (arith, c.self.invariant))).0 in
     let same : c.solve.new.self.snapshot ≡ c.args.self.now.snapshot = c.solve.ensures.same_snapshot ∙ ap (λ (y : LaneSeen). y.snapshot) c.self.view_is in
-    subst (λ (s : Parts). (plan : List Placement) → IsFeasible s plan → value_of_plan s plan ≤ c.answer-answer.result.bound) same (c.answer-answer.ensures.answer d).above
+    subst (λ (s : Parts). (plan : List Placement) → IsFeasible s plan → value_of_plan s plan ≤ c.answer-answer.result.bound) same
+    (c.answer-answer.ensures.answer d).above
 
 pub returns-clause-made : goal.returns-clause-made
 returns-clause-made c =
@@ -69,4 +70,5 @@ returns-clause-made c =
     let one : length y.lanes ≡ 1 = ap length lanes ∙ c.self.invariant in
     let d : LanePrices = (element_at y.lanes 0 (omega (arith, one))).0 in
     seen_now y c.advance.new.self _ _ one c.advance.ensures.same_snapshot (c.advance.ensures.next d)
-    ∙ ap (λ (z : LaneSeen). let it : LaneSeen = record { snapshot = z.snapshot; lane = z.lane; made = z.made + 1 } in it) (sym (seen_at y d one) ∙ same_seen x y snapshot lanes ∙ c.self.view_is)
+    ∙ ap (λ (z : LaneSeen). let it : LaneSeen = record { snapshot = z.snapshot; lane = z.lane; made = z.made + 1 } in
+    it) (sym (seen_at y d one) ∙ same_seen x y snapshot lanes ∙ c.self.view_is)

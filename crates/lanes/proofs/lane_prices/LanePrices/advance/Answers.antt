@@ -13,7 +13,8 @@ use Rattle.lanes.proofs.lane_prices.LanePrices.advance.Goals as goal
 use mir.Val.{SFits}
 
 pub net-requires-clause-range : goal.net-requires-clause-range
-net-requires-clause-range c = nets_in_range c.args.snapshot.now c.args.self.now.prices.0 c.args.self.now.quota_prices.0 c.recall_valid.ensures.orderly c.requires.lane.range c.requires.lane.quota_range
+net-requires-clause-range c = nets_in_range c.args.snapshot.now c.args.self.now.prices.0 c.args.self.now.quota_prices.0 c.recall_valid.ensures.orderly
+    c.requires.lane.range c.requires.lane.quota_range
 
 pub advance-requires-clause-stay : goal.advance-requires-clause-stay
 advance-requires-clause-stay c =
@@ -42,7 +43,8 @@ returns-clause-is_lane c =
     = c.counts.ensures ∙ ap (λ (p : Parts). map (λ x. uses_of c.args.uses.now.starts x.request.request.0) (listed p)) c.requires.same_snapshot
     in
     next_lane s l c.args.uses.now.starts c.recall_valid.ensures.orderly c.requires.lane c.requires.starts _ c.requires.made refl refl
-    (c.advance.ensures.next c.args.uses.now.starts (omega (arith, ints, is)) are ∙ ap (λ (n : ℕ). next_prices s n l.prices.0 (net_price s l.prices.0 l.quota_prices.0) c.args.uses.now.starts) size)
+    (c.advance.ensures.next c.args.uses.now.starts (omega (arith, ints, is)) are
+    ∙ ap (λ (n : ℕ). next_prices s n l.prices.0 (net_price s l.prices.0 l.quota_prices.0) c.args.uses.now.starts) size)
     (c.advance.ensures.quotas ∙ ap (λ (n : ℕ). next_quota_prices s n l.quota_prices.0 (net_price s l.prices.0 l.quota_prices.0)) size)
 
 pub advance-requires-clause-uses : goal.advance-requires-clause-uses

@@ -12,9 +12,11 @@ advance-requires-clause-made g c =
 
 pub advance-requires-clause-starts : goal.advance-requires-clause-starts
 advance-requires-clause-starts g c =
-    (solved_now c.args.self.now _ c.args.place c.index_mut.result.now c.index.result.now c.self.view_is c.index_mut.ensures.value c.index.ensures c.requires.solved).canonical
+    (solved_now c.args.self.now _ c.args.place c.index_mut.result.now c.index.result.now c.self.view_is c.index_mut.ensures.value c.index.ensures
+    c.requires.solved).canonical
 
 pub returns-clause-solved : goal.returns-clause-solved
 returns-clause-solved g c = λ k other h a u.
-    others_solved c.self.inside.snapshot.now c.self.inside.lanes.items c.self.inside.uses.items c.self.inside.bests.items c.args.place k c.advance.new.self a u other
+    others_solved c.self.inside.snapshot.now c.self.inside.lanes.items c.self.inside.uses.items c.self.inside.bests.items c.args.place k
+    c.advance.new.self a u other
     (subst (λ (x : Stepping). IsSolvedAt x k) (sym c.self.view_is) h a u)

@@ -6,7 +6,8 @@ use Rattle.lanes.proofs.worker.Worker.keep.Goals as goal
 pub take-requires-clause-few : goal.take-requires-clause-few
 take-requires-clause-few g c =
     let y = c.index.result.now in
-    plan_few g.row.L c.args.self.now c.loop-place.place y c.requires.working c.loop-place-test.true (c.index.ensures ∙ ap (λ (w : Worker g.row.L). slice_index_or w.lanes.items c.loop-place.place y) c.loop-place.invariant.0)
+    plan_few g.row.L c.args.self.now c.loop-place.place y c.requires.working c.loop-place-test.true
+    (c.index.ensures ∙ ap (λ (w : Worker g.row.L). slice_index_or w.lanes.items c.loop-place.place y) c.loop-place.invariant.0)
 
 pub returns-clause-working : goal.returns-clause-working
 returns-clause-working g c =

@@ -22,10 +22,12 @@ loop-place-preserved g c =
     let same = h.taken in
     elim c.if-not-index.branch [
       | then-not-index w ↦ subst (λ (z : Worker L). IsRoundGoing L board start z c.args.round (c.loop-place.place + 1)) (sym w.self-is)
-          (round_on L board start now c.args.round c.loop-place.place h (omega arith) w.make_round_of.new.self w.make_round_of.ensures.seat w.make_round_of.ensures.working w.make_round_of.ensures.next)
+          (round_on L board start now c.args.round c.loop-place.place h
+          (omega arith) w.make_round_of.new.self w.make_round_of.ensures.seat w.make_round_of.ensures.working w.make_round_of.ensures.next)
       | else-not-index w ↦ subst (λ (z : Worker L). IsRoundGoing L board start z c.args.round (c.loop-place.place + 1)) (sym w.self-is)
           (round_past L board start now c.args.round c.loop-place.place h (omega arith)
-          (λ e. ap (λ (z : LaneFound). z.stopped) (get_or_default now.lanes.items c.loop-place.place e c.index.result.now (omega arith) ∙ sym c.index.ensures) ∙ w.if-not-index.false))
+          (λ e. ap (λ (z : LaneFound). z.stopped) (get_or_default now.lanes.items c.loop-place.place e c.index.result.now (omega arith)
+          ∙ sym c.index.ensures) ∙ w.if-not-index.false))
     ]
 
 pub loop-place-init : goal.loop-place-init
@@ -37,7 +39,8 @@ loop-place-init g c = record {
   taken = refl;
   made = record {
     done = λ k d e below. absurd (omega arith);
-    left = λ k d e above lt. subst (λ (xs : List LanePrices). ((slice_index_or c.args.self.now.lanes.items k e).stopped ≡ true) ⊎ ((slice_index_or xs k d).made ≡ c.args.round)) (sym c.solve.ensures.lanes)
+    left = λ k d e above lt. subst (λ (xs : List LanePrices). ((slice_index_or c.args.self.now.lanes.items k e).stopped ≡ true)
+        ⊎ ((slice_index_or xs k d).made ≡ c.args.round)) (sym c.solve.ensures.lanes)
         (c.requires.made k d e lt);
   };
   solved = λ k above lt. c.solve.ensures.solved k lt;
@@ -60,7 +63,8 @@ make_round_of-requires g c =
             (
               h.solved c.loop-place.place (omega arith) room,
               λ d. elim (h.made.left c.loop-place.place d c.index.result.now (omega arith) within) [
-                | inl stopped ↦ absurd (false≢true (not_true c.index.result.now.stopped c.if-not-index.true ∙ ap (λ (z : LaneFound). z.stopped) c.index.ensures ∙ stopped))
+                | inl stopped ↦ absurd (false≢true (not_true c.index.result.now.stopped c.if-not-index.true
+                    ∙ ap (λ (z : LaneFound). z.stopped) c.index.ensures ∙ stopped))
                 | inr is ↦ (let r = c.requires.round in let e = ap (λ (x : Settings). x.rounds) h.same.settings in omega arith)
               ],
             ),

@@ -16,7 +16,11 @@ returns-then-number-from-clause-working g c =
 
 pub returns-then-number-from-clause-none_left : goal.returns-then-number-from-clause-none_left
 returns-then-number-from-clause-none_left g c =
-    λ none. (c.claim-number.result, (omega arith), claimed_now (view c.args.self.now.seat) (view c.claim-number.new.seat) c.claim-number.result c.claim-number.ensures.claimed)
+    λ none. (
+      c.claim-number.result,
+      (omega arith),
+      claimed_now (view c.args.self.now.seat) (view c.claim-number.new.seat) c.claim-number.result c.claim-number.ensures.claimed,
+    )
 
 pub returns-clause-working : goal.returns-clause-working
 returns-clause-working g c =
@@ -29,12 +33,16 @@ returns-clause-working g c =
     let prices : ArePrices s y.found.prices y.found.quota_prices = subst (λ (f : FoundSeen). ArePrices s f.prices f.quota_prices) (sym found)
     (c.requires.working.equipped.prices w.taken y (omega arith)) in
     record {
-      equipped = equipped_on g.row.L w _ c.requires.working.equipped (record { settings = refl; opening = refl; snapshot = c.begin.ensures.same_snapshot; share = refl })
-          (ap (λ (xs : List LanePrices). length xs) c.begin.ensures.begun.set ∙ length-set w.steps.lanes w.taken c.begin.ensures.begun.prices) (length-set w.lanes.items w.taken y)
+      equipped = equipped_on g.row.L w _ c.requires.working.equipped
+          (record { settings = refl; opening = refl; snapshot = c.begin.ensures.same_snapshot; share = refl })
+          (ap (λ (xs : List LanePrices). length xs) c.begin.ensures.begun.set ∙ length-set w.steps.lanes w.taken c.begin.ensures.begun.prices)
+          (length-set w.lanes.items w.taken y)
           (All-set (λ z. ArePrices s z.found.prices z.found.quota_prices) w.lanes.items w.taken y prices c.requires.working.equipped.prices) (omega arith)
           (ap (λ (v : SeatView). v.seats) c.claim-number.ensures.claimed) (ap (λ (v : SeatView). v.tickets) c.claim-number.ensures.claimed);
-      in_step = in_step_begun s c.begin.new.self.snapshot w.settings w.opening (view w.seat) (view c.claim-number.new.seat) w.found w.steps.lanes c.begin.new.self.lanes w.lanes.items w.taken
-          c.claim-number.result y c.requires.working.in_step c.begin.ensures.same_snapshot c.claim-number.ensures.claimed c.claim-number.ensures.before (omega arith) (omega arith) (omega arith)
+      in_step = in_step_begun s c.begin.new.self.snapshot w.settings w.opening (view w.seat)
+          (view c.claim-number.new.seat) w.found w.steps.lanes c.begin.new.self.lanes w.lanes.items w.taken
+          c.claim-number.result y c.requires.working.in_step c.begin.ensures.same_snapshot c.claim-number.ensures.claimed
+          c.claim-number.ensures.before (omega arith) (omega arith) (omega arith)
           c.begin.ensures.begun refl found c.requires.working.equipped.prices;
     }
 

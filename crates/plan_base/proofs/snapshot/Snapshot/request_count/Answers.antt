@@ -6,7 +6,8 @@ use Rattle.plan_base.proofs.RowLemmas.{length-rows}
 use Rattle.plan_base.proofs.snapshot.Snapshot.request_count.Goals as goal
 
 pub returns-clause-value : goal.returns-clause-value
-returns-clause-value c = rw (← c.self.view_is) (omega (arith, c.self.inside.rows.ok.0, length-rows c.self.inside.parts c.self.inside.rows.items c.self.invariant.1))
+returns-clause-value c = rw (← c.self.view_is)
+    (omega (arith, c.self.inside.rows.ok.0, length-rows c.self.inside.parts c.self.inside.rows.items c.self.invariant.1))
 
 pub returns-clause-few : goal.returns-clause-few
 returns-clause-few c =

@@ -5,4 +5,5 @@ use Rattle.plan_doc.proofs.read.group.read_groups.Goals as goal
 
 pub returns-clause-ranges : goal.returns-clause-ranges
 returns-clause-ranges c =
-    IfOk-weaker c.read_list.result _ _ (λ groups read. groups_are_in_range c.args.least c.args.most (members_of c.args.doc.now) groups read) c.read_list.ensures.value
+    IfOk-weaker c.read_list.result _ _ (λ groups read. groups_are_in_range c.args.least c.args.most (members_of c.args.doc.now) groups read)
+    c.read_list.ensures.value

@@ -10,7 +10,8 @@ returns-then-at-len-clause-first c =
     let len : length c.self.inside.bytes.items ≡ c.find_newline-at.result = search rules in
     subst (λ (v : HeldSeen). NoNewline v.bytes) c.self.view_is
     (none_at c.self.inside.bytes.items c.self.inside.start
-    (λ k low high. both_clear _ _ c.self.inside.start c.self.inside.scanned c.find_newline-at.result same c.self.invariant.clear c.find_newline-at.ensures.before k low (omega (arith, high, len))))
+    (λ k low high. both_clear _ _ c.self.inside.start c.self.inside.scanned c.find_newline-at.result same c.self.invariant.clear
+    c.find_newline-at.ensures.before k low (omega (arith, high, len))))
 
 pub returns-clause-first : goal.returns-clause-first
 returns-clause-first c =

@@ -11,9 +11,11 @@ pub returns-then-not-is_within-clause-next : goal.returns-then-not-is_within-cla
 returns-then-not-is_within-clause-next g c =
     let s = c.args.self.now in
     let over : IsWithin s → ⊥ = search rules in
-    let clear : s.most_bytes < s.taken → NoNewline s.held = subst (λ (v : LinesSeen). v.most_bytes < v.taken → NoNewline v.held) c.self.view_is c.self.invariant.over in
+    let clear : s.most_bytes < s.taken
+    → NoNewline s.held = subst (λ (v : LinesSeen). v.most_bytes < v.taken → NoNewline v.held) c.self.view_is c.self.invariant.over in
     let few : s.answered ≤ s.most_lines = subst (λ (v : LinesSeen). v.answered ≤ v.most_lines) c.self.view_is c.self.invariant.answered in
-    let ended : s.ended ≡ true → NoNewline s.held × IsWithin s × (s.failed ≡ false) = subst (λ (v : LinesSeen). v.ended ≡ true → NoNewline v.held × IsWithin v × (v.failed ≡ false)) c.self.view_is c.self.invariant.ended in
+    let ended : s.ended ≡ true → NoNewline s.held × IsWithin s × (s.failed ≡ false) =
+    subst (λ (v : LinesSeen). v.ended ≡ true → NoNewline v.held × IsWithin v × (v.failed ≡ false)) c.self.view_is c.self.invariant.ended in
     let steady : s.failed ≡ false = subst (λ (v : LinesSeen). v.failed ≡ false) c.self.view_is c.if-self.false in
     let opened : s.ended ≡ false = is_false s.ended (λ e. over (ended e).1) in
     let most : s.taken ≤ s.most_bytes + 1 = subst (λ (v : LinesSeen). v.taken ≤ v.most_bytes + 1) c.self.view_is c.self.invariant.taken in

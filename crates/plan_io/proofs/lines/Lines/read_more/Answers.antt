@@ -16,7 +16,8 @@ returns-then-count-allowed-clause-turn g c =
     let given : n ≤ length c.read_block.new.room = search rules in
     let is = ap (λ (v : LinesSeen). record v { held = c.make_room.new.self.bytes; taken = v.taken + n }) c.self.view_is in
     subst (λ (t : LinesSeen). IsTurn s (g.S.Source.left c.args.source.now) t (g.S.Source.left c.read_block.new.source) turn.Over) (sym is)
-    (read_over s c.make_room.new.self.bytes c.read_block.new.room n c.read_size.result _ _ c.requires.within c.requires.clear c.requires.steady c.requires.open held c.in-Got.ensures.bytes.0 size over given c.in-Got.ensures.bytes.1)
+    (read_over s c.make_room.new.self.bytes c.read_block.new.room n c.read_size.result _ _ c.requires.within c.requires.clear c.requires.steady
+    c.requires.open held c.in-Got.ensures.bytes.0 size over given c.in-Got.ensures.bytes.1)
 
 pub returns-then-self-clause-turn : goal.returns-then-self-clause-turn
 returns-then-self-clause-turn g c = grind (arith, common_steps)

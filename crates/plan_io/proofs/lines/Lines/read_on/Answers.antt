@@ -12,7 +12,8 @@ returns-in_err-line-in-More-clause-err g c =
     let a = g.S.Source.left c.args.source.now in
     let b = g.S.Source.left c.loop-self.source in
     let d = g.S.Source.left c.read_more.new.source in
-    let more : IsTurn c.loop-self.self b c.read_more.new.self d turn.More = subst (IsTurn c.loop-self.self b c.read_more.new.self d) c.in-More.is c.in_ok-read_more.ensures.turn in
+    let more : IsTurn c.loop-self.self b c.read_more.new.self d turn.More =
+    subst (IsTurn c.loop-self.self b c.read_more.new.self d) c.in-More.is c.in_ok-read_more.ensures.turn in
     let p = err_from_is_err_and c.from_residual-in_err-line-in-More.result c.from_residual-in_err-line-in-More.ensures.1 in
     rw (p.1) (
     subst (λ (v : LinesSeen). ReadsOn c.args.self.now a [] v d) (sym c.in_err-line-in-More.ensures.err)
@@ -23,7 +24,8 @@ returns-in-Some-clause-next g c =
     let a = g.S.Source.left c.args.source.now in
     let b = g.S.Source.left c.loop-self.source in
     let d = g.S.Source.left c.read_more.new.source in
-    let more : IsTurn c.loop-self.self b c.read_more.new.self d turn.More = subst (IsTurn c.loop-self.self b c.read_more.new.self d) c.in-More.is c.in_ok-read_more.ensures.turn in
+    let more : IsTurn c.loop-self.self b c.read_more.new.self d turn.More =
+    subst (IsTurn c.loop-self.self b c.read_more.new.self d) c.in-More.is c.in_ok-read_more.ensures.turn in
     let cut = subst (IsCut c.read_more.new.self c.cut.new.self) c.in-Some.is c.in_ok-line-in-More.ensures.cut in
     line_now _ c.loop-self.self c.read_more.new.self _ a b d c.in-Some.line c.loop-self.invariant.reads more cut
 
@@ -33,8 +35,10 @@ loop-self-preserved g c =
     let a = g.S.Source.left c.args.source.now in
     let b = g.S.Source.left c.loop-self.source in
     let d = g.S.Source.left c.read_more.new.source in
-    let more : IsTurn c.loop-self.self b c.read_more.new.self d turn.More = subst (IsTurn c.loop-self.self b c.read_more.new.self d) c.in-More.is c.in_ok-read_more.ensures.turn in
-    let later = subst (IsTurnCause (g.S.Source.faults c.loop-self.source) (g.S.Source.faults c.read_more.new.source)) c.in-More.is c.in_ok-read_more.ensures.cause in
+    let more : IsTurn c.loop-self.self b c.read_more.new.self d turn.More =
+    subst (IsTurn c.loop-self.self b c.read_more.new.self d) c.in-More.is c.in_ok-read_more.ensures.turn in
+    let later = subst (IsTurnCause (g.S.Source.faults c.loop-self.source) (g.S.Source.faults c.read_more.new.source)) c.in-More.is
+    c.in_ok-read_more.ensures.cause in
     let cut = subst (IsCut c.read_more.new.self c.cut.new.self) (is_none c.in_ok-line-in-More.field-0 c.in_default.not-Some) c.in_ok-line-in-More.ensures.cut in
     record {
       reads = reads_then _ c.read_more.new.self _ _ d [] (reads_more _ c.loop-self.self _ a b d was.reads more.0) cut.0;
@@ -51,5 +55,6 @@ returns-in-Over-clause-next g c =
     let a = g.S.Source.left c.args.source.now in
     let b = g.S.Source.left c.loop-self.source in
     let d = g.S.Source.left c.read_more.new.source in
-    let over : IsTurn c.loop-self.self b c.read_more.new.self d turn.Over = subst (IsTurn c.loop-self.self b c.read_more.new.self d) c.in-Over.is c.in_ok-read_more.ensures.turn in
+    let over : IsTurn c.loop-self.self b c.read_more.new.self d turn.Over =
+    subst (IsTurn c.loop-self.self b c.read_more.new.self d) c.in-Over.is c.in_ok-read_more.ensures.turn in
     over_now _ c.loop-self.self _ a b d was.reads was.within over

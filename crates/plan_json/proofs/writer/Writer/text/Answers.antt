@@ -10,4 +10,5 @@ returns-clause-byte_order c =
 
 pub returns-clause-reads_back : goal.returns-clause-reads_back
 returns-clause-reads_back c =
-    both _ _ _ (λ bytes utf8 reads deep. data_of_text bytes.items (view c.args.value.now) utf8 (reads deep)) c.to_vec.result c.to_vec.ensures.utf8 c.to_vec.ensures.reads_back
+    both _ _ _ (λ bytes utf8 reads deep. data_of_text bytes.items (view c.args.value.now) utf8 (reads deep)) c.to_vec.result c.to_vec.ensures.utf8
+    c.to_vec.ensures.reads_back

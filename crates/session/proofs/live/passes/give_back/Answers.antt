@@ -16,6 +16,7 @@ loop-pass-preserved c =
     let held = c.loop-pass.invariant in (
       c.back.ensures.root,
       fewer desk left old pass cut held.1,
-      out_fewer (root_view c.loop-pass.root) (root_view c.back.new.root) (length left) (view pass).caller (last_of desk left old pass cut held.1) c.back.ensures.back
+      out_fewer (root_view c.loop-pass.root) (root_view c.back.new.root) (length left) (view pass).caller
+          (last_of desk left old pass cut held.1) c.back.ensures.back
           (subst (λ (n : ℕ). OnlyOut (root_view c.loop-pass.root) n) more held.2),
     )

@@ -24,7 +24,8 @@ returns-in_err-line-clause-first g c =
     let book = c.loop-reader.book in
     let was = c.loop-reader.invariant in
     on_err _ c.from_residual-in_err-line.result
-    (some_read a b after r c.next.new.self n book was.naming c.in_err-line.ensures.err c.in_err-line.ensures.err_state.1 (λ e f. (c.in_err-line.ensures.stays_ended e f).1))
+    (some_read a b after r c.next.new.self n book was.naming c.in_err-line.ensures.err c.in_err-line.ensures.err_state.1
+    (λ e f. (c.in_err-line.ensures.stays_ended e f).1))
 
 pub send_line-requires-clause-callers : goal.send_line-requires-clause-callers
 send_line-requires-clause-callers g c =
@@ -47,7 +48,8 @@ send_line-requires-clause-room g c =
     let book = c.loop-reader.book in
     let was = c.loop-reader.invariant in
     let line = c.in-Line.line in
-    let next = next_naming a b after r c.next.new.self n book line c.in_ok-line.field-0 c.in-Line.is was.naming c.in_ok-line.ensures.next (λ e f. let same = c.in_ok-line.ensures.stays_ended e f in (ap (g.S.Source.left) same.0, same.1.0)) in
+    let next = next_naming a b after r c.next.new.self n book line c.in_ok-line.field-0 c.in-Line.is was.naming c.in_ok-line.ensures.next
+    (λ e f. let same = c.in_ok-line.ensures.stays_ended e f in (ap (g.S.Source.left) same.0, same.1.0)) in
     room_for a b after r c.next.new.self n book line next
 
 pub returns-in_err-send_line-in-Line-clause-first : goal.returns-in_err-send_line-in-Line-clause-first
@@ -60,7 +62,8 @@ returns-in_err-send_line-in-Line-clause-first g c =
     let book = c.loop-reader.book in
     let was = c.loop-reader.invariant in
     let line = c.in-Line.line in
-    let next = next_naming a b after r c.next.new.self n book line c.in_ok-line.field-0 c.in-Line.is was.naming c.in_ok-line.ensures.next (λ e f. let same = c.in_ok-line.ensures.stays_ended e f in (ap (g.S.Source.left) same.0, same.1.0)) in
+    let next = next_naming a b after r c.next.new.self n book line c.in_ok-line.field-0 c.in-Line.is was.naming c.in_ok-line.ensures.next
+    (λ e f. let same = c.in_ok-line.ensures.stays_ended e f in (ap (g.S.Source.left) same.0, same.1.0)) in
     on_err _ c.from_residual-in_err-send_line-in-Line.result (some_sent a b after r c.next.new.self n book line next)
 
 pub returns-then-not-branch-clause-input : goal.returns-then-not-branch-clause-input
@@ -73,8 +76,10 @@ returns-then-not-branch-clause-input g c =
     let book = c.loop-reader.book in
     let was = c.loop-reader.invariant in
     let line = c.in-Line.line in
-    let next = next_naming a b after r c.next.new.self n book line c.in_ok-line.field-0 c.in-Line.is was.naming c.in_ok-line.ensures.next (λ e f. let same = c.in_ok-line.ensures.stays_ended e f in (ap (g.S.Source.left) same.0, same.1.0)) in
-    no_caller a b after r c.next.new.self n book c.send_line.new.book line c.in_ok-send_line-in-Line.field-0 c.if-not-branch.true next c.in_ok-send_line-in-Line.ensures
+    let next = next_naming a b after r c.next.new.self n book line c.in_ok-line.field-0 c.in-Line.is was.naming c.in_ok-line.ensures.next
+    (λ e f. let same = c.in_ok-line.ensures.stays_ended e f in (ap (g.S.Source.left) same.0, same.1.0)) in
+    no_caller a b after r c.next.new.self n book c.send_line.new.book line c.in_ok-send_line-in-Line.field-0 c.if-not-branch.true next
+    c.in_ok-send_line-in-Line.ensures
 
 pub loop-reader-preserved : goal.loop-reader-preserved
 loop-reader-preserved g c =
@@ -86,11 +91,18 @@ loop-reader-preserved g c =
     let book = c.loop-reader.book in
     let was = c.loop-reader.invariant in
     let line = c.in-Line.line in
-    let next = next_naming a b after r c.next.new.self n book line c.in_ok-line.field-0 c.in-Line.is was.naming c.in_ok-line.ensures.next (λ e f. let same = c.in_ok-line.ensures.stays_ended e f in (ap (g.S.Source.left) same.0, same.1.0)) in
+    let next = next_naming a b after r c.next.new.self n book line c.in_ok-line.field-0 c.in-Line.is was.naming c.in_ok-line.ensures.next
+    (λ e f. let same = c.in_ok-line.ensures.stays_ended e f in (ap (g.S.Source.left) same.0, same.1.0)) in
     record {
-      naming = naming_line a b after r c.next.new.self n book c.send_line.new.book line c.in_ok-send_line-in-Line.field-0 c.if-not-branch.false next c.in_ok-send_line-in-Line.ensures;
+      naming = naming_line a b after r c.next.new.self n book c.send_line.new.book line c.in_ok-send_line-in-Line.field-0 c.if-not-branch.false next
+          c.in_ok-send_line-in-Line.ensures;
       steady = next.steady;
-      reads = omega (arith, was.reads, later_read r (g.S.Source.faults c.loop-reader.source) (g.S.Source.faults c.next.new.source) c.in_ok-line.field-0 line c.in-Line.is c.in_ok-line.ensures.cause);
+      reads = omega (
+        arith,
+        was.reads,
+        later_read r (g.S.Source.faults c.loop-reader.source) (g.S.Source.faults c.next.new.source) c.in_ok-line.field-0 line c.in-Line.is
+            c.in_ok-line.ensures.cause,
+      );
     }
 
 pub returns-in-End-clause-input : goal.returns-in-End-clause-input
@@ -102,7 +114,8 @@ returns-in-End-clause-input g c =
     let n = c.loop-reader.number in
     let book = c.loop-reader.book in
     let was = c.loop-reader.invariant in
-    naming_ended a b after r c.next.new.self n book c.in_ok-line.field-0 answer.End c.in-End.is was.naming c.in_ok-line.ensures.next (λ e f. let same = c.in_ok-line.ensures.stays_ended e f in (ap (g.S.Source.left) same.0, same.1.0)) (λ line e. cc)
+    naming_ended a b after r c.next.new.self n book c.in_ok-line.field-0 answer.End c.in-End.is was.naming c.in_ok-line.ensures.next
+    (λ e f. let same = c.in_ok-line.ensures.stays_ended e f in (ap (g.S.Source.left) same.0, same.1.0)) (λ line e. cc)
 
 pub returns-in-ReadFault-clause-input : goal.returns-in-ReadFault-clause-input
 returns-in-ReadFault-clause-input g c =
@@ -113,7 +126,9 @@ returns-in-ReadFault-clause-input g c =
     let n = c.loop-reader.number in
     let book = c.loop-reader.book in
     let was = c.loop-reader.invariant in
-    let ended = naming_ended a b after r c.next.new.self n book c.in_ok-line.field-0 answer.ReadFault c.in-ReadFault.is was.naming c.in_ok-line.ensures.next (λ e f. let same = c.in_ok-line.ensures.stays_ended e f in (ap (g.S.Source.left) same.0, same.1.0)) (λ line e. cc) in
+    let ended = naming_ended a b after r c.next.new.self n book c.in_ok-line.field-0 answer.ReadFault c.in-ReadFault.is was.naming
+    c.in_ok-line.ensures.next (λ e f. let same = c.in_ok-line.ensures.stays_ended e f in
+    (ap (g.S.Source.left) same.0, same.1.0)) (λ line e. cc) in
     (ended.0, ended.1)
 
 pub returns-in-InputOver-clause-input : goal.returns-in-InputOver-clause-input
@@ -125,5 +140,7 @@ returns-in-InputOver-clause-input g c =
     let n = c.loop-reader.number in
     let book = c.loop-reader.book in
     let was = c.loop-reader.invariant in
-    let ended = naming_ended a b after r c.next.new.self n book c.in_ok-line.field-0 answer.InputOver c.in-InputOver.is was.naming c.in_ok-line.ensures.next (λ e f. let same = c.in_ok-line.ensures.stays_ended e f in (ap (g.S.Source.left) same.0, same.1.0)) (λ line e. cc) in
+    let ended = naming_ended a b after r c.next.new.self n book c.in_ok-line.field-0 answer.InputOver c.in-InputOver.is was.naming
+    c.in_ok-line.ensures.next (λ e f. let same = c.in_ok-line.ensures.stays_ended e f in
+    (ap (g.S.Source.left) same.0, same.1.0)) (λ line e. cc) in
     (ended.0, ended.1)

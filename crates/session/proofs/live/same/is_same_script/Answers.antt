@@ -12,5 +12,7 @@ returns-in-None-None c =
 
 pub loop-index-preserved : goal.loop-index-preserved
 loop-index-preserved c =
-    agree_more c.loop-index.index (script_of c.args.a.now.scripts c.args.caller) (script_of c.args.b.now.scripts c.args.caller) c.in-Some-Some.one.now c.in-Some-Some.other.now c.loop-index.invariant
-    (sym c.line.ensures ∙ ap option_copied c.in-Some-Some.is-0) (sym c.line-in-loop-index.ensures ∙ ap option_copied c.in-Some-Some.is-1) (c.is_same_line.ensures c.if-is_same_line.true)
+    agree_more c.loop-index.index (script_of c.args.a.now.scripts c.args.caller)
+    (script_of c.args.b.now.scripts c.args.caller) c.in-Some-Some.one.now c.in-Some-Some.other.now c.loop-index.invariant
+    (sym c.line.ensures ∙ ap option_copied c.in-Some-Some.is-0) (sym c.line-in-loop-index.ensures ∙ ap option_copied c.in-Some-Some.is-1)
+    (c.is_same_line.ensures c.if-is_same_line.true)

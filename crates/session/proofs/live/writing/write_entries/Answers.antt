@@ -27,10 +27,16 @@ loop-index-preserved g c =
     record {
       gathered = gathered_written w x y history (n + 1) added c.write_many.new.replies.items c.write_many.result c.in-Done.is
           (gathered_entry w x history n old added c.loop-index.invariant.gathered c.in_ok-add_entry.ensures.ok) c.write_many.ensures.bytes;
-      writes = omega (arith, c.loop-index.invariant.writes, later_written (g.K.Sink.faults c.loop-index.sink) (g.K.Sink.faults c.write_many.new.sink) c.write_many.result c.in-Done.is c.write_many.ensures.cause);
+      writes = omega (
+        arith,
+        c.loop-index.invariant.writes,
+        later_written (g.K.Sink.faults c.loop-index.sink)
+            (g.K.Sink.faults c.write_many.new.sink) c.write_many.result c.in-Done.is c.write_many.ensures.cause,
+      );
     }
 
 pub returns-clause-told : goal.returns-clause-told
 returns-clause-told g c =
-    told_last (g.K.Sink.written c.args.sink.now) (g.K.Sink.written c.loop-index.sink) (g.K.Sink.written c.write_replies.new.sink) c.args.book.now.history c.loop-index.index c.loop-index.replies.items
+    told_last (g.K.Sink.written c.args.sink.now) (g.K.Sink.written c.loop-index.sink)
+    (g.K.Sink.written c.write_replies.new.sink) c.args.book.now.history c.loop-index.index c.loop-index.replies.items
     c.write_replies.result (omega (arith, c.entries-index-end.ensures)) c.loop-index.invariant.gathered c.write_replies.ensures.bytes

@@ -18,15 +18,26 @@ overflow_sub-others c = omega (arith, replaced c, c.self.invariant.pieces, sky_w
 
 pub returns-then-len-most : goal.returns-then-len-most
 returns-then-len-most c = refuses _ _ _ _ _ (λ _.
-    subst (λ (k : CalendarSeen). sky_refusal k c.args.key c.args.spans.now ≡ Some (full Visibility)) c.self.view_is (sky_refused (seen_calendar c.self.inside) c.args.key c.args.spans.now
-    (omega (arith, c.if-len-most.true, c.most.ensures, c.len-2.ensures, c.self.invariant.pieces, ap length (ap (λ (k : CalendarSeen). sky_of k.skies c.args.key) (sym c.self.view_is)), c.len.ensures, ap length c.sky.ensures.sky)))
+    subst (λ (k : CalendarSeen). sky_refusal k c.args.key c.args.spans.now ≡ Some (full Visibility)) c.self.view_is
+    (sky_refused (seen_calendar c.self.inside) c.args.key c.args.spans.now
+    (omega (
+      arith,
+      c.if-len-most.true,
+      c.most.ensures,
+      c.len-2.ensures,
+      c.self.invariant.pieces,
+      ap length (ap (λ (k : CalendarSeen). sky_of k.skies c.args.key) (sym c.self.view_is)),
+      c.len.ensures,
+      ap length c.sky.ensures.sky,
+    )))
     ∙ ap Some (sym c.full.ensures)) refl
 
 pub invariant_of-self-2 : goal.invariant_of-self-2
 invariant_of-self-2 c =
     let with = pieces_with c.self.inside.skies.entries c.args.key c.in_ok-spans.spans in
     let within = sky_within c.self.inside.skies.entries c.args.key in
-    let old : c.len.result ≡ length (sky_of c.self.inside.skies.entries c.args.key) = c.len.ensures ∙ ap length (c.sky.ensures.sky ∙ ap (λ (k : CalendarSeen). sky_of k.skies c.args.key) (sym c.self.view_is)) in
+    let old : c.len.result ≡ length (sky_of c.self.inside.skies.entries c.args.key) = c.len.ensures
+    ∙ ap length (c.sky.ensures.sky ∙ ap (λ (k : CalendarSeen). sky_of k.skies c.args.key) (sym c.self.view_is)) in
     let few : length c.in_ok-spans.spans ≤ most_spans = rw c.in_ok-spans.ensures c.requires in
     let new : c.len-3.result ≡ length c.in_ok-spans.spans = c.len-3.ensures ∙ ap length (sym c.in_ok-spans.ensures) in
     let pieces : c.self.inside.pieces - c.len.result + c.len-3.result ≡ pieces_of c.insert.new.self.entries
@@ -39,7 +50,16 @@ invariant_of-self-2 c =
         nights = c.self.invariant.limits.nights;
         closures = c.self.invariant.limits.closures;
         skies = rw c.in_ok-insert.ensures.entries (skies_few c.self.inside.skies.entries c.args.key c.in_ok-spans.spans few c.self.invariant.limits.skies);
-        visibility = omega (arith, pieces, c.if-len-most.false, c.most.ensures, c.len-2.ensures, c.len-3.ensures, c.self.invariant.pieces, c.self.invariant.limits.visibility);
+        visibility = omega (
+          arith,
+          pieces,
+          c.if-len-most.false,
+          c.most.ensures,
+          c.len-2.ensures,
+          c.len-3.ensures,
+          c.self.invariant.pieces,
+          c.self.invariant.limits.visibility,
+        );
       };
       nothing = c.self.invariant.nothing;
     }
@@ -47,7 +67,17 @@ invariant_of-self-2 c =
 pub returns : goal.returns
 returns c =
     let a = c.self.inside in
-    let allowed : sky_refusal (seen_calendar a) c.args.key c.args.spans.now ≡ None = sky_allowed (seen_calendar a) c.args.key c.args.spans.now c.self.invariant.limits.visibility
-    (omega (arith, c.if-len-most.false, c.most.ensures, c.len-2.ensures, c.self.invariant.pieces, ap length (ap (λ (k : CalendarSeen). sky_of k.skies c.args.key) (sym c.self.view_is)), c.len.ensures, ap length c.sky.ensures.sky)) in
+    let allowed : sky_refusal (seen_calendar a) c.args.key c.args.spans.now ≡ None =
+    sky_allowed (seen_calendar a) c.args.key c.args.spans.now c.self.invariant.limits.visibility
+    (omega (
+      arith,
+      c.if-len-most.false,
+      c.most.ensures,
+      c.len-2.ensures,
+      c.self.invariant.pieces,
+      ap length (ap (λ (k : CalendarSeen). sky_of k.skies c.args.key) (sym c.self.view_is)),
+      c.len.ensures,
+      ap length c.sky.ensures.sky,
+    )) in
     let entries = c.in_ok-insert.ensures.entries ∙ ap (λ (s : List Span). insert_entry is_sky a.skies.entries c.args.key s) c.in_ok-spans.ensures in
     rw (← c.self.view_is) (changes _ _ _ _ _ allowed (λ j. record (seen_calendar a) { skies = entries j }))

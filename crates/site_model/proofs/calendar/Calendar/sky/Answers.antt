@@ -7,4 +7,5 @@ use Rattle.site_model.proofs.calendar.Calendar.sky.Goals as goal
 
 pub returns-in-Some-clause-few : goal.returns-in-Some-clause-few
 returns-in-Some-clause-few c =
-    subst (λ (o : Option (List Span)). length (unwrap_or o []) ≤ most_spans) (sym c.in-Some.ensures.value) (sky_few c.self.inside.skies.entries c.args.key most_spans c.self.invariant.limits.skies)
+    subst (λ (o : Option (List Span)). length (unwrap_or o []) ≤ most_spans) (sym c.in-Some.ensures.value)
+    (sky_few c.self.inside.skies.entries c.args.key most_spans c.self.invariant.limits.skies)

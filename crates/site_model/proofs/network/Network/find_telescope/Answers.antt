@@ -7,12 +7,14 @@ use Rattle.site_model.proofs.network.Network.find_telescope.Goals as goal
 
 pub returns-in_err-place-clause-number : goal.returns-in_err-place-clause-number
 returns-in_err-place-clause-number c =
-    let number : code_number c.args.self.now.registry c.args.code.now ≡ c.get_index_of.result = rw (← c.self.view_is) (code_number-seen c.self.inside c.args.code.now ∙ sym c.get_index_of.ensures.index) in
+    let number : code_number c.args.self.now.registry c.args.code.now ≡ c.get_index_of.result =
+    rw (← c.self.view_is) (code_number-seen c.self.inside c.args.code.now ∙ sym c.get_index_of.ensures.index) in
     grind arith
 
 pub returns-clause-number : goal.returns-clause-number
 returns-clause-number c =
-    let number : code_number c.args.self.now.registry c.args.code.now ≡ c.get_index_of.result = rw (← c.self.view_is) (code_number-seen c.self.inside c.args.code.now ∙ sym c.get_index_of.ensures.index) in
+    let number : code_number c.args.self.now.registry c.args.code.now ≡ c.get_index_of.result =
+    rw (← c.self.view_is) (code_number-seen c.self.inside c.args.code.now ∙ sym c.get_index_of.ensures.index) in
     sym (ap (option_map (λ n. record { 0 = n })) (number ∙ c.in_ok-place.was))
 
 pub returns-clause-only : goal.returns-clause-only

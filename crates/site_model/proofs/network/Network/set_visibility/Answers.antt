@@ -18,8 +18,10 @@ returns-in_default c =
 pub returns-in_err-target : goal.returns-in_err-target
 returns-in_err-target c =
     let site = site_found (number_of c.args.self.now.registry.sites c.args.site.now) c.in-Some.site c.in-Some.ensures.number in
-    let refused : c.in_err-target.field-0.0 ≢ NoMemory → visibility_refusal c.args.self.now c.args.target.now c.args.site.now c.args.spans.now ≡ Some c.in_err-target.field-0.0
-    = λ memory. refuses_target c.args.self.now c.args.target.now c.args.site.now c.args.spans.now c.in-Some.site.0 c.in_err-target.field-0.0 site (c.in_err-target.ensures.numbered.refused memory) in
+    let refused : c.in_err-target.field-0.0 ≢ NoMemory → visibility_refusal c.args.self.now c.args.target.now c.args.site.now c.args.spans.now
+    ≡ Some c.in_err-target.field-0.0
+    = λ memory. refuses_target c.args.self.now c.args.target.now c.args.site.now c.args.spans.now c.in-Some.site.0 c.in_err-target.field-0.0 site
+    (c.in_err-target.ensures.numbered.refused memory) in
     passes_on _ _ _ _ c.in_err-target.field-0.0 _ c.from_residual.ensures.1 refused c.in_err-target.ensures.numbered.unchanged
 
 pub returns-in-Err : goal.returns-in-Err
@@ -29,13 +31,15 @@ returns-in-Err c =
     let added = c.self.view_is ∙ c.in_ok-target.ensures.numbered.ok in
     let is = numbered_in n (seen_network c.self.inside) c.args.target.now c.args.site.now c.in_ok-target.target c.in-Some.site
     (site_found (number_of n.registry.sites c.args.site.now) c.in-Some.site c.in-Some.ensures.number) added
-    (subst (λ (m : NetworkSeen). number_of m.registry.targets c.args.target.now ≡ Some c.in_ok-target.target.0) (sym c.self.view_is) c.in_ok-target.ensures.number)
+    (subst (λ (m : NetworkSeen). number_of m.registry.targets c.args.target.now ≡ Some c.in_ok-target.target.0)
+    (sym c.self.view_is) c.in_ok-target.ensures.number)
     c.in_ok-target.ensures.numbered.allowed in
     let calendar : c.self.inside.calendar ≡ n.calendar = ap (λ (m : NetworkSeen). m.calendar) added in
     refuses _ _ _ _ _
     (λ memory. refusal_is n c.args.target.now c.args.site.now c.args.spans.now (seen_registry c.self.inside) c.in_ok-target.target c.in-Some.site is
     ∙ subst (λ (k : CalendarSeen). sky_refusal k key c.args.spans.now ≡ Some c.in-Err.fault) calendar (c.in-Err.ensures.refused memory))
-    (c.forget_targets.ensures ∙ as_before n (seen_network c.self.inside) c.args.target.now c.targets-known.result c.set_sky.new.self added c.targets-known.ensures.count c.in-Err.ensures.unchanged)
+    (c.forget_targets.ensures ∙ as_before n (seen_network c.self.inside) c.args.target.now c.targets-known.result c.set_sky.new.self added
+    c.targets-known.ensures.count c.in-Err.ensures.unchanged)
 
 pub invariant_of-self-in_default-set_sky : goal.invariant_of-self-in_default-set_sky
 invariant_of-self-in_default-set_sky c =
@@ -44,12 +48,14 @@ invariant_of-self-in_default-set_sky c =
     let added = c.self.view_is ∙ c.in_ok-target.ensures.numbered.ok in
     let is = numbered_in n (seen_network c.self.inside) c.args.target.now c.args.site.now c.in_ok-target.target c.in-Some.site
     (site_found (number_of n.registry.sites c.args.site.now) c.in-Some.site c.in-Some.ensures.number) added
-    (subst (λ (m : NetworkSeen). number_of m.registry.targets c.args.target.now ≡ Some c.in_ok-target.target.0) (sym c.self.view_is) c.in_ok-target.ensures.number)
+    (subst (λ (m : NetworkSeen). number_of m.registry.targets c.args.target.now ≡ Some c.in_ok-target.target.0)
+    (sym c.self.view_is) c.in_ok-target.ensures.number)
     c.in_ok-target.ensures.numbered.allowed in
     let calendar : c.self.inside.calendar ≡ n.calendar = ap (λ (m : NetworkSeen). m.calendar) added in
     record {
       registry = registry_stays c.self.inside c.set_sky.new.self c.self.invariant.registry;
-      numbered = still_unseen n c.args.target.now c.args.site.now c.args.spans.now (seen_registry c.self.inside) c.in_ok-target.target c.in-Some.site c.set_sky.new.self is
+      numbered = still_unseen n c.args.target.now c.args.site.now c.args.spans.now
+          (seen_registry c.self.inside) c.in_ok-target.target c.in-Some.site c.set_sky.new.self is
           (c.in_default-set_sky.ensures.ok ∙ ap (λ (k : CalendarSeen). with_sky k key c.args.spans.now) calendar)
           (subst (λ (known : ℕ). HaveNoSky known n.calendar) c.targets-known.ensures.count c.targets-known.ensures.unseen);
     }
@@ -61,7 +67,8 @@ returns c =
     let added = c.self.view_is ∙ c.in_ok-target.ensures.numbered.ok in
     let is = numbered_in n (seen_network c.self.inside) c.args.target.now c.args.site.now c.in_ok-target.target c.in-Some.site
     (site_found (number_of n.registry.sites c.args.site.now) c.in-Some.site c.in-Some.ensures.number) added
-    (subst (λ (m : NetworkSeen). number_of m.registry.targets c.args.target.now ≡ Some c.in_ok-target.target.0) (sym c.self.view_is) c.in_ok-target.ensures.number)
+    (subst (λ (m : NetworkSeen). number_of m.registry.targets c.args.target.now ≡ Some c.in_ok-target.target.0)
+    (sym c.self.view_is) c.in_ok-target.ensures.number)
     c.in_ok-target.ensures.numbered.allowed in
     let calendar : c.self.inside.calendar ≡ n.calendar = ap (λ (m : NetworkSeen). m.calendar) added in
     changes _ _ _ _ _

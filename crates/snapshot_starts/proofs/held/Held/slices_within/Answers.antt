@@ -30,11 +30,14 @@ loop-run-preserved c =
     let run : Run = slice_index_or runs i some_run in
     let at : run ≡ slice_index_or runs i run = sym (get_or_default runs i run some_run l) in
     let passes : All (λ (x : Run). (x.telescope.0 == t) ≡ true) runs =
-    subst (All (λ (x : Run). (x.telescope.0 == t) ≡ true)) (sym c.runs_on-runs.ensures) (filter_passes (λ (x : Run). x.telescope.0 == t) c.runs_of.result.now) in
-    let same : run.telescope.0 ≡ t = eqb-true run.telescope.0 t (All-contains (λ (x : Run). (x.telescope.0 == t) ≡ true) runs run passes (Contains-get_or runs i some_run l)) in
+    subst (All (λ (x : Run). (x.telescope.0 == t) ≡ true)) (sym c.runs_on-runs.ensures)
+    (filter_passes (λ (x : Run). x.telescope.0 == t) c.runs_of.result.now) in
+    let same : run.telescope.0 ≡ t =
+    eqb-true run.telescope.0 t (All-contains (λ (x : Run). (x.telescope.0 == t) ≡ true) runs run passes (Contains-get_or runs i some_run l)) in
     let is : IsPartOf c.slices_of_run.result slices c.common.result = record { from = c.common.ensures.from; to = c.common.ensures.to } in
     subst (AreToldBy t slices (take (i + 1) runs)) (sym c.in_ok-push.ensures.items)
-    (more_told t slices c.slices_of_run.result c.common.result runs i run c.loop-run.within.items l at same c.slices_of_run.ensures.from c.slices_of_run.ensures.to is c.loop-run.invariant)
+    (more_told t slices c.slices_of_run.result c.common.result runs i run c.loop-run.within.items l at same c.slices_of_run.ensures.from
+    c.slices_of_run.ensures.to is c.loop-run.invariant)
 
 pub returns : goal.returns
 returns c =
@@ -43,8 +46,13 @@ returns c =
     let all : List Run = c.runs_of.result.now in
     let runs : List Run = c.runs_on-runs.result.now in
     let whole : take c.loop-run.run-index runs ≡ runs = take_all c.loop-run.run-index runs (omega (arith, c.loop-run-test.false)) in
-    let mine : AreToldBy t slices runs c.as_slice.result.now = subst (AreToldBy t slices runs) (sym c.as_slice.ensures.value) (subst (λ (xs : List Run). AreToldBy t slices xs c.loop-run.within.items) whole c.loop-run.invariant) in
-    let told : AreToldBy t slices all c.as_slice.result.now = all_told t slices all c.as_slice.result.now (subst (λ (xs : List Run). AreToldBy t slices xs c.as_slice.result.now) c.runs_on-runs.ensures mine) in
+    let mine : AreToldBy t slices runs c.as_slice.result.now =
+    subst (AreToldBy t slices runs) (sym c.as_slice.ensures.value)
+    (subst (λ (xs : List Run). AreToldBy t slices xs c.loop-run.within.items) whole c.loop-run.invariant) in
+    let told : AreToldBy t slices all c.as_slice.result.now =
+    all_told t slices all c.as_slice.result.now
+    (subst (λ (xs : List Run). AreToldBy t slices xs c.as_slice.result.now) c.runs_on-runs.ensures mine) in
     IfOk-weaker c.from_list.result _ _ (λ set is.
     subst (λ (s : Parts). AreSlices (λ k. IsPossibleStart s (pair_start c.args.pair k) × IsTrue (span_has slices k)) set) c.self.view_is
-    (told_slices c.self.inside.snapshot c.self.inside.starts all c.args.pair slices c.as_slice.result.now set c.self.invariant.all c.runs_of.ensures told is)) c.from_list.ensures
+    (told_slices c.self.inside.snapshot c.self.inside.starts all c.args.pair slices c.as_slice.result.now set c.self.invariant.all c.runs_of.ensures
+    told is)) c.from_list.ensures

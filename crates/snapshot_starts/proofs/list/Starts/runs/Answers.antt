@@ -6,4 +6,6 @@ use Rattle.snapshot_starts.proofs.list.Starts.runs.Goals as goal
 
 pub returns : goal.returns
 returns c =
-    subst (AreRuns c.args.self.now) (sym c.as_slice.ensures.value) (subst (λ (starts : List Placement). AreRuns starts c.self.inside.runs.items) c.self.view_is (are_runs c.self.inside.runs.items c.self.invariant.can_keep))
+    subst (AreRuns c.args.self.now) (sym c.as_slice.ensures.value)
+    (subst (λ (starts : List Placement). AreRuns starts c.self.inside.runs.items) c.self.view_is
+    (are_runs c.self.inside.runs.items c.self.invariant.can_keep))

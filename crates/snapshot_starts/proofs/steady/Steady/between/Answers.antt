@@ -21,7 +21,8 @@ returns c =
     record {
       requests = c.in_ok-steady_requests.ensures;
       telescopes = subst (λ (s : Parts). All (λ t. IsSteadyTelescope c.args.was.now s t.0) c.in_ok-steady_telescopes.field-0.items) now
-          (subst (λ (was : Parts). All (λ t. IsSteadyTelescope was c.parts-parts.result.now t.0) c.in_ok-steady_telescopes.field-0.items) before c.in_ok-steady_telescopes.ensures);
+          (subst (λ (was : Parts). All (λ t. IsSteadyTelescope was c.parts-parts.result.now t.0) c.in_ok-steady_telescopes.field-0.items) before
+          c.in_ok-steady_telescopes.ensures);
       skies = subst (λ (s : Parts). All (IsSteadySky c.args.was.now s) c.in_ok-steady_skies.field-0.items) now
           (subst (λ (was : Parts). All (IsSteadySky was c.parts-parts.result.now) c.in_ok-steady_skies.field-0.items) before c.in_ok-steady_skies.ensures);
     }

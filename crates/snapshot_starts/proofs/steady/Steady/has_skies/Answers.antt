@@ -10,5 +10,7 @@ pub loop-target-preserved : goal.loop-target-preserved
 loop-target-preserved c =
     let skies = c.args.self.now.skies.items in
     below_more (λ k. HoldsAt (λ target. Contains skies (sky_key target c.args.site)) c.args.targets.now k) c.loop-target.target-index c.loop-target.invariant
-    (λ d. subst (λ (target : TargetNo). Contains skies (sky_key target c.args.site)) (get_or_default c.args.targets.now c.loop-target.target-index (record { 0 = 0 }) d c.loop-target-test.true)
-    (subst (λ (xs : List SkyKey). Contains xs (sky_key (slice_index_or c.args.targets.now c.loop-target.target-index (record { 0 = 0 })) c.args.site)) c.as_slice-skies.ensures.value (c.has.ensures c.if-not-has.false)))
+    (λ d. subst (λ (target : TargetNo). Contains skies (sky_key target c.args.site))
+    (get_or_default c.args.targets.now c.loop-target.target-index (record { 0 = 0 }) d c.loop-target-test.true)
+    (subst (λ (xs : List SkyKey). Contains xs (sky_key (slice_index_or c.args.targets.now c.loop-target.target-index (record { 0 = 0 })) c.args.site))
+    c.as_slice-skies.ensures.value (c.has.ensures c.if-not-has.false)))

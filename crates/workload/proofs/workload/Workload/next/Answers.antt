@@ -6,11 +6,13 @@ use Rattle.workload.proofs.workload.Workload.next.Goals as goal
 
 pub returns-then-self-ge-LINES-clause-line : goal.returns-then-self-ge-LINES-clause-line
 returns-then-self-ge-LINES-clause-line c =
-    rw (← c.self.view_is) ((line_past c.self.inside.number c.self.inside.workers c.self.inside.given (omega (arith, c.if-self-ge-LINES.true)) c.self.invariant.0).0)
+    rw (← c.self.view_is) ((line_past c.self.inside.number c.self.inside.workers c.self.inside.given
+    (omega (arith, c.if-self-ge-LINES.true)) c.self.invariant.0).0)
 
 pub returns-then-self-ge-LINES-clause-given : goal.returns-then-self-ge-LINES-clause-given
 returns-then-self-ge-LINES-clause-given c =
-    rw (← c.self.view_is) ((line_past c.self.inside.number c.self.inside.workers c.self.inside.given (omega (arith, c.if-self-ge-LINES.true)) c.self.invariant.0).1)
+    rw (← c.self.view_is) ((line_past c.self.inside.number c.self.inside.workers c.self.inside.given
+    (omega (arith, c.if-self-ge-LINES.true)) c.self.invariant.0).1)
 
 pub invariant_of-self : goal.invariant_of-self
 invariant_of-self c = (
@@ -23,11 +25,13 @@ invariant_of-self c = (
 pub returns-clause-line : goal.returns-clause-line
 returns-clause-line c =
     rw (← c.self.view_is)
-    ((line_here c.self.inside.number c.self.inside.workers c.self.inside.given c.subject_at.result c.self.inside.draws.x c.in_ok-line.line.items (omega (arith, c.if-self-ge-LINES.false)) c.subject_at.ensures
+    ((line_here c.self.inside.number c.self.inside.workers c.self.inside.given c.subject_at.result c.self.inside.draws.x c.in_ok-line.line.items
+    (omega (arith, c.if-self-ge-LINES.false)) c.subject_at.ensures
     c.self.invariant.1 c.in_ok-line.ensures.line).0)
 
 pub returns-clause-given : goal.returns-clause-given
 returns-clause-given c =
     rw (← c.self.view_is)
-    ((line_here c.self.inside.number c.self.inside.workers c.self.inside.given c.subject_at.result c.self.inside.draws.x c.in_ok-line.line.items (omega (arith, c.if-self-ge-LINES.false)) c.subject_at.ensures
+    ((line_here c.self.inside.number c.self.inside.workers c.self.inside.given c.subject_at.result c.self.inside.draws.x c.in_ok-line.line.items
+    (omega (arith, c.if-self-ge-LINES.false)) c.subject_at.ensures
     c.self.invariant.1 c.in_ok-line.ensures.line).1)

@@ -6,4 +6,5 @@ use Rattle.plan_json.proofs.write.object.NamedMembers.write_members.Goals as goa
 pub returns : goal.returns
 returns g c =
     let next = and_parts _ _ c.args.self.now.is_next in
-    there _ _ _ _ _ _ _ _ _ _ _ _ (name_utf8 _ next.0) next.1 c.in_ok-write_name.ensures.ok c.in_ok-write.ensures.adds.ok c.in_ok-write.ensures.holds c.write_members.ensures
+    there _ _ _ _ _ _ _ _ _ _ _ _ (name_utf8 _ next.0) next.1 c.in_ok-write_name.ensures.ok c.in_ok-write.ensures.adds.ok
+    c.in_ok-write.ensures.holds c.write_members.ensures
