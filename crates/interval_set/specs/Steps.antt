@@ -1,5 +1,5 @@
 -- What the steps of a merge or a look-up do with a list of spans.
-use Rattle.std.specs.Prelude.{◌≡◌, ℕ, ◌≤◌, ◌<◌, max, ◌&&◌, ◌||◌, List, length, slice_index_or, All}
+use Rattle.std.specs.Prelude.{◌≡◌, ℕ, ◌≤◌, ◌<◌, min, max, ◌&&◌, ◌||◌, List, length, slice_index_or, All}
 use Rattle.std.specs.List.Sorted.{IsNonDecreasingBy}
 use Rattle.plan_base.specs.declared.span.Span.{Span}
 use Rattle.interval_set.specs.Spans.{span_has, has, IsSortedApart}
@@ -34,7 +34,8 @@ pub record Adds (old : List Span) (span : Span) (new : List Span) : Type 0 where
   pub sorted : IsSortedApart new
   pub begin : BeginBy new span.from.0
 
--- both begins where the later of the two spans does, and has the seconds that they share
+-- both begins where the later of the two spans does, ends where the earlier one does, and has the seconds that they share
 pub record IsCommon (one other both : Span) : Type 0 where
   pub seconds : (x : ℕ) → span_has both x ≡ (span_has one x && span_has other x)
   pub from : both.from.0 ≡ max one.from.0 other.from.0
+  pub to : both.to.0 ≡ min one.to.0 other.to.0

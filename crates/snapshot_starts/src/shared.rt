@@ -1,9 +1,10 @@
 // The times that lie in the horizons of two snapshots, and sets of seconds that are the same there.
 
-ghost use Rattle.std.specs.Prelude.{◌≡◌, ◌+◌, ◌*◌, min, max, IsTrue, IfOk};
+ghost use Rattle.std.specs.Prelude.{◌≡◌, ◌+◌, ◌*◌, IsTrue, IfOk};
 ghost use Rattle.plan_base.specs.Snapshot.{IsOrderly};
 ghost use Rattle.snapshot_starts.specs.Mending.{AreShared, IsSameWithin};
 
+use interval_set::common;
 use plan_base::{Parts, Sec, Span};
 use std::alloc::{AllocError, Global};
 
@@ -18,17 +19,6 @@ fn horizon_of(parts: &Parts) -> Span
     Span {
         from: Sec(first * len),
         to: Sec((first + u64::from(parts.slices)) * len),
-    }
-}
-
-/// The seconds that both spans have.
-pub(crate) fn common(one: Span, other: Span) -> Span
-    ensures from { result.from.0 ≡ max one.from.0 other.from.0 }
-    ensures to { result.to.0 ≡ min one.to.0 other.to.0 }
-{
-    Span {
-        from: one.from.max(other.from),
-        to: one.to.min(other.to),
     }
 }
 
