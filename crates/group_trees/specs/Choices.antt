@@ -10,6 +10,7 @@ abbrev mutual
   leaves (one_of ts) = all_leaves ts
   leaves (all_of ts) = all_leaves ts
 
+  -- the same of each node
   pub all_leaves : Nodes → List ℕ
   all_leaves none = []
   all_leaves (and_then t ts) = leaves t ++ all_leaves ts

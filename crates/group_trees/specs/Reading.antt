@@ -67,6 +67,7 @@ abbrev mutual
   children_in (array ds) = if nat_le (length (elements ds)) 32 then nodes_in ds else Err (OutOfRange key.Children)
   children_in (object ms) = Err (WrongKind key.Children)
 
+  -- the nodes that the items are, each an element of `children`
   pub nodes_in : Items → Result Nodes JsonFault
   nodes_in no_items = Ok none
   nodes_in (item d ds) = tree_in key.Children d >>= λ t. result_map (and_then t) (nodes_in ds)

@@ -31,6 +31,7 @@ abbrev mutual
   keeps p (one_of ts) = all_keep p ts && nat_le (touched_count p ts) 1
   keeps p (all_of ts) = all_keep p ts && ((touched_count p ts == 0) || (touched_count p ts == node_count ts))
 
+  -- each of the nodes does
   pub all_keep : (ℕ → Bool) → Nodes → Bool
   all_keep p none = true
   all_keep p (and_then t ts) = keeps p t && all_keep p ts

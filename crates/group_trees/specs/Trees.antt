@@ -4,12 +4,14 @@ use Rattle.group_trees.specs.declared.tree.Tree.{Tree, fold-Tree}
 use Rattle.group_trees.specs.declared.tree.Tree.TheOpen.{Tree-F}
 
 mutual
+  -- a tree: a leaf, by the number of its request, or a node with children, of which any, at most one, or all or none are placed
   pub data Node : Type 0 where
     leaf : ℕ → Node
     many : Nodes → Node
     one_of : Nodes → Node
     all_of : Nodes → Node
 
+  -- children, in their order
   pub data Nodes : Type 0 where
     none : Nodes
     and_then : Node → Nodes → Nodes
@@ -46,6 +48,7 @@ abbrev mutual
   levels (one_of ts) = suc (most_levels ts)
   levels (all_of ts) = suc (most_levels ts)
 
+  -- the most levels that one of the trees has
   pub most_levels : Nodes → ℕ
   most_levels none = 0
   most_levels (and_then t ts) = max (levels t) (most_levels ts)
@@ -63,6 +66,7 @@ abbrev mutual
   is_full (one_of ts) = has_child ts && are_full ts
   is_full (all_of ts) = has_child ts && are_full ts
 
+  -- each of the nodes is so
   pub are_full : Nodes → Bool
   are_full none = true
   are_full (and_then t ts) = is_full t && are_full ts
