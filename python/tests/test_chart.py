@@ -18,14 +18,14 @@ import pytest
 
 from purvelj.chart import Story, draw_plan, draw_shares, plan_view, save, shares, story_of
 from purvelj.chart.colours import OTHER, PALETTE, styles
-from purvelj.chart.story import Named, Owner
-from purvelj.chart.views import Bar, Row, Share
 from purvelj.desk import Desk
 from purvelj.errors import DocumentError, FileError
 from purvelj.history import History, read_history
 from purvelj.model import Claim, Placement, Telescope
 from purvelj.replies import Exported
 from purvelj.spans import Span
+from purvelj.story import Named, Owner
+from purvelj.views import Bar, Row, Share
 from script import LINES, REPLIES
 from snapshots import single, snapshot
 

@@ -2,7 +2,10 @@
 
 from __future__ import annotations
 
+import sys
 from pathlib import Path
+
+import pytest
 
 from script import LINES, REPLIES
 
@@ -38,3 +41,13 @@ def test_list_keeps_each_placement_in_a_row(run) -> None:
     files = {"output.jsonl": "\n".join(REPLIES), "script.jsonl": script}
     ran = run("list", "output.jsonl", "--script", "script.jsonl", files=files)
     assert ran.out == "1970-01-01T00:00:00Z\t1970-01-01T00:05:00Z\tcoj dom a  1m0a\t1\t1\tP1\t\n"
+
+
+def test_list_needs_no_library_that_draws(run, monkeypatch: pytest.MonkeyPatch) -> None:
+    for name in [each for each in sys.modules if f"{each}.".startswith("purvelj.chart.")]:
+        monkeypatch.delitem(sys.modules, name)
+    for name in ["matplotlib", *(each for each in sys.modules if each.startswith("matplotlib."))]:
+        monkeypatch.setitem(sys.modules, name, None)
+    ran = run("list", "export.json", files={"export.json": REPLIES[-1]})
+    assert (ran.status, ran.err) == (0, "")
+    assert "purvelj.chart" not in sys.modules

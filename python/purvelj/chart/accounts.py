@@ -7,7 +7,7 @@ from typing import Sequence
 from matplotlib.figure import Figure
 
 from purvelj.chart.colours import BLACK, BLUE, NIGHT, ORANGE, YELLOW
-from purvelj.chart.views import Share
+from purvelj.views import Share
 
 ROW, AROUND, WIDTH = 0.36, 1.6, 11.0
 

@@ -10,9 +10,9 @@ from matplotlib.figure import Figure
 from matplotlib.patches import Patch, Rectangle
 
 from purvelj.chart.colours import BLACK, BLUE, DAY, GREY, NIGHT, OTHER, SKY, Style, styles
-from purvelj.chart.views import Bar, PlanView, Row
 from purvelj.moments import text_of
 from purvelj.spans import Span, Spans
+from purvelj.views import Bar, PlanView, Row
 
 #: Inches: a row, a line of the key, the strip of value and bound, and all that stands around them.
 ROW, KEY, BOUND, AROUND = 0.34, 0.2, 0.3, 1.4

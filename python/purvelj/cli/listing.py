@@ -8,6 +8,9 @@ import re
 from purvelj.cli.words import Commands, put, tell
 from purvelj.documents import read_text, source_of
 from purvelj.history import read_history
+from purvelj.moments import text_of
+from purvelj.story import story_of
+from purvelj.views import plan_view
 
 
 def add_commands(commands: Commands) -> None:
@@ -26,10 +29,6 @@ def add_commands(commands: Commands) -> None:
 
 def run_list(options: argparse.Namespace) -> int:
     """Runs ``list``."""
-    from purvelj.chart.story import story_of
-    from purvelj.chart.views import plan_view
-    from purvelj.moments import text_of
-
     script = read_text(options.script) if options.script else None
     story = story_of(read_history(read_text(options.output), script, source_of(options.output)))
     view = plan_view(story)

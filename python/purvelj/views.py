@@ -1,15 +1,15 @@
-"""What the pictures show, as plain values: a plan over its telescopes, and accounts with their shares."""
+"""What lists and pictures show, as plain values: a plan over its telescopes, and accounts with their shares."""
 
 from __future__ import annotations
 
 from collections import Counter
 from dataclasses import dataclass
 
-from purvelj.chart.story import Key, Story
 from purvelj.errors import DocumentError
 from purvelj.model import Claim, Placement, Snapshot
 from purvelj.moments import LAST
 from purvelj.spans import Span, Spans, meet
+from purvelj.story import Key, Story
 
 
 @dataclass(frozen=True)
