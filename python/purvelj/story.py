@@ -90,6 +90,11 @@ class Story:
         owner = self.owners.get(request)
         return owner.proposal if owner else None
 
+    def seconds_of(self, request: int) -> int | None:
+        """How long a request takes, in seconds, if it is known."""
+        owner = self.owners.get(request)
+        return owner.seconds if owner else None
+
     def tell(self, exchange: Exchange) -> None:
         """Takes in one line and its replies."""
         reply = exchange.reply

@@ -78,11 +78,9 @@ def plan_view(story: Story) -> PlanView:
     snapshot, claim = story.exported.snapshot, story.exported.claim
     horizon = snapshot.horizon
     rows = tuple(_row(story, snapshot, number) for number in range(len(snapshot.telescopes)))
-    bars = [_placed(story, snapshot, placement) for placement in claim.placements]
-    placed = {placement.request for placement in claim.placements}
-    bars += [
-        bar for request in story.running if request not in placed for bar in _running(story, snapshot, request)
-    ]
+    bars = [bar for placement in claim.placements for bar in _placed(story, snapshot, placement)]
+    others = sorted(set(story.running) - {placement.request for placement in claim.placements})
+    bars += [bar for request in others for bar in _running(story, snapshot, request, story.seconds_of(request))]
     spans = [bar.span for bar in bars] + [horizon]
     drawn = Span(min(span.start for span in spans), max(span.end for span in spans))
     if drawn.end > LAST:
@@ -116,12 +114,18 @@ def shares(story: Story) -> tuple[Share, ...]:
     )
 
 
-def _placed(story: Story, snapshot: Snapshot, placement: Placement) -> Bar:
+def _placed(story: Story, snapshot: Snapshot, placement: Placement) -> list[Bar]:
     number = placement.request
     if number not in snapshot.places:
         raise DocumentError("claim", f"it places the request {number}, which the snapshot doesn't have")
-    span = snapshot.span_of(snapshot.requests[snapshot.places[number]], placement.slice)
-    return Bar(placement.telescope, span, number, story.proposal_of(number), number in story.running)
+    if placement.telescope >= len(snapshot.telescopes):
+        text = f"it places the request {number} on telescope {placement.telescope}, which the snapshot doesn't have"
+        raise DocumentError("claim", text)
+    own = snapshot.requests[snapshot.places[number]]
+    if number in story.running:
+        # A later plan that wasn't exported may have it elsewhere.
+        return _running(story, snapshot, number, own.seconds)
+    return [Bar(placement.telescope, snapshot.span_of(own, placement.slice), number, story.proposal_of(number))]
 
 
 def _row(story: Story, snapshot: Snapshot, number: int) -> Row:
@@ -134,16 +138,21 @@ def _row(story: Story, snapshot: Snapshot, number: int) -> Row:
     return Row(name, meet(telescope.usable, horizon), night, closed)
 
 
-def _running(story: Story, snapshot: Snapshot, request: int) -> list[Bar]:
-    placement, owner = story.running[request], story.owners.get(request)
-    if owner is None or owner.seconds is None:
+def _running(story: Story, snapshot: Snapshot, request: int, seconds: int | None) -> list[Bar]:
+    """The bar of what is running, and takes so many seconds, if they are known; a note where there can't be one."""
+    placement = story.running[request]
+    if seconds is None:
         story.notes.append(
             f"request {request} is running, and how long isn't known without the lines that were sent"
         )
         return []
+    if placement.telescope >= len(snapshot.telescopes):
+        where = f"telescope {placement.telescope}, which the last export doesn't have"
+        story.notes.append(f"request {request} is running on {where}")
+        return []
     start = placement.slice * snapshot.slice_seconds
-    span = Span(start, start + owner.seconds)
-    return [Bar(placement.telescope, span, request, owner.proposal, running=True)]
+    span = Span(start, start + seconds)
+    return [Bar(placement.telescope, span, request, story.proposal_of(request), running=True)]
 
 
 def _planned(story: Story) -> Counter[Key]:

@@ -154,6 +154,20 @@ def test_a_plan_of_what_the_snapshot_does_not_have_is_told() -> None:
         plan_view(Story(exported=exported(snapshot(single(1)), (Placement(7, 0, 0),), 0)))
 
 
+def test_what_runs_is_where_a_later_plan_has_it() -> None:
+    story = Story(exported=exported(snapshot(single(1)), (Placement(1, 0, 4),), 50_000))
+    story.running[1] = Placement(1, 0, 2)
+    assert plan_view(story).bars == (Bar(0, Span(600, 900), 1, None, running=True),)
+
+
+def test_what_runs_on_a_telescope_that_the_export_does_not_have_is_told() -> None:
+    story = Story(exported=exported(snapshot(single(1)), (), 0))
+    story.running[2] = Placement(2, 1, 3)
+    story.owners[2] = Owner(2, ("P1", "standard", CAMERA), 300)
+    assert plan_view(story).bars == ()
+    assert story.notes == ["request 2 is running on telescope 1, which the last export doesn't have"]
+
+
 @pytest.mark.parametrize(
     "place, line, message",
     [

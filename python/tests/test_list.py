@@ -43,6 +43,12 @@ def test_list_keeps_each_placement_in_a_row(run) -> None:
     assert ran.out == "1970-01-01T00:00:00Z\t1970-01-01T00:05:00Z\tcoj dom a  1m0a\t1\t1\tP1\t\n"
 
 
+def test_list_tells_a_telescope_that_the_snapshot_does_not_have(run) -> None:
+    ran = run("list", "export.json", files={"export.json": REPLIES[-1].replace("[[1,0,0]]", "[[1,1,0]]")})
+    message = "purvelj: claim: it places the request 1 on telescope 1, which the snapshot doesn't have\n"
+    assert (ran.status, ran.out, ran.err) == (4, "", message)
+
+
 def test_list_needs_no_library_that_draws(run, monkeypatch: pytest.MonkeyPatch) -> None:
     for name in [each for each in sys.modules if f"{each}.".startswith("purvelj.chart.")]:
         monkeypatch.delitem(sys.modules, name)
