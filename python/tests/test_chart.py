@@ -292,6 +292,22 @@ def test_shares_have_a_bar_for_each_part(tmp_path: Path, history: History) -> No
     assert "used" not in texts(tmp_path / "alone.svg") and "0.2 h left" in texts(tmp_path / "alone.svg")
 
 
+@pytest.mark.parametrize(
+    "name, wanted",
+    [("$x^$", "$x^$"), ("a\\$b", "a\\$b"), ("_hidden", "_hidden"), ("\ud800P", "P"), ("P\0\n1", "P  1")],
+    ids=["a formula", "an escape", "an underscore", "a surrogate", "control characters"],
+)
+def test_a_name_is_drawn_as_it_stands(tmp_path: Path, name: str, wanted: str, recwarn) -> None:
+    story = Story(exported=exported(snapshot(single(1)), (Placement(1, 0, 0),), 50_000))
+    story.telescopes[0] = Named(name, "doma", "1m0a")
+    story.owners[1] = Owner(1, (name, "standard", CAMERA), 300)
+    save(draw_plan(plan_view(story)), tmp_path / "plan.svg")
+    assert {wanted, f"{wanted} doma 1m0a"} <= set(texts(tmp_path / "plan.svg"))
+    save(draw_shares([Share((name, "standard", CAMERA), 0, 0, 0, 1000)]), tmp_path / "accounts.svg")
+    assert f"{wanted} standard {CAMERA}" in texts(tmp_path / "accounts.svg")
+    assert not recwarn.list
+
+
 def test_an_empty_plan_is_drawn(tmp_path: Path) -> None:
     empty = snapshot(slices=4, telescopes=0)
     for shot in (empty, replace(snapshot(slices=4), groups=())):

@@ -7,6 +7,7 @@ from typing import Sequence
 from matplotlib.figure import Figure
 
 from purvelj.chart.colours import BLACK, BLUE, NIGHT, ORANGE, YELLOW
+from purvelj.chart.texts import shown
 from purvelj.views import Share
 
 ROW, AROUND, WIDTH = 0.36, 1.6, 11.0
@@ -46,7 +47,7 @@ def draw_shares(shares: Sequence[Share]) -> Figure:
         before = [low + more for low, more in zip(before, hours)]
     for row, share in enumerate(shares):
         axes.text(before[row], row, f"  {_share_text(share)}", va="center", fontsize=8)
-    axes.set_yticks(rows, [share.name for share in shares], fontsize=8)
+    axes.set_yticks(rows, [shown(share.name) for share in shares], fontsize=8)
     axes.set_ylim(max(1, len(shares)) - 0.4, -0.6)
     axes.set_xlim(0, 1.4 * max(before, default=1) or 1)
     axes.set_xlabel("hours", fontsize=8)

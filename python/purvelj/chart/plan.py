@@ -10,6 +10,7 @@ from matplotlib.figure import Figure
 from matplotlib.patches import Patch, Rectangle
 
 from purvelj.chart.colours import BLACK, BLUE, DAY, GREY, NIGHT, OTHER, SKY, Style, styles
+from purvelj.chart.texts import shown
 from purvelj.moments import text_of
 from purvelj.spans import Span, Spans
 from purvelj.views import Bar, PlanView, Row
@@ -119,7 +120,7 @@ def _box(place: int, span: Span, height: float) -> tuple[tuple[float, float], fl
 def _draw_axis(axes: Any, view: PlanView) -> None:
     axes.set_xlim(_day(view.horizon.start), _day(view.horizon.end))
     axes.set_ylim(max(1, len(view.rows)) - 0.5, -0.5)
-    axes.set_yticks(range(len(view.rows)), [row.name for row in view.rows], fontsize=8)
+    axes.set_yticks(range(len(view.rows)), [shown(row.name) for row in view.rows], fontsize=8)
     locator = AutoDateLocator(minticks=6, maxticks=18)
     axes.xaxis.set_major_locator(locator)
     axes.xaxis.set_major_formatter(ConciseDateFormatter(locator))
@@ -139,7 +140,7 @@ def _handles(view: PlanView, style: dict[str, Style]) -> list[Patch]:
     """The marks of the key: of the proposals that are placed, and of what else is drawn."""
     placed = {bar.proposal for bar in view.bars}
     handles = [
-        Patch(facecolor=each.colour, hatch=each.pattern, edgecolor=BLACK, linewidth=0.4, label=name)
+        Patch(facecolor=each.colour, hatch=each.pattern, edgecolor=BLACK, linewidth=0.4, label=shown(name))
         for name, each in style.items()
         if name in placed
     ]
