@@ -14,15 +14,17 @@ from purvelj.errors import FileError
 from purvelj.pipes import DeskEnded, NoReply
 from purvelj.scripts import run_script
 from script import LINES
+from serving import until
 from test_desk import program
 
 
-def alive(process: int) -> bool:
+def is_ended(process: int) -> bool:
+    """Whether a process is gone, or only isn't reaped yet."""
     try:
-        os.kill(process, 0)
-    except ProcessLookupError:
-        return False
-    return True
+        status = Path(f"/proc/{process}/stat").read_text()
+    except (FileNotFoundError, ProcessLookupError):
+        return True
+    return status.rsplit(")", 1)[1].split()[0] == "Z"
 
 
 def test_a_program_that_ends_is_told_with_its_status() -> None:
@@ -47,9 +49,7 @@ def test_a_program_that_is_silent_is_left_after_the_timeout(monkeypatch: pytest.
     with Desk(program("import time; time.sleep(60)"), timeout=0.3) as desk:
         with pytest.raises(NoReply, match="within 0.3 s"):
             desk.plan()
-        begun = time.monotonic()
     assert desk.close() == -signal.SIGTERM
-    assert time.monotonic() - begun < 10
 
 
 def test_what_a_program_started_is_ended_with_it(monkeypatch: pytest.MonkeyPatch) -> None:
@@ -62,16 +62,9 @@ def test_what_a_program_started_is_ended_with_it(monkeypatch: pytest.MonkeyPatch
     )
     with Desk(program(text), timeout=20) as desk:
         child = desk.send("{}")[0].balance
-        assert alive(child)
+        assert not is_ended(child)
     assert desk.close() == -signal.SIGKILL
-    deadline = time.monotonic() + 5
-    while alive(child) and time.monotonic() < deadline:
-        time.sleep(0.05)
-    assert not alive(child) or _is_zombie(child)
-
-
-def _is_zombie(process: int) -> bool:
-    return Path(f"/proc/{process}/stat").read_text().rsplit(")", 1)[1].split()[0] == "Z"
+    until(lambda: is_ended(child))
 
 
 #: A program that leaves another running, ``sleep``, whose number is the balance that it replies with.
@@ -85,13 +78,9 @@ if "last" not in line:
 """
 
 
-def is_ended(process: int) -> bool:
-    return not alive(process) or _is_zombie(process)
-
-
 @pytest.mark.parametrize("word", ["hold", "leave"])
 def test_what_a_program_leaves_running_is_ended(word: str, monkeypatch: pytest.MonkeyPatch) -> None:
-    monkeypatch.setattr("purvelj.pipes.GRACE", 0.5)
+    monkeypatch.setattr("purvelj.pipes.GRACE", 2.0)
     with Desk(program(LEAVES), timeout=20) as desk:
         child = desk.send(word)[0].balance
         assert not is_ended(child)
@@ -113,10 +102,17 @@ def test_what_a_program_leaves_that_ended_by_itself_is_ended(monkeypatch: pytest
 def test_what_a_script_leaves_running_is_ended(monkeypatch: pytest.MonkeyPatch, tmp_path: Path) -> None:
     monkeypatch.setattr("purvelj.pipes.GRACE", 0.5)
     assert is_ended(run_script(["last"], program(LEAVES)).exchanges[0].reply.balance)
-    notes = f"open({str(tmp_path / 'child')!r}, 'w').write(str(child.pid))"
-    with pytest.raises(NoReply, match="didn't end within 2 s"):
-        run_script(["last hold"], program(f"{LEAVES}\n{notes}"), timeout=2)
-    assert is_ended(int((tmp_path / "child").read_text()))
+    told = tmp_path / "child"
+    notes = f"open({str(told)!r}, 'w').write(f'{{child.pid}}\\n'); print(flush=True)"
+    # The time is over once it is told which child is left, and not after some seconds.
+    monkeypatch.setattr("purvelj.pipes._seconds_to", lambda deadline: 0.0 if is_told(told) else 60.0)
+    with pytest.raises(NoReply, match="didn't end within 60 s"):
+        run_script(["last hold"], program(f"{LEAVES}\n{notes}"), timeout=60)
+    until(lambda: is_ended(int(told.read_text())))
+
+
+def is_told(path: Path) -> bool:
+    return path.exists() and path.read_text().endswith("\n")
 
 
 def test_a_program_whose_number_may_be_anothers_is_sent_no_signal(monkeypatch: pytest.MonkeyPatch) -> None:

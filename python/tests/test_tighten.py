@@ -81,14 +81,37 @@ def test_plans_are_the_best_of_all(quotas: bool) -> None:
     assert closed >= (45 if quotas else 55)
 
 
-def test_a_network_is_tightened_over_some_of_its_starts(monkeypatch: pytest.MonkeyPatch) -> None:
+@pytest.fixture
+def some(monkeypatch: pytest.MonkeyPatch) -> None:
+    """Has programs be over some of the starts, however few there are."""
     monkeypatch.setattr("purvelj.tighten.search.MOST_AT_ONCE", 0)
     monkeypatch.setattr("purvelj.tighten.planning.MOST_AT_ONCE", 0)
+
+
+def test_a_network_is_tightened_over_some_of_its_starts(some: None, monkeypatch: pytest.MonkeyPatch) -> None:
+    # However busy the machine is, the prices have the time that they need, which alone brings the bound so far down.
+    monkeypatch.setattr("purvelj.tighten.run.PART_FOR_PRICES", 100.0)
     shot = drawn_network(Random(1))
     before = greedy_claim(shot)
-    found = tighten(shot, before, seconds=12.0)
+    found = tighten(shot, before, seconds=4.0)
     assert found.in_time
-    assert found.claim.gap_percent < 1 < before.gap_percent
+    assert found.claim.gap_percent < 1.5 < before.gap_percent
+
+
+def test_plans_over_some_of_the_starts_are_mostly_better_where_they_can_be(some: None) -> None:
+    draw = Random(11)
+    can_be = better = 0
+    while can_be < 10:
+        shot = grown(drawn_snapshot(draw, slices=5), 1000)
+        if len(Starts.of(shot)) > 50:
+            continue
+        before, best = greedy_claim(shot), best_value(shot)
+        found = tighten(shot, before).claim
+        assert check(shot, found).yes
+        assert before.value <= found.value <= best
+        can_be += before.value < best
+        better += before.value < found.value
+    assert better > 5
 
 
 def test_a_filled_plan_has_room_for_nothing() -> None:
@@ -136,7 +159,7 @@ def test_a_wrong_claim_is_refused() -> None:
 def test_no_time_leaves_the_claim_as_it_was() -> None:
     shot = drawn_network(Random(1))
     before = greedy_claim(shot)
-    found = tighten(shot, before, seconds=0.2)
+    found = tighten(shot, before, seconds=0.0)
     assert not found.in_time
     assert found.claim.bound <= before.bound and found.claim.value >= before.value
     assert check(shot, found.claim).yes
