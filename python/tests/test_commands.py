@@ -76,6 +76,16 @@ def test_portal_takes_lists_and_pages(run, wrap) -> None:
     assert (ran.status, len(ran.lines()), ran.err) == (0, 2, "")
 
 
+def test_portal_tells_of_groups_on_further_pages(run) -> None:
+    value = json.loads(DOCUMENT)
+    pages = {f"{name}.json": {"count": 3, "results": [value] * count} for name, count in (("first", 2), ("last", 1))}
+    ran = run("portal", "first.json", "--priority", "1", files=pages)
+    wanted = "first.json: count: 3 request groups are counted, and 2 were read: others are on further pages"
+    assert (ran.status, len(ran.lines()), ran.err) == (0, 2, f"purvelj: warning: page: {wanted}\n")
+    ran = run("portal", "first.json", "last.json", "--priority", "1", "--strict")
+    assert (ran.status, len(ran.lines()), ran.err) == (0, 3, "")
+
+
 def test_replay_prints_the_replies(run, netsched: list[str]) -> None:
     files = {"script.jsonl": "\n".join([*LINES, '{"do":"sing"}'])}
     ran = run("replay", "script.jsonl", "--program", shlex.join(netsched), files=files)

@@ -3,7 +3,7 @@
 from __future__ import annotations
 
 import argparse
-from typing import Iterator
+from typing import Any, Iterator
 
 from purvelj.cli.words import Commands, put, ranged, tell
 from purvelj.documents import compact, read_json, source_of, write_text
@@ -41,11 +41,12 @@ def add_commands(commands: Commands) -> None:
 
 def run_portal(options: argparse.Namespace) -> int:
     """Runs ``portal``."""
-    values = [each for path in options.documents for each in _groups(path)]
+    documents = [(path, read_json(path)) for path in options.documents]
+    values = [each for path, value in documents for each in _groups(path, value)]
     if not values:
         raise DocumentError(", ".join(map(source_of, options.documents)), "there is no request group in it")
     conversions = [convert(value, options.priority, options.fade, path) for path, value in values]
-    notes = [note for conversion in conversions for note in conversion.notes]
+    notes = [*_left_out(documents, len(values)), *(note for each in conversions for note in each.notes)]
     faults = any(conversion.group is None for conversion in conversions)
     targets: list[Row] = []
     if options.targets and not faults:
@@ -62,10 +63,25 @@ def run_portal(options: argparse.Namespace) -> int:
     return 0
 
 
-def _groups(path: str) -> Iterator[tuple[str, object]]:
-    """The request groups of a file, each with the path that names it."""
-    value = read_json(path)
-    if isinstance(value, dict) and isinstance(value.get("results"), list):
+def _is_page(value: object) -> bool:
+    """Whether a document is a page of a portal's list of request groups."""
+    return isinstance(value, dict) and isinstance(value.get("results"), list)
+
+
+def _left_out(documents: list[tuple[str, Any]], read: int) -> tuple[Note, ...]:
+    """A warning where a page counts more request groups than were read in all."""
+    notes = Notes()
+    for path, value in documents:
+        if _is_page(value) and isinstance(value.get("count"), int) and value["count"] > read:
+            text = f"{value['count']} request groups are counted, and {read} were read: others are on further pages"
+            notes.warn("page", f"{source_of(path)}: count", text)
+            break
+    return notes.all()
+
+
+def _groups(path: str, value: Any) -> Iterator[tuple[str, object]]:
+    """The request groups of a document, each with the path that names it."""
+    if _is_page(value):
         value = value["results"]
     if not isinstance(value, list):
         yield f"{source_of(path)}:", value
