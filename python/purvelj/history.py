@@ -9,7 +9,41 @@ from typing import Iterable, Sequence
 from purvelj.documents import parse
 from purvelj.errors import DocumentError, PurveljError
 from purvelj.lines import Line
-from purvelj.replies import Reply, read_reply
+from purvelj.replies import (
+    Amended,
+    Balances,
+    Clocked,
+    Completed,
+    Done,
+    Exported,
+    Failed,
+    Granted,
+    Published,
+    Refused,
+    Reply,
+    Shown,
+    Submitted,
+    TelescopeAdded,
+    Withdrawn,
+    read_reply,
+)
+
+#: The kinds of reply with which a desk says that it did a line, by the line's word.
+_KINDS: dict[object, tuple[type[Reply], ...]] = {
+    **dict.fromkeys(("open", "instrument", "night", "visibility", "close", "reopen"), (Done,)),
+    "telescope": (TelescopeAdded,),
+    "grant": (Granted,),
+    "submit": (Submitted,),
+    "amend": (Amended,),
+    "withdraw": (Withdrawn,),
+    "clock": (Clocked,),
+    "report": (Completed, Failed),
+    "plan": (Done, Published),
+    "publish": (Published,),
+    "export": (Exported,),
+    "balances": (Balances,),
+    "show": (Shown,),
+}
 
 
 @dataclass(frozen=True)
@@ -38,6 +72,13 @@ class Exchange:
         """The last reply, which tells how the line ended."""
         return self.replies[-1]
 
+    @property
+    def fits(self) -> bool:
+        """Whether the last reply is of a kind that the line may have, as far as the line is known."""
+        word = self.command.get("do")
+        kinds = _KINDS.get(word, (Reply,)) if isinstance(word, str) else (Reply,)
+        return isinstance(self.reply, (Refused, *kinds))
+
 
 @dataclass(frozen=True)
 class History:
@@ -57,8 +98,7 @@ class History:
 def read_history(output: str, script: str | None = None, source: str = "output") -> History:
     """The history that a session's whole output is, with the lines of its script where they are at hand.
 
-    ``DocumentError`` where the output isn't that of one caller, or has another number of lines than
-    the script.
+    ``DocumentError`` where the output isn't that of one caller, or replies to a line that the script doesn't have.
     """
     texts = [text for text in output.split("\n") if text.strip()]
     sent = None if script is None else script.removesuffix("\n").split("\n")

@@ -6,6 +6,7 @@ from dataclasses import dataclass
 from typing import Any, Callable
 
 from purvelj.documents import Document, elements, parse, whole
+from purvelj.errors import DocumentError
 from purvelj.model import MOST_NUMBER, Claim, Snapshot, read_claim, read_snapshot
 
 _MOST = 10**18
@@ -160,6 +161,8 @@ def read_reply(text: str, source: str = "reply") -> Reply:
     ``FileError`` where it is no JSON, ``DocumentError`` where it is no reply; ``source`` names it there.
     """
     document = Document(parse(text, source), f"{source}:")
+    if document.has("do"):
+        raise DocumentError(source, "a line for a desk stands where a reply should be")
     heads: _Heads = {
         "caller": document.whole("caller", 0, 7),
         "line": document.whole("line", 1, _MOST),

@@ -87,3 +87,5 @@ def _test(exchange: Exchange, place: int, source: str) -> None:
         raise DocumentError(source, f"it has other replies to line {place} than a session writes")
     if taken[0] and exchange.command.get("do") != "plan":
         raise DocumentError(source, f"it replies to line {place} with a plan, which that line doesn't ask for")
+    if not exchange.fits:
+        raise DocumentError(source, f"it replies to line {place} as to another line than the script has there")

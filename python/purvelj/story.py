@@ -101,6 +101,8 @@ class Story:
         if isinstance(reply, Refused):
             return
         line = Document(exchange.command, f"line {reply.line}:")
+        if not exchange.fits:
+            raise DocumentError(f"line {reply.line}", "the output replies to it as to another line than the script has")
         if isinstance(reply, Exported):
             self.exported = reply
         elif isinstance(reply, Balances):

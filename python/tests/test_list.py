@@ -49,6 +49,16 @@ def test_list_tells_a_telescope_that_the_snapshot_does_not_have(run) -> None:
     assert (ran.status, ran.out, ran.err) == (4, "", message)
 
 
+def test_list_takes_no_script_of_another_output(run) -> None:
+    files = {"output.jsonl": "\n".join(REPLIES), "script.jsonl": "\n".join(LINES[1:] + LINES[:1])}
+    ran = run("list", "output.jsonl", "--script", "script.jsonl", files=files)
+    message = "purvelj: line 2: the output replies to it as to another line than the script has\n"
+    assert (ran.status, ran.out, ran.err) == (4, "", message)
+    ran = run("list", "script.jsonl", "--script", "output.jsonl")
+    message = "purvelj: script.jsonl, line 1: a line for a desk stands where a reply should be\n"
+    assert (ran.status, ran.out, ran.err) == (4, "", message)
+
+
 def test_list_needs_no_library_that_draws(run, monkeypatch: pytest.MonkeyPatch) -> None:
     for name in [each for each in sys.modules if f"{each}.".startswith("purvelj.chart.")]:
         monkeypatch.delitem(sys.modules, name)
