@@ -20,9 +20,9 @@ from purvelj.errors import FileError
 from purvelj.lines import Line
 from purvelj.model import Claim
 from purvelj.moments import seconds_of
+from purvelj.places import Limits, Site
 from purvelj.portal import convert, summary, targets_of
 from purvelj.portal.notes import Note, Notes
-from purvelj.places import Limits, Site
 from purvelj.sky import Almanac
 from purvelj.tighten import tighten
 

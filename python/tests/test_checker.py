@@ -9,6 +9,7 @@ from random import Random
 import numpy as np
 import pytest
 
+from drawn import drawn_snapshot
 from purvelj.bound import Table, bound, rebate
 from purvelj.checker import check
 from purvelj.documents import Document
@@ -28,7 +29,6 @@ from snapshots import (
     single,
     snapshot,
 )
-from drawn import drawn_snapshot
 
 CERTIFIED = {
     "one request": (ONE, ONE_CLAIM),

@@ -6,8 +6,8 @@ from typing import Iterable
 
 from purvelj.documents import Document
 from purvelj.errors import DocumentError
-from purvelj.portal.notes import Notes
 from purvelj.places import Limits, Target, position
+from purvelj.portal.notes import Notes
 
 
 def targets_of(values: Iterable[tuple[str, object]], default: Limits, notes: Notes) -> dict[Target, Limits]:

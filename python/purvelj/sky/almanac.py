@@ -10,10 +10,10 @@ import numpy.typing as npt
 from purvelj.errors import PurveljError, Status
 from purvelj.lines import Line, night_line, visibility_line
 from purvelj.moments import Moment, in_utc, seconds_of, text_of
+from purvelj.places import Limits, Site, Target
 from purvelj.sky import positions
 from purvelj.sky.crossings import Floats, Ints, spans_by_steps, spans_where
 from purvelj.sky.offline import offline
-from purvelj.places import Limits, Site, Target
 from purvelj.sky.positions import Vectors
 from purvelj.spans import Spans, meet
 

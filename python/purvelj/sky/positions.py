@@ -13,9 +13,9 @@ import numpy as np
 import numpy.typing as npt
 from scipy.interpolate import CubicSpline
 
+from purvelj.places import Site, Target
 from purvelj.sky.crossings import STEP
 from purvelj.sky.offline import offline
-from purvelj.places import Site, Target
 
 Floats = npt.NDArray[np.float64]
 #: A vector, or one for each moment, as a function of moments.
