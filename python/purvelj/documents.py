@@ -50,11 +50,13 @@ def read_bytes(path: str | Path) -> bytes:
 
 
 def decoded(data: bytes, source: str, errors: str = "strict") -> str:
-    """The text that bytes are in UTF-8; ``FileError``, naming ``source``, where they are none."""
+    """The text that bytes are in UTF-8; ``FileError``, naming ``source`` and of several lines the first, where they are none."""
     try:
         return data.decode("utf-8", errors)
-    except UnicodeDecodeError:
-        raise FileError(f"{source}: not a text in UTF-8") from None
+    except UnicodeDecodeError as fault:
+        line = data.count(b"\n", 0, fault.start) + 1
+        where = f"{source}, line {line}" if b"\n" in data else source
+        raise FileError(f"{where}: not a text in UTF-8") from None
 
 
 def read_text(path: str | Path) -> str:

@@ -344,7 +344,7 @@ BAD = [
         9,
         "sh -c exit 126 ended with status 126 (it could be neither found nor built) before",
     ),
-    (("replay", "script.jsonl", "--program", "printf '\\377\\n'"), 3, "output: not a text in UTF-8"),
+    (("replay", "script.jsonl", "--program", "printf '\\377\\n'"), 3, "output, line 1: not a text in UTF-8"),
     (("replay", "script.jsonl", "--program", ""), 9, "the command of the session program has no words"),
 ]
 

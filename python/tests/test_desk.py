@@ -263,7 +263,7 @@ def test_a_reply_that_is_no_text() -> None:
     with Desk(program(f"import sys; input(); {writes}"), timeout=20) as desk:
         with pytest.raises(FileError, match="^reply to line 1: not a text in UTF-8$"):
             desk.plan()
-    with pytest.raises(FileError, match="^output: not a text in UTF-8$"):
+    with pytest.raises(FileError, match="^output, line 1: not a text in UTF-8$"):
         run_script(LINES, program(f"import sys; sys.stdin.read(); {writes}"))
     with pytest.raises(DeskEnded, match="ended with status 5"):
         run_script(LINES, program(f"import sys; sys.stdin.read(); {writes}; sys.exit(5)"))

@@ -61,6 +61,7 @@ def shell(command: str, folder: Path) -> tuple[int, str]:
         ("purvelj check export.json >&-", "standard output: can't be written: it is closed"),
         ("purvelj check - <&-", "standard input: can't be read: it is closed"),
         ("printf '\\377' | purvelj check -", "standard input: not a text in UTF-8"),
+        ("printf '{}\\n\\377\\n' | purvelj check -", "standard input, line 2: not a text in UTF-8"),
         ("echo {} | purvelj nights - --from 2026-11-27 --days 1", "standard input: sites: is missing"),
         ("echo [] | purvelj portal - --priority 1", "standard input: there is no request group in it"),
     ],
