@@ -17,7 +17,8 @@ class Status(IntEnum):
     DOCUMENT = 4
     #: A portal's request group can't be turned into a line.
     PORTAL = 5
-    #: No site has a night, a target is never visible from any site, or a line would have too many spans.
+    #: No site has a night, a target is never visible from any site, a line would have too many spans, or no night is
+    #: known of these years.
     SKY = 6
     #: The checker says No to a claim.
     NO = 7

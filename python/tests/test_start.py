@@ -69,6 +69,12 @@ def test_a_start_that_fails_has_a_status_of_its_own(top: Path) -> None:
     assert done.stderr == "netsched: not proved for the sources as they are: bin/prove does that\n"
 
 
+def test_a_link_runs_the_package(tmp_path: Path) -> None:
+    (tmp_path / "purvelj").symlink_to(TOP / "python" / "run")
+    done = start(tmp_path / "purvelj", "--version")
+    assert (done.returncode, done.stdout, done.stderr) == (0, "purvelj 0.1.0\n", "")
+
+
 @pytest.mark.parametrize("python", ["/nosuch", "/bin/false"])
 def test_an_interpreter_that_is_named_and_does_not_serve_is_told(python: str) -> None:
     environment = {**os.environ, "PURVELJ_PYTHON": python}
