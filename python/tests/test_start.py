@@ -75,6 +75,11 @@ def test_a_link_runs_the_package(tmp_path: Path) -> None:
     assert (done.returncode, done.stdout, done.stderr) == (0, "purvelj 0.1.0\n", "")
 
 
+def test_a_word_that_setup_does_not_know_is_told() -> None:
+    done = start(TOP / "python" / "setup", "--test")
+    assert (done.returncode, done.stdout, done.stderr) == (2, "", "usage: python/setup [--tests]\n")
+
+
 @pytest.mark.parametrize("python", ["/nosuch", "/bin/false"])
 def test_an_interpreter_that_is_named_and_does_not_serve_is_told(python: str) -> None:
     environment = {**os.environ, "PURVELJ_PYTHON": python}
