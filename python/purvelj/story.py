@@ -12,7 +12,7 @@ from typing import Callable
 from purvelj.documents import Document, elements, whole
 from purvelj.errors import DocumentError
 from purvelj.history import Exchange, History
-from purvelj.model import Placement
+from purvelj.model import Claim, Placement
 from purvelj.moments import LAST, in_utc
 from purvelj.replies import (
     Balance,
@@ -73,6 +73,7 @@ class Story:
     """The state that the history leaves, as far as it is known. Telescopes and requests by their numbers."""
 
     exported: Exported | None = None
+    published: Claim | None = None
     balances: tuple[Balance, ...] | None = None
     now: int | None = None
     telescopes: dict[int, Named] = field(default_factory=dict)
@@ -104,10 +105,11 @@ class Story:
         if not exchange.fits:
             raise DocumentError(f"line {reply.line}", "the output replies to it as to another line than the script has")
         if isinstance(reply, Exported):
-            self.exported = reply
+            self.exported, self.published = reply, reply.claim
         elif isinstance(reply, Balances):
             self.balances = reply.balances
         elif isinstance(reply, Published):
+            self.published = reply.claim
             self._kept = {each.request: each for each in reply.claim.placements}
         elif isinstance(reply, Clocked):
             self._clock(reply)

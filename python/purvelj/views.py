@@ -76,6 +76,8 @@ def plan_view(story: Story) -> PlanView:
     if story.exported is None:
         raise DocumentError("", "there is no reply to an `export` line to take a plan from")
     snapshot, claim = story.exported.snapshot, story.exported.claim
+    if story.published and set(story.published.placements) != set(claim.placements):
+        story.notes.append("another plan was published after the last export: an `export` line has it shown")
     horizon = snapshot.horizon
     rows = tuple(_row(story, snapshot, number) for number in range(len(snapshot.telescopes)))
     bars = [bar for placement in claim.placements for bar in _placed(story, snapshot, placement)]

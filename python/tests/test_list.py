@@ -10,6 +10,7 @@ import pytest
 from script import LINES, REPLIES
 
 EXAMPLES = Path(__file__).resolve().parents[2] / "examples"
+WORDS = ("list", "output.jsonl", "--script", "script.jsonl")
 
 
 def test_list_prints_a_plan_in_moments_and_names(run) -> None:
@@ -39,7 +40,7 @@ def test_list_of_an_export_alone_has_no_names(run) -> None:
 def test_list_keeps_each_placement_in_a_row(run) -> None:
     script = "\n".join([*LINES[:2], LINES[2].replace('"doma"', '"dom\\ta\\n"'), *LINES[3:]])
     files = {"output.jsonl": "\n".join(REPLIES), "script.jsonl": script}
-    ran = run("list", "output.jsonl", "--script", "script.jsonl", files=files)
+    ran = run(*WORDS, files=files)
     assert ran.out == "1970-01-01T00:00:00Z\t1970-01-01T00:05:00Z\tcoj dom a  1m0a\t1\t1\tP1\t\n"
 
 
@@ -51,12 +52,25 @@ def test_list_tells_a_telescope_that_the_snapshot_does_not_have(run) -> None:
 
 def test_list_takes_no_script_of_another_output(run) -> None:
     files = {"output.jsonl": "\n".join(REPLIES), "script.jsonl": "\n".join(LINES[1:] + LINES[:1])}
-    ran = run("list", "output.jsonl", "--script", "script.jsonl", files=files)
+    ran = run(*WORDS, files=files)
     message = "purvelj: line 2: the output replies to it as to another line than the script has\n"
     assert (ran.status, ran.out, ran.err) == (4, "", message)
     ran = run("list", "script.jsonl", "--script", "output.jsonl")
     message = "purvelj: script.jsonl, line 1: a line for a desk stands where a reply should be\n"
     assert (ran.status, ran.out, ran.err) == (4, "", message)
+
+
+def test_list_tells_of_a_plan_that_was_published_after_the_export(run) -> None:
+    claim = '{"bound":50000,"placements":[],"prices":[50000],"value":0}'
+    replies = [*REPLIES, f'{{"caller":0,"claim":{claim},"line":10,"ok":"published","version":8}}']
+    lines = [*LINES, f'{{"claim":{claim},"do":"publish","version":8}}']
+    ran = run(*WORDS, files={"output.jsonl": "\n".join(replies), "script.jsonl": "\n".join(lines)})
+    note = "purvelj: another plan was published after the last export: an `export` line has it shown\n"
+    assert (ran.status, len(ran.out.splitlines()), ran.err) == (0, 1, note)
+    again = REPLIES[-1].replace('"line":9', '"line":11').replace("[[1,0,0]]", "[]")
+    files = {"output.jsonl": "\n".join([*replies, again]), "script.jsonl": "\n".join([*lines, LINES[8]])}
+    ran = run(*WORDS, files=files)
+    assert (ran.status, ran.out, ran.err) == (0, "", "")
 
 
 def test_list_needs_no_library_that_draws(run, monkeypatch: pytest.MonkeyPatch) -> None:
