@@ -50,7 +50,7 @@ def read_bytes(path: str | Path) -> bytes:
 
 
 def decoded(data: bytes, source: str, errors: str = "strict") -> str:
-    """The text that bytes are in UTF-8; ``FileError``, naming ``source`` and of several lines the first, where they are none."""
+    """The text that bytes are in UTF-8; ``FileError``, which names ``source`` and perhaps a line, where they are none."""
     try:
         return data.decode("utf-8", errors)
     except UnicodeDecodeError as fault:

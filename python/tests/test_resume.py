@@ -120,7 +120,7 @@ def test_the_caller_of_a_plan_is_kept() -> None:
         (REPLIES[:3] + REPLIES[:1], LINES, "output: a reply to line 1 stands where one to line 4 should be"),
         (REPLIES, LINES[:8], "output: it replies to line 9, and the script has 8 lines"),
         (REPLIES, LINES[:7] + ["{}", "{}"], "output: it replies to line 8 with a plan, which that line doesn't"),
-        (REPLIES[:3], LINES[:2] + LINES[3:], "output: it replies to line 3 as to another line than the script has there"),
+        (REPLIES[:3], LINES[:2] + LINES[3:], "output: it replies to line 3 as to another line than the script has"),
         (REPLIES[:8] + REPLIES[9:], LINES, "output: it has other replies to line 8 than a session writes"),
         (REPLIES[:2] + REPLIES[1:], LINES, "output: it has other replies to line 2 than a session writes"),
         ([REPLIES[0], REPLIES[1].replace('"caller":0', '"caller":1')], LINES, "output: it has the replies to several"),
