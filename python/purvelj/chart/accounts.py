@@ -21,16 +21,8 @@ def draw_shares(shares: Sequence[Share]) -> Figure:
     figure = Figure(figsize=(WIDTH, AROUND + ROW * max(2, len(shares))), layout="constrained")
     axes, key = figure.subplots(2, 1, height_ratios=[ROW * max(2, len(shares)), 0.3])
     rows = range(len(shares))
-    parts = [
-        ("used", BLUE, "", [share.used or 0 for share in shares]),
-        ("planned or running", ORANGE, "////", [share.planned for share in shares]),
-        ("held beside that", YELLOW, "", [share.held - share.planned for share in shares]),
-        ("left", NIGHT, "", [share.available for share in shares]),
-    ]
-    if all(share.used is None for share in shares):
-        del parts[0]
     before = [0.0] * len(shares)
-    for name, colour, pattern, seconds in parts:
+    for name, colour, pattern, seconds in _parts(shares):
         hours = [each / 3600 for each in seconds]
         axes.barh(
             rows,
@@ -56,6 +48,17 @@ def draw_shares(shares: Sequence[Share]) -> Figure:
     key.axis("off")
     key.legend(*axes.get_legend_handles_labels(), loc="center", ncols=4, fontsize=8, frameon=False)
     return figure
+
+
+def _parts(shares: Sequence[Share]) -> list[tuple[str, str, str, list[int]]]:
+    """What the bars are made of: a name, a colour, a pattern, and the seconds of each account."""
+    parts = [
+        ("used", BLUE, "", [share.used or 0 for share in shares]),
+        ("planned or running", ORANGE, "////", [share.planned for share in shares]),
+        ("held beside that", YELLOW, "", [share.held - share.planned for share in shares]),
+        ("left", NIGHT, "", [share.available for share in shares]),
+    ]
+    return parts[1:] if all(share.used is None for share in shares) else parts
 
 
 def _share_text(share: Share) -> str:

@@ -86,15 +86,15 @@ def tighten(
     planner.run(
         search.prices, search.used, runs, lambda: 0.0 if planner.value == search.bound else seconds - gone()
     )
-    found = Claim(
-        planner.plan.placements(),
-        tuple(int(price) for price in search.prices.requests),
-        planner.value,
-        search.bound,
-        search.prices.quotas,
-    )
+    found = _claim(search, planner)
     _test(snapshot, found, starts)
     return Tightened(claim, found, in_time, gone())
+
+
+def _claim(search: Search, planner: Planner) -> Claim:
+    """The best plan that was found, with the best prices."""
+    prices = tuple(int(price) for price in search.prices.requests)
+    return Claim(planner.plan.placements(), prices, planner.value, search.bound, search.prices.quotas)
 
 
 def _test(snapshot: Snapshot, claim: Claim, starts: Starts) -> None:
