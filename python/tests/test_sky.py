@@ -60,7 +60,7 @@ def test_nights_are_those_of_a_second_library(site: Site, sun_below: float, noon
 
 
 def test_every_second_of_a_day_keeps_the_limits() -> None:
-    """Each second is computed by astropy itself, and no second is missing but one at an edge."""
+    """Each second is computed by astropy itself; but for two at an edge, the same seconds are found."""
     from astropy.coordinates import AltAz, SkyCoord, erfa_astrom, get_body
     from astropy.time import Time
 
