@@ -2,8 +2,10 @@
 
 from __future__ import annotations
 
-from datetime import datetime, timedelta, timezone
+from datetime import datetime, timedelta
 from typing import Any, Iterable
+
+from purvelj.moments import in_utc
 
 Document = dict[str, Any]
 CAMERAS = {"1m0": "1M0-SCICAM-SINISTRO", "0m4": "0M4-SCICAM-QHY600"}
@@ -28,10 +30,10 @@ TRANSITS = ("HD 209458", "WASP-12", "WASP-18", "TRAPPIST-1")
 
 
 class Campaign:
-    """Request groups over so many days from a midnight in UTC, each with its priority and its fade."""
+    """Request groups over so many days from a moment on, each with its priority and its fade."""
 
     def __init__(self, date: str, days: int, targets: Iterable[Document]) -> None:
-        self._start = datetime.fromisoformat(date).replace(tzinfo=timezone.utc)
+        self._start = in_utc(date)
         self._end = self._start + timedelta(days=days)
         self._days = days
         self._targets = {target["name"]: target for target in targets}

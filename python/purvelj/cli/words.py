@@ -20,7 +20,7 @@ def ranged(kind: Callable[[str], float], least: float, most: float) -> Callable[
         try:
             value = kind(text)
         except ValueError:
-            raise argparse.ArgumentTypeError(f"{text!r} is no number") from None
+            raise argparse.ArgumentTypeError(f"{text!r} is no {'whole ' if kind is int else ''}number") from None
         if not least <= value <= most:
             raise argparse.ArgumentTypeError(f"{text} is out of {least:g} to {most:g}")
         return value
