@@ -29,7 +29,7 @@ from purvelj.replies import (
 )
 
 #: The kinds of reply with which a desk says that it did a line, by the line's word.
-_KINDS: dict[object, tuple[type[Reply], ...]] = {
+_KINDS: dict[str, tuple[type[Reply], ...]] = {
     **dict.fromkeys(("open", "instrument", "night", "visibility", "close", "reopen"), (Done,)),
     "telescope": (TelescopeAdded,),
     "grant": (Granted,),
@@ -76,8 +76,8 @@ class Exchange:
     def fits(self) -> bool:
         """Whether the last reply is of a kind that the line may have, as far as the line is known."""
         word = self.command.get("do")
-        kinds = _KINDS.get(word, (Reply,)) if isinstance(word, str) else (Reply,)
-        return isinstance(self.reply, (Refused, *kinds))
+        kinds = _KINDS.get(word) if isinstance(word, str) else None
+        return kinds is None or isinstance(self.reply, (Refused, *kinds))
 
 
 @dataclass(frozen=True)

@@ -97,7 +97,7 @@ class _File:
         """The whole lines that the file begins with, and what stands after the last newline."""
         try:
             self._file.seek(0)
-            whole, torn = pieces(self._file.readall())
+            whole, torn = pieces(self._file.read())
         except OSError as fault:
             raise FileError(f"{self.path}: can't be read: {fault.strerror or fault}") from None
         return decoded(whole, self.path, "surrogatepass").split("\n")[:-1], torn

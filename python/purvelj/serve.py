@@ -57,9 +57,14 @@ def desk_of(
     return Desk(program, timeout, journal, keep_history=False)
 
 
+def left_after(done: int) -> int:
+    """How many more lines a session may read that has done so many."""
+    return MOST_LINES - done
+
+
 def few_left(done: int) -> str:
     """What is told where a session has done so many lines that it may read only a few more."""
-    return f"the session may read {MOST_LINES - done} more lines, and then a new desk has to go on: {HELP}"
+    return f"the session may read {left_after(done)} more lines, and then a new desk has to go on: {HELP}"
 
 
 class Listener:

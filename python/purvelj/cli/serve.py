@@ -119,9 +119,9 @@ def _tell_done(desk: Desk) -> None:
 def _tell_left(done: int) -> None:
     """Tells how many lines the session may still read, where these are few. ``DeskError`` where there are none."""
     from purvelj.pipes import DeskError
-    from purvelj.serve import HELP, MOST_LINES, NEARLY_ALL, few_left
+    from purvelj.serve import HELP, NEARLY_ALL, few_left, left_after
 
-    if done >= MOST_LINES:
+    if left_after(done) <= 0:
         raise DeskError(f"the session may read no more lines, so it takes none, and a new desk has to go on: {HELP}")
     if done > NEARLY_ALL:
         tell(few_left(done))
