@@ -98,4 +98,4 @@ def serve(tmp_path: Path, netsched: list[str]):
     yield start
     for server in started:
         server.process.kill()
-        server.process.wait(20)
+        server.process.wait(60)

@@ -24,7 +24,7 @@ for place, line in enumerate(sys.stdin, start=1):
     if json.loads(line)["do"] == "plan":
         print(json.dumps({**heads, "ok": "taken"}), flush=True)
         pathlib.Path("seeking").touch()
-        for _ in range(3000):
+        for _ in range(6000):
             if pathlib.Path("found").exists():
                 break
             time.sleep(0.01)
@@ -53,7 +53,7 @@ def limited(folder: Path) -> list[str]:
 
 def until(condition: Callable[[], object]) -> None:
     """Waits until something holds."""
-    deadline = time.monotonic() + 20
+    deadline = time.monotonic() + 60
     while not condition():
         assert time.monotonic() < deadline, "it didn't come in time"
         time.sleep(0.01)
@@ -64,7 +64,7 @@ class Caller:
 
     def __init__(self, where: Path | tuple[str, int]) -> None:
         self.socket = socket.socket(socket.AF_INET if isinstance(where, tuple) else socket.AF_UNIX)
-        self.socket.settimeout(20)
+        self.socket.settimeout(60)
         self.socket.connect(where if isinstance(where, tuple) else str(where))
         self._source = self.socket.makefile("rb")
 
@@ -133,4 +133,4 @@ class Served:
 
     def end(self) -> int:
         self.process.terminate()
-        return self.process.wait(20)
+        return self.process.wait(60)

@@ -37,7 +37,7 @@ CAMERA = "1M0-SCICAM-SINISTRO"
 @pytest.fixture(scope="module")
 def history(netsched: list[str]) -> History:
     """Two proposals on two telescopes, of which one is closed at first; one request runs, one was reported."""
-    with Desk(netsched, timeout=30) as desk:
+    with Desk(netsched, timeout=60) as desk:
         desk.replay(LINES[:3])
         desk.telescope("coj", "domb", "1m0a", "1m0", [CAMERA])
         desk.replay(LINES[3:7])
@@ -105,7 +105,7 @@ def test_shares_are_of_the_grants(history: History) -> None:
 
 
 def test_closures_are_known_with_the_script(netsched: list[str]) -> None:
-    with Desk(netsched, timeout=30) as desk:
+    with Desk(netsched, timeout=60) as desk:
         desk.replay(LINES[:7])
         desk.close_site("coj", [(0, 900), (1200, 5000)])
         desk.reopen_site("coj", [(0, 300)])
@@ -187,7 +187,7 @@ def test_a_script_of_another_output_is_told(place: int, line: str, message: str)
 
 
 def test_a_report_among_several_that_run_needs_the_script(netsched: list[str]) -> None:
-    with Desk(netsched, timeout=30) as desk:
+    with Desk(netsched, timeout=60) as desk:
         desk.replay(LINES[:3])
         desk.telescope("coj", "domb", "1m0a", "1m0", [CAMERA])
         desk.replay(LINES[3:7])

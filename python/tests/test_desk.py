@@ -33,7 +33,7 @@ def group(**members) -> dict:
 
 @pytest.fixture
 def desk(netsched: list[str]):
-    with Desk(netsched, timeout=20) as opened:
+    with Desk(netsched, timeout=60) as opened:
         yield opened
 
 
@@ -152,7 +152,7 @@ def test_a_saved_script_is_replayed_to_the_same_output(ready: Desk, netsched: li
     ready.send("[]")
     ready.balances()
     ready.save(tmp_path / "script.jsonl")
-    with Desk(netsched, timeout=20) as again, open(tmp_path / "script.jsonl", encoding="utf-8") as script:
+    with Desk(netsched, timeout=60) as again, open(tmp_path / "script.jsonl", encoding="utf-8") as script:
         replies = again.replay(script)
         assert again.history.output() == ready.history.output()
     assert isinstance(replies[8][0], Refused) and replies[8][0].name == "NotObject"
@@ -161,7 +161,7 @@ def test_a_saved_script_is_replayed_to_the_same_output(ready: Desk, netsched: li
 
 def test_a_surrogate_alone_is_saved_as_it_was_sent(tmp_path: Path) -> None:
     reply = '{"caller":0,"line":1,"no":1,"refused":"NotJson","version":0}'
-    with Desk(program(f"import sys; sys.stdin.buffer.readline(); print({reply!r})"), timeout=20) as desk:
+    with Desk(program(f"import sys; sys.stdin.buffer.readline(); print({reply!r})"), timeout=60) as desk:
         desk.send('"\ud800"')
         desk.save(tmp_path / "script.jsonl")
     assert (tmp_path / "script.jsonl").read_bytes() == b'"\xed\xa0\x80"\n'
@@ -216,7 +216,7 @@ def test_a_script_that_is_one_text_is_refused(desk: Desk, netsched: list[str]) -
 
 
 def test_a_program_is_words_or_a_text_that_has_them(netsched: list[str]) -> None:
-    with Desk(shlex.join(netsched), timeout=20) as desk:
+    with Desk(shlex.join(netsched), timeout=60) as desk:
         assert desk.open(0, 300, 12, (0, 15_552_000)).version == 0
     assert run_script(LINES[:1], shlex.join(netsched)).output() == f"{REPLIES[0]}\n"
     with pytest.raises(DeskError, match="'netsched \"session' is no command: No closing quotation"):
@@ -250,17 +250,17 @@ def test_a_program_that_is_not_there() -> None:
 
 
 def test_a_reply_that_is_none() -> None:
-    with Desk(program("input(); print('proving and building')"), timeout=20) as desk:
+    with Desk(program("input(); print('proving and building')"), timeout=60) as desk:
         with pytest.raises(FileError, match="reply to line 1: not JSON"):
             desk.plan()
-    with Desk(program('input(); print(\'{"caller":0,"line":1,"version":0,"ok":"sung"}\')'), timeout=20) as desk:
+    with Desk(program('input(); print(\'{"caller":0,"line":1,"version":0,"ok":"sung"}\')'), timeout=60) as desk:
         with pytest.raises(DocumentError, match="reply to line 1: ok: 'sung' is none of"):
             desk.plan()
 
 
 def test_a_reply_that_is_no_text() -> None:
     writes = "sys.stdout.buffer.write(b'{\\xff}\\n'); sys.stdout.flush()"
-    with Desk(program(f"import sys; input(); {writes}"), timeout=20) as desk:
+    with Desk(program(f"import sys; input(); {writes}"), timeout=60) as desk:
         with pytest.raises(FileError, match="^reply to line 1: not a text in UTF-8$"):
             desk.plan()
     with pytest.raises(FileError, match="^output, line 1: not a text in UTF-8$"):
@@ -271,7 +271,7 @@ def test_a_reply_that_is_no_text() -> None:
 
 def test_a_late_reply_is_not_taken_for_another_lines() -> None:
     late = program('input(); print(\'{"caller":0,"line":7,"version":0,"ok":"opened"}\')')
-    with Desk(late, timeout=20) as desk:
+    with Desk(late, timeout=60) as desk:
         with pytest.raises(DeskError, match="a reply to line 7 came back to line 1"):
             desk.plan()
 
@@ -281,12 +281,12 @@ READS_ALL = "import sys; text = sys.stdin.read(); exec(open(sys.argv[1]).read())
 
 def test_a_script_runs_through_a_program_that_reads_all_first(tmp_path: Path) -> None:
     (tmp_path / "reply.py").write_text(f"print({chr(10).join(REPLIES)!r})")
-    history = run_script(LINES, [*program(READS_ALL), str(tmp_path / "reply.py")], timeout=20)
+    history = run_script(LINES, [*program(READS_ALL), str(tmp_path / "reply.py")], timeout=60)
     assert (history.output().splitlines(), history.script().splitlines()) == (REPLIES, LINES)
     with pytest.raises(DocumentError, match="it replies to line 9, and the script has 8 lines"):
-        run_script(LINES[:8], [*program(READS_ALL), str(tmp_path / "reply.py")], timeout=20)
+        run_script(LINES[:8], [*program(READS_ALL), str(tmp_path / "reply.py")], timeout=60)
     with pytest.raises(DeskError, match="10 lines were sent, and 9 were replied to"):
-        run_script([*LINES, "[]"], [*program(READS_ALL), str(tmp_path / "reply.py")], timeout=20)
+        run_script([*LINES, "[]"], [*program(READS_ALL), str(tmp_path / "reply.py")], timeout=60)
 
 
 def test_a_script_is_a_list_of_lines_or_an_open_file(tmp_path: Path) -> None:

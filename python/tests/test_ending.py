@@ -28,7 +28,7 @@ def is_ended(process: int) -> bool:
 
 
 def test_a_program_that_ends_is_told_with_its_status() -> None:
-    with Desk(program("import sys; sys.stdin.readline(); sys.exit(4)"), timeout=20) as desk:
+    with Desk(program("import sys; sys.stdin.readline(); sys.exit(4)"), timeout=60) as desk:
         with pytest.raises(
             DeskEnded, match=r"ended with status 4 \(it ran out of memory\) before it replied to all lines"
         ):
@@ -39,7 +39,7 @@ def test_a_program_that_ends_is_told_with_its_status() -> None:
 
 
 def test_a_program_that_was_killed_is_told() -> None:
-    with Desk(program("import os; os.kill(os.getpid(), 9)"), timeout=20) as desk:
+    with Desk(program("import os; os.kill(os.getpid(), 9)"), timeout=60) as desk:
         with pytest.raises(DeskEnded, match="SIGKILL"):
             desk.plan()
 
@@ -60,7 +60,7 @@ def test_what_a_program_started_is_ended_with_it(monkeypatch: pytest.MonkeyPatch
         'print(\'{"caller":0,"line":1,"ok":"granted","version":0,"balance":%d}\' % child.pid, flush=True);'
         "time.sleep(60)"
     )
-    with Desk(program(text), timeout=20) as desk:
+    with Desk(program(text), timeout=60) as desk:
         child = desk.send("{}")[0].balance
         assert not is_ended(child)
     assert desk.close() == -signal.SIGKILL
@@ -81,7 +81,7 @@ if "last" not in line:
 @pytest.mark.parametrize("word", ["hold", "leave"])
 def test_what_a_program_leaves_running_is_ended(word: str, monkeypatch: pytest.MonkeyPatch) -> None:
     monkeypatch.setattr("purvelj.pipes.GRACE", 2.0)
-    with Desk(program(LEAVES), timeout=20) as desk:
+    with Desk(program(LEAVES), timeout=60) as desk:
         child = desk.send(word)[0].balance
         assert not is_ended(child)
     assert desk.close() == 0 and is_ended(child)
@@ -89,7 +89,7 @@ def test_what_a_program_leaves_running_is_ended(word: str, monkeypatch: pytest.M
 
 def test_what_a_program_leaves_that_ended_by_itself_is_ended(monkeypatch: pytest.MonkeyPatch) -> None:
     monkeypatch.setattr("purvelj.pipes.GRACE", 0.5)
-    with Desk(program(LEAVES), timeout=20) as desk:
+    with Desk(program(LEAVES), timeout=60) as desk:
         child = desk.send("last")[0].balance
         with pytest.raises(DeskEnded, match="ended with status 0"):
             for _ in range(2000):
@@ -136,7 +136,7 @@ def test_a_program_that_is_gone_before_its_signal_comes(monkeypatch: pytest.Monk
 
 def test_a_program_that_never_stops_writing_is_ended(monkeypatch: pytest.MonkeyPatch) -> None:
     monkeypatch.setattr("purvelj.pipes.GRACE", 0.3)
-    with Desk(["yes"], timeout=20) as desk:
+    with Desk(["yes"], timeout=60) as desk:
         with pytest.raises(FileError, match="reply to line 1: not JSON"):
             desk.plan()
     assert desk.close() == -signal.SIGTERM

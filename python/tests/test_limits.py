@@ -67,5 +67,5 @@ def test_lines_that_become_few_are_told_once(netsched, tmp_path: Path, monkeypat
             for place, line in enumerate(LINES[:6]):
                 assert caller.ask(line) == [REPLIES[place]]
         server.stop()
-        running.join(20)
+        running.join(60)
     assert [text.split(",")[0] for text in told] == ["the session may read 65533 more lines"]

@@ -304,7 +304,7 @@ def test_a_desk_that_waits_for_a_reply_in_vain_is_of_no_more_use(tmp_path: Path)
 
 
 def test_threads_get_their_own_replies(netsched) -> None:
-    with Desk(netsched, timeout=20) as desk:
+    with Desk(netsched, timeout=60) as desk:
         desk.replay(LINES[:7])
         found: dict[str, list[type]] = {}
 

@@ -40,7 +40,7 @@ def serve(tmp_path: Path):
     yield start
     for server in started:
         server.process.kill()
-        server.process.wait(20)
+        server.process.wait(60)
 
 
 @pytest.fixture
@@ -114,7 +114,7 @@ def test_a_server_that_ends_while_no_line_comes_is_told(serve, send) -> None:
     sender.stdin.flush()
     assert "NotObject" in sender.stdout.readline()
     assert server.end() == 0
-    assert sender.wait(20) == 3
+    assert sender.wait(60) == 3
     assert sender.stderr.read().endswith("the server ended the connection: 1 of 1 lines were replied to\n")
 
 
@@ -126,7 +126,7 @@ def test_a_torn_reply_is_none(tmp_path: Path, send) -> None:
         with taken:
             taken.sendall(f"{REPLIES[0]}\n{REPLIES[1][:20]}".encode())
             taken.shutdown(socket.SHUT_RDWR)
-        out, err = sender.communicate("{}\n", 20)
+        out, err = sender.communicate("{}\n", 60)
     assert (sender.returncode, out) == (3, f"{REPLIES[0]}\n") and "the server ended the connection" in err
 
 
@@ -138,7 +138,7 @@ def test_an_interrupted_sender_says_so(serve, send, tmp_path: Path) -> None:
     until((tmp_path / "seeking").exists)
     sender.send_signal(signal.SIGINT)
     (tmp_path / "found").touch()
-    assert (sender.wait(20), sender.stderr.read()) == (130, "purvelj: interrupted\n")
+    assert (sender.wait(60), sender.stderr.read()) == (130, "purvelj: interrupted\n")
 
 
 @pytest.mark.parametrize(
@@ -164,4 +164,4 @@ def test_lines_that_cannot_be_read_are_told(serve, send, tmp_path: Path) -> None
     with open(tmp_path / "output", "w", encoding="utf-8") as output:
         sender = send("night.socket", stdin=output)
     wanted = "purvelj: standard input: can't be read: Bad file descriptor\n"
-    assert (sender.wait(20), sender.stderr.read()) == (3, wanted)
+    assert (sender.wait(60), sender.stderr.read()) == (3, wanted)

@@ -52,7 +52,7 @@ def test_lines_that_come_at_once_get_their_own_replies(serve) -> None:
         for thread in threads:
             thread.start()
         for thread in threads:
-            thread.join(20)
+            thread.join(60)
         assert json.loads(caller.ask(LINES[8])[0])["line"] == 128
     places = {word: [reply["line"] for reply in replies] for word, replies in found.items()}
     assert {reply["ok"] for reply in found["balances"]} == {"balances"}
@@ -92,7 +92,7 @@ def test_sigterm_has_the_line_replied_to_and_takes_no_more(serve, tmp_path: Path
         (tmp_path / "found").touch()
         assert [json.loads(text)["line"] for text in planner.read(2)] == [1, 1]
         assert (planner.rest(), other.rest()) == (b"", b"")
-        assert server.process.wait(20) == 0
+        assert server.process.wait(60) == 0
     assert server.written("lines") == ['{"do":"plan"}'] and not server.path.exists()
 
 
@@ -103,7 +103,7 @@ def test_a_signal_ends_an_idle_server(serve, number: int, status: int) -> None:
         assert caller.ask(LINES[0]) == REPLIES[:1]
         program = server.desk_program()
         server.process.send_signal(number)
-        assert (caller.rest(), server.process.wait(20)) == (b"", status)
+        assert (caller.rest(), server.process.wait(60)) == (b"", status)
     assert not server.path.exists() and not Path(f"/proc/{program}").exists()
     said = server.told()
     assert said[:2] == ["no line of the journal was done, so the desk is a new one", "listening at night.socket"]
@@ -118,7 +118,7 @@ def test_a_second_signal_ends_it_at_once(serve, tmp_path: Path) -> None:
         server.stop()
         assert server.process.poll() is None
         server.process.terminate()
-        assert server.process.wait(20) == -signal.SIGTERM
+        assert server.process.wait(60) == -signal.SIGTERM
     (tmp_path / "found").touch()
 
 
@@ -131,7 +131,7 @@ def test_a_terminal_that_is_closed_lets_the_line_be_replied_to(serve, tmp_path: 
         server.process.send_signal(signal.SIGHUP)
         (tmp_path / "found").touch()
         assert [json.loads(text)["line"] for text in caller.read(2)] == [1, 1]
-        assert (caller.rest(), server.process.wait(20)) == (b"", 0)
+        assert (caller.rest(), server.process.wait(60)) == (b"", 0)
     assert len(server.written("replies")) == 2 and not server.path.exists()
 
 
@@ -194,7 +194,7 @@ def test_a_kill_loses_nothing(serve) -> None:
         server.process.kill()
         os.kill(program, signal.SIGKILL)
         assert caller.rest() == b""
-    server.process.wait(20)
+    server.process.wait(60)
     assert server.path.exists()
     again = serve()
     assert again.told() == [
@@ -210,12 +210,12 @@ def test_a_kill_loses_nothing(serve) -> None:
 
 def test_a_servers_desk_keeps_no_exchange(netsched, tmp_path: Path) -> None:
     name = tmp_path / "night"
-    with desk_of(name, netsched, timeout=20) as desk:
+    with desk_of(name, netsched, timeout=60) as desk:
         exchanges = [weakref.ref(desk.exchange(line)) for line in LINES]
         assert [each() for each in exchanges] == [None] * len(LINES)
         with pytest.raises(DeskError, match="the desk keeps no history"):
             desk.save(tmp_path / "script.jsonl")
-    with desk_of(name, netsched, timeout=20) as desk:
+    with desk_of(name, netsched, timeout=60) as desk:
         assert (desk.done_again, desk.plans_again, desk.unanswered) == (9, 1, ())
         with pytest.raises(DeskError, match="the desk keeps no history"):
             assert desk.history
@@ -231,14 +231,14 @@ def test_a_program_that_ends_ends_the_server(serve) -> None:
         assert caller.ask(LINES[0]) == REPLIES[:1]
         os.kill(server.desk_program(), signal.SIGKILL)
         caller.send(LINES[1])
-        assert (caller.rest(), other.rest(), server.process.wait(20)) == (b"", b"", 9)
+        assert (caller.rest(), other.rest(), server.process.wait(60)) == (b"", b"", 9)
     assert server.says("was ended by SIGKILL before it replied to all lines") and not server.path.exists()
 
 
 def test_a_program_that_ends_while_nobody_sends_ends_the_server(serve) -> None:
     server = serve()
     os.kill(server.desk_program(), signal.SIGKILL)
-    assert server.process.wait(20) == 9
+    assert server.process.wait(60) == 9
     assert server.says("was ended by SIGKILL")
 
 
@@ -246,7 +246,7 @@ def test_a_program_that_is_silent_ends_the_server(serve) -> None:
     server = serve("--timeout", "0.2", program=[sys.executable, "-c", "import sys; sys.stdin.read()"])
     with Caller(server.path) as caller:
         caller.send(LINES[0])
-        assert (caller.rest(), server.process.wait(20)) == (b"", 9)
+        assert (caller.rest(), server.process.wait(60)) == (b"", 9)
     assert server.says("didn't answer within 0.2 s")
     assert serve().told() == [
         "no line of the journal was done, so the desk is a new one",
@@ -288,7 +288,7 @@ def test_a_caller_that_does_not_read_holds_up_nobody_else(netsched, tmp_path: Pa
             until(lambda: (tmp_path / "night.replies.jsonl").stat().st_size > 60_000)
             assert json.loads(other.ask('{"do":"balances"}')[0])["ok"] == "balances"
             server.stop()
-            running.join(20)
+            running.join(60)
             assert not running.is_alive() and other.rest() == b""
         assert len(desk.history.exchanges) < 500
     assert told == []
