@@ -337,6 +337,8 @@ def test_bad_input_is_told_in_one_message(run, words, status: int, message: str)
         (("visibility", "a", "b", *HORIZON, "--moon", "200"), "200 is out of 0 to 180"),
         (("replay", "a", "--program", "it's"), "\"it's\" is no command: No closing quotation"),
         (("resume", "a"), "the following arguments are required: --script"),
+        (("portal", "a", "--priority", "1", "--targets", "-"), "--targets has to name a file: the lines go to standard"),
+        (("chart", "a", "--plan", "p.svg", "--accounts", "./p.svg"), "--plan and --accounts name the same file"),
     ],
 )
 def test_wrong_words_are_told(run, words, message: str) -> None:

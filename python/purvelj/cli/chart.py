@@ -3,6 +3,7 @@
 from __future__ import annotations
 
 import argparse
+import os
 
 from purvelj.cli.words import Commands, tell
 from purvelj.documents import read_text, source_of
@@ -32,6 +33,8 @@ def run_chart(options: argparse.Namespace) -> int:
 
     if not options.plan and not options.accounts:
         raise WordsError("chart draws nothing: name a file by --plan or --accounts")
+    if options.plan and options.accounts and os.path.realpath(options.plan) == os.path.realpath(options.accounts):
+        raise WordsError("--plan and --accounts name the same file")
     script = read_text(options.script) if options.script else None
     story = story_of(read_history(read_text(options.output), script, source_of(options.output)))
     # Both before either is saved: where there is nothing to draw one of, neither is drawn.

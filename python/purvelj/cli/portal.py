@@ -7,7 +7,7 @@ from typing import Any, Iterator
 
 from purvelj.cli.words import Commands, put, ranged, tell
 from purvelj.documents import compact, read_json, source_of, write_text
-from purvelj.errors import DocumentError
+from purvelj.errors import DocumentError, WordsError
 from purvelj.portal.convert import convert
 from purvelj.portal.notes import Note, Notes, PortalError, summary
 
@@ -41,6 +41,8 @@ def add_commands(commands: Commands) -> None:
 
 def run_portal(options: argparse.Namespace) -> int:
     """Runs ``portal``."""
+    if options.targets == "-":
+        raise WordsError("--targets has to name a file: the lines go to standard output")
     documents = [(path, read_json(path)) for path in options.documents]
     values = [each for path, value in documents for each in _groups(path, value)]
     if not values:
