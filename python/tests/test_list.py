@@ -7,9 +7,11 @@ from pathlib import Path
 
 import pytest
 
+from purvelj.documents import read_text
 from script import LINES, REPLIES
 
 EXAMPLES = Path(__file__).resolve().parents[2] / "examples"
+BALANCES = '{"balances":[],"caller":0,"line":10,"ok":"balances","version":8}'
 WORDS = ("list", "output.jsonl", "--script", "script.jsonl")
 
 
@@ -71,6 +73,22 @@ def test_list_tells_of_a_plan_that_was_published_after_the_export(run) -> None:
     files = {"output.jsonl": "\n".join([*replies, again]), "script.jsonl": "\n".join([*lines, LINES[8]])}
     ran = run(*WORDS, files=files)
     assert (ran.status, ran.out, ran.err) == (0, "", "")
+
+
+def test_list_of_a_session_that_goes_on(run, monkeypatch: pytest.MonkeyPatch) -> None:
+    """Another line is done between the reads of the two files."""
+
+    def read(path: str) -> str:
+        text = read_text(path)
+        for name, more in (("script.jsonl", '{"do":"balances"}'), ("output.jsonl", BALANCES)):
+            with open(name, "a", encoding="utf-8") as file:
+                file.write(f"{more}\n")
+        return text
+
+    monkeypatch.setattr("purvelj.cli.told.read_text", read)
+    files = {"output.jsonl": "\n".join([*REPLIES, ""]), "script.jsonl": "\n".join([*LINES, ""])}
+    ran = run(*WORDS, files=files)
+    assert (ran.status, len(ran.out.splitlines()), ran.err) == (0, 1, "")
 
 
 def test_list_needs_no_library_that_draws(run, monkeypatch: pytest.MonkeyPatch) -> None:

@@ -5,10 +5,9 @@ from __future__ import annotations
 import argparse
 import os
 
+from purvelj.cli.told import read_story
 from purvelj.cli.words import Commands, tell
-from purvelj.documents import read_text, source_of
 from purvelj.errors import WordsError
-from purvelj.history import read_history
 
 
 def add_commands(commands: Commands) -> None:
@@ -29,14 +28,13 @@ def add_commands(commands: Commands) -> None:
 
 def run_chart(options: argparse.Namespace) -> int:
     """Runs ``chart``."""
-    from purvelj.chart import draw_plan, draw_shares, plan_view, save, shares, story_of
+    from purvelj.chart import draw_plan, draw_shares, plan_view, save, shares
 
     if not options.plan and not options.accounts:
         raise WordsError("chart draws nothing: name a file by --plan or --accounts")
     if options.plan and options.accounts and os.path.realpath(options.plan) == os.path.realpath(options.accounts):
         raise WordsError("--plan and --accounts name the same file")
-    script = read_text(options.script) if options.script else None
-    story = story_of(read_history(read_text(options.output), script, source_of(options.output)))
+    story = read_story(options)
     # Both before either is saved: where there is nothing to draw one of, neither is drawn.
     plan = plan_view(story) if options.plan else None
     accounts = shares(story) if options.accounts else None

@@ -5,11 +5,9 @@ from __future__ import annotations
 import argparse
 import re
 
+from purvelj.cli.told import read_story
 from purvelj.cli.words import Commands, put, tell
-from purvelj.documents import read_text, source_of
-from purvelj.history import read_history
 from purvelj.moments import text_of
-from purvelj.story import story_of
 from purvelj.views import plan_view
 
 
@@ -29,8 +27,7 @@ def add_commands(commands: Commands) -> None:
 
 def run_list(options: argparse.Namespace) -> int:
     """Runs ``list``."""
-    script = read_text(options.script) if options.script else None
-    story = story_of(read_history(read_text(options.output), script, source_of(options.output)))
+    story = read_story(options)
     view = plan_view(story)
     for bar in sorted(view.bars, key=lambda bar: (bar.span, bar.row)):
         owner = story.owners.get(bar.request)
