@@ -32,6 +32,19 @@ def test_portal_takes_lists_and_pages(run, wrap) -> None:
     assert (ran.status, len(ran.lines()), ran.err) == (0, 2, "")
 
 
+def test_portal_tells_of_a_name_for_two_places_in_the_sky(run) -> None:
+    files = {name: json.loads(DOCUMENT) for name in ("one.json", "same.json", "other.json")}
+    files["other.json"]["requests"][0]["configurations"][0]["target"]["ra"] = 202.5
+    ran = run("portal", "one.json", "same.json", "--priority", "1", files=files)
+    assert (ran.status, len(ran.lines()), ran.err) == (0, 2, "")
+    ran = run("portal", "one.json", "other.json", "--priority", "1")
+    where = "other.json: requests[0].configurations[0].target"
+    wanted = f"{where}: `M51` stands for two places in the sky, and the desk knows a target by its name alone"
+    assert (ran.status, len(ran.lines()), ran.err) == (0, 2, f"purvelj: warning: target: {wanted}\n")
+    ran = run("portal", "one.json", "other.json", "--priority", "1", "--targets", "t.json")
+    assert (ran.status, ran.out, ran.err) == (4, "", f"purvelj: {where}: M51 stands for two places in the sky\n")
+
+
 def test_portal_tells_of_groups_on_further_pages(run) -> None:
     value = json.loads(DOCUMENT)
     pages = {f"{name}.json": {"count": 3, "results": [value] * count} for name, count in (("first", 2), ("last", 1))}

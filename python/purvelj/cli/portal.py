@@ -51,8 +51,8 @@ def run_portal(options: argparse.Namespace) -> int:
     notes = [*_left_out(documents, len(values)), *(note for each in conversions for note in each.notes)]
     faults = any(conversion.group is None for conversion in conversions)
     targets: list[Row] = []
-    if options.targets and not faults:
-        targets, more = _targets(values)
+    if not faults:
+        targets, more = _targets(values) if options.targets else ([], _places(values))
         notes += more
     for line in summary(tuple(notes)):
         tell(line)
@@ -90,6 +90,15 @@ def _groups(path: str, value: Any) -> Iterator[tuple[str, object]]:
         return
     for place, each in enumerate(value):
         yield f"{source_of(path)}: [{place}]", each
+
+
+def _places(values: list[tuple[str, object]]) -> tuple[Note, ...]:
+    """What is to be told of the places of targets that aren't written anywhere."""
+    from purvelj.portal.targets import test_places
+
+    notes = Notes()
+    test_places(values, notes)
+    return notes.all()
 
 
 def _targets(values: list[tuple[str, object]]) -> tuple[list[Row], tuple[Note, ...]]:

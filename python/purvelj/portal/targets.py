@@ -31,6 +31,25 @@ def targets_of(values: Iterable[tuple[str, object]], default: Limits, notes: Not
     return dict(found.values())
 
 
+def test_places(values: Iterable[tuple[str, object]], notes: Notes) -> None:
+    """Warns of names that stand for two places in the sky, in request groups that can be turned into lines.
+
+    ``targets_of`` raises a fault there.
+    """
+    places: dict[str, object] = {}
+    for path, value in values:
+        for request in Document(value, path).objects("requests"):
+            for configuration in request.objects("configurations"):
+                _test_place(places, configuration.object("target"), notes)
+
+
+def _test_place(places: dict[str, object], document: Document, notes: Notes) -> None:
+    name, place = document.text("name"), (document.raw_or("ra", None), document.raw_or("dec", None))
+    if None not in place and places.setdefault(name, place) != place:
+        text = f"`{name}` stands for two places in the sky, and the desk knows a target by its name alone"
+        notes.warn("target", document.path, text)
+
+
 def _join(found: dict[str, tuple[Target, Limits]], document: Document, limits: Limits, notes: Notes) -> None:
     target = Target(
         document.text("name"),
