@@ -27,7 +27,7 @@ serves() {
 # folder at each start, say so, and leave it there where it is killed.
 keep_fonts() {
     [ -n "${MPLCONFIGDIR:-}" ] || [ -w "${HOME:-/nonexistent}" ] && return
-    fonts=${TMPDIR:-/tmp}/purvelj-matplotlib-$(id -u)
+    fonts=$(dirname "$(mktemp -u)")/purvelj-matplotlib-$(id -u)
     mkdir -m 700 "$fonts" 2>/dev/null
     # Another user may have made it first, or a link there.
     [ -d "$fonts" ] && [ -O "$fonts" ] && [ ! -L "$fonts" ] && export MPLCONFIGDIR="$fonts"
