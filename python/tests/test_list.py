@@ -7,7 +7,7 @@ from pathlib import Path
 
 import pytest
 
-from purvelj.documents import read_text
+from purvelj.documents import read_bytes
 from script import LINES, REPLIES
 
 EXAMPLES = Path(__file__).resolve().parents[2] / "examples"
@@ -75,17 +75,24 @@ def test_list_tells_of_a_plan_that_was_published_after_the_export(run) -> None:
     assert (ran.status, ran.out, ran.err) == (0, "", "")
 
 
+def test_list_of_a_session_whose_last_reply_is_torn(run) -> None:
+    files = {"output.jsonl": "\n".join([*REPLIES, BALANCES[:30]]), "script.jsonl": "\n".join(LINES)}
+    ran = run(*WORDS, files=files)
+    note = "purvelj: the last reply: not JSON: it ends in the middle, after 30 characters, and isn't read\n"
+    assert (ran.status, len(ran.out.splitlines()), ran.err) == (0, 1, note)
+
+
 def test_list_of_a_session_that_goes_on(run, monkeypatch: pytest.MonkeyPatch) -> None:
     """Another line is done between the reads of the two files."""
 
-    def read(path: str) -> str:
-        text = read_text(path)
+    def read(path: str) -> bytes:
+        data = read_bytes(path)
         for name, more in (("script.jsonl", '{"do":"balances"}'), ("output.jsonl", BALANCES)):
             with open(name, "a", encoding="utf-8") as file:
                 file.write(f"{more}\n")
-        return text
+        return data
 
-    monkeypatch.setattr("purvelj.cli.told.read_text", read)
+    monkeypatch.setattr("purvelj.cli.told.read_bytes", read)
     files = {"output.jsonl": "\n".join([*REPLIES, ""]), "script.jsonl": "\n".join([*LINES, ""])}
     ran = run(*WORDS, files=files)
     assert (ran.status, len(ran.out.splitlines()), ran.err) == (0, 1, "")

@@ -4,8 +4,11 @@ from __future__ import annotations
 
 import argparse
 
-from purvelj.documents import read_text, source_of
+from purvelj.cli.words import tell
+from purvelj.documents import decoded, parse, read_bytes, read_text, source_of
+from purvelj.errors import FileError
 from purvelj.history import read_history
+from purvelj.resume import pieces
 from purvelj.story import Story, story_of
 
 
@@ -14,6 +17,20 @@ def read_story(options: argparse.Namespace) -> Story:
 
     The replies are read first: of a session that goes on there are then no more of them than lines.
     """
-    output = read_text(options.output)
+    source = source_of(options.output)
+    output = decoded(_without_torn(read_bytes(options.output)), source)
     script = read_text(options.script) if options.script else None
-    return story_of(read_history(output, script, source_of(options.output)))
+    return story_of(read_history(output, script, source))
+
+
+def _without_torn(output: bytes) -> bytes:
+    """An output without its last reply, where that has no newline and isn't whole, as after a crash."""
+    whole, last = pieces(output)
+    if not whole or not last.strip():
+        return output
+    try:
+        parse(decoded(last, "the last reply"), "the last reply")
+    except FileError as fault:
+        tell(f"{fault}, and isn't read")
+        return whole
+    return output
