@@ -1,5 +1,5 @@
 -- No feasible plan that places a request is worth more than the request's bound.
-use Rattle.std.proofs.Common.{◌≡◌, ℕ, ◌<◌, ◌⊎◌, inl, inr, ◌==◌, ℤ, pos, ◌+ℤ◌, ◌-ℤ◌, ◌≤ℤ◌, ◌<ℤ◌, List, length, filter, Contains, refl, sym, subst, arith}
+use Rattle.std.proofs.Common.{◌≡◌, ℕ, ◌<◌, ◌⊎◌, inl, inr, true, ◌==◌, ℤ, pos, int_lt, ◌+ℤ◌, ◌-ℤ◌, ◌≤ℤ◌, List, length, filter, Contains, refl, sym, subst, arith}
 use Rattle.std.proofs.lemmas.Int.{ints}
 use Rattle.plan_base.specs.declared.parts.Parts.{Parts}
 use Rattle.plan_base.specs.declared.claim.Placement.{Placement}
@@ -117,5 +117,5 @@ excluded s claim r NoStart o bound none excludes plan with_r =
     }))
 excluded s claim r (Bound b) o bound forced excludes plan with_r =
     let most : pos (value_of_plan s plan) ≤ℤ b = forced_bound s claim r b plan o bound forced with_r in
-    let less : b <ℤ pos claim.value = excludes in
+    let less : int_lt b (pos claim.value) ≡ true = excludes in
     omega (arith, ints)

@@ -1,5 +1,5 @@
 -- The most that a feasible plan may be worth, as a claim's prices show it, if it places a request.
-use Rattle.std.specs.Prelude.{◌≡◌, ℕ, ◌<◌, ℤ, pos, ◌+ℤ◌, ◌-ℤ◌, ◌≤ℤ◌, ◌<ℤ◌, List, Contains}
+use Rattle.std.specs.Prelude.{◌≡◌, ℕ, ◌<◌, Bool, true, ℤ, pos, int_lt, ◌+ℤ◌, ◌-ℤ◌, ◌≤ℤ◌, List, Contains}
 use Rattle.plan_base.specs.declared.parts.Parts.{Parts}
 use Rattle.plan_base.specs.declared.claim.Placement.{Placement}
 use Rattle.plan_base.specs.declared.claim.Claim.{Claim}
@@ -45,10 +45,14 @@ abbrev pub ForcedValue : Parts → Claim → ℕ → Forced → Type 0
 ForcedValue s claim r NoStart = (p : Placement) → ¬ (IsStartFor s r p)
 ForcedValue s claim r (Bound b) = IsForcedBound s claim r b
 
--- what is said of a request excludes it: it has no start, or its bound is below the claim's value
+-- whether what is said of a request excludes it from all plans of that value: it has no start, or its bound is below the value
+abbrev pub is_excluded : ℕ → Forced → Bool
+is_excluded value NoStart = true
+is_excluded value (Bound b) = int_lt b (pos value)
+
+-- what is said of a request excludes it from all plans of the claim's value
 abbrev pub Excludes : Claim → Forced → Type 0
-Excludes claim NoStart = Unit {0}
-Excludes claim (Bound b) = b <ℤ pos claim.value
+Excludes claim forced = is_excluded claim.value forced ≡ true
 
 -- a feasible plan that places request r
 pub record IsPlanWith (s : Parts) (r : ℕ) (plan : List Placement) : Type 0 where

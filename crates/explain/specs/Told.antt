@@ -1,5 +1,5 @@
 -- What is said of a request that a claim leaves out, as it is written.
-use Rattle.std.specs.Prelude.{ℕ, pos, Bool, true, int_lt, List, [], ◌∷◌, codes}
+use Rattle.std.specs.Prelude.{ℕ, List, [], ◌∷◌, codes}
 use Rattle.std.specs.List.{flat_map}
 use Rattle.serde_json.specs.Data.{Data, null, boolean}
 use Rattle.plan_json.specs.Values.{whole, integer, list_of, has, object_of}
@@ -8,11 +8,7 @@ use Rattle.plan_doc.specs.Written.{placement_data}
 use Rattle.explain.specs.declared.answer.Forced.{Forced}
 use Rattle.explain.specs.declared.answer.Forced.TheVariants.{NoStart, Bound}
 use Rattle.explain.specs.declared.answer.Left.{Left}
-
--- whether a request with this bound is in no feasible plan of that value
-abbrev pub is_excluded : ℕ → Forced → Bool
-is_excluded value NoStart = true
-is_excluded value (Bound b) = int_lt b (pos value)
+use Rattle.explain.specs.Forced.{is_excluded}
 
 -- the bound, or `null` where there is no start
 abbrev pub forced_data : Forced → Data

@@ -5,7 +5,8 @@ ghost use Rattle.plan_doc.specs.Line.{line_of};
 ghost use Rattle.plan_base.specs.declared.verdict.Verdict.TheVariants as judged;
 ghost use Rattle.plan_doc.specs.Reason.{verdict_data};
 ghost use Rattle.plan_io.specs.declared.document.Said.TheVariants as said;
-ghost use Rattle.explain.specs.Told.{is_excluded, forced_data, left_data, lines_of_lefts};
+ghost use Rattle.explain.specs.Forced.{is_excluded};
+ghost use Rattle.explain.specs.Told.{forced_data, left_data, lines_of_lefts};
 
 use crate::answer::{Explanation, Forced, Left};
 use plan_base::{Claim, Verdict};
@@ -60,7 +61,8 @@ impl Json for ForcedDoc {
     }
 }
 
-/// Whether a request with this bound is in no feasible plan of that value.
+/// Whether this excludes a request from all plans of that value: it has no start, or its bound is below the value. Where
+/// it doesn't, nothing is said.
 fn is_excluded(value: u64, forced: Forced) -> bool
     ensures { result ≡ is_excluded value forced }
 {
