@@ -17,8 +17,8 @@ use Rattle.plan_base.proofs.Sizes.{start_size_above}
 use Rattle.explain.specs.Through.{IsBestUntil, IsThrough, IsGain}
 use Rattle.openings.specs.Openings.{IsStartFor, IsStartAt}
 use Rattle.explain.specs.Forced.{CanTake, IsDetour, IsGreatestDetour}
-use Rattle.explain.specs.Left.{HasStarts}
-use Rattle.explain.specs.Crossings.{HasStartsWhere, IsOnBefore, IsOn, IsBeforeTelescope, IsLargerOf, count_of, IsGainAt, IsGainIfAny, IsGreatestGain}
+use Rattle.explain.specs.Starts.{HasStartsWhere, HasStarts}
+use Rattle.explain.specs.Crossings.{IsOnBefore, IsOn, IsBeforeTelescope, IsLargerOf, count_of, IsGainAt, IsGainIfAny, IsGreatestGain}
 use Rattle.explain.specs.Crossings.{AreGainsTo, IsDetourInRange, IsDetourIfAny, IsCrossing, IsGreatestDetourTo, IsPassedTo}
 use Rattle.openings.proofs.Numbers.{below_or_at, same_start}
 use Rattle.explain.proofs.Passing.{through_is}
@@ -368,15 +368,8 @@ module _ (s : Parts) (prices : List ℤ) (r : ℕ) (orderly : IsOrderly s) where
 
   -- all starts
   pub all_starts : (count : ℕ) → HasStartsWhere s r (IsBeforeTelescope (length s.telescopes)) count → HasStarts s r count
-  all_starts count (starts, are, is) = (
-    starts,
-    record {
-      possible = are.possible;
-      once = are.once;
-      complete = λ p start. are.complete p start (telescope_known s p orderly start.possible);
-    },
-    is,
-  )
+  all_starts count = starts_same s r (IsBeforeTelescope (length s.telescopes)) (λ p. Unit {0}) count (λ p start is. tt)
+      (λ p start any. telescope_known s p orderly start.possible)
 
   pub greatest_detour : (b : ℤ) → IsGreatestDetourTo s prices r (length s.telescopes) b → IsGreatestDetour s prices r b
   greatest_detour b greatest = record {

@@ -1,25 +1,15 @@
 -- What is gathered of a request's starts, slice by slice and telescope by telescope.
 use Rattle.std.specs.Prelude.{◌≡◌, ◌≢◌, ℕ, ◌*◌, ◌≤◌, ◌<◌, ◌⊎◌, ℤ, pos, neg_ℤ, ◌≤ℤ◌, List, length}
-use Rattle.std.specs.Prelude.{slice_index_or, Option, Some, None, All, AllPairs, Contains, MatchOption}
+use Rattle.std.specs.Prelude.{slice_index_or, Option, Some, None, MatchOption}
 use Rattle.plan_base.specs.declared.parts.Parts.{Parts}
 use Rattle.plan_base.specs.declared.claim.Placement.{Placement}
 use Rattle.plan_base.specs.Limits.{most_slices}
 use Rattle.explain.specs.declared.chart.Chart.{Chart}
 use Rattle.explain.specs.Through.{IsGain}
-use Rattle.openings.specs.Openings.{IsStartFor, IsStartAt}
+use Rattle.openings.specs.Openings.{IsStartAt}
+use Rattle.explain.specs.Starts.{HasStartsWhere}
 use Rattle.explain.specs.Forced.{CanTake, IsDetour}
 use Rattle.explain.specs.Steps.{IsChart}
-
--- the possible starts of request r of which P holds, each once
-pub record AreStartsWhere (s : Parts) (r : ℕ) (P : Placement → Type 0) (starts : List Placement) : Type 0 where
-  pub possible : All (IsStartFor s r) starts
-  pub which : All P starts
-  pub once : AllPairs (λ a b. a ≢ b) starts
-  pub complete : (p : Placement) → IsStartFor s r p → P p → Contains starts p
-
--- request r has n possible starts of which P holds
-abbrev pub HasStartsWhere : Parts → ℕ → (Placement → Type 0) → ℕ → Type 0
-HasStartsWhere s r P n = (starts : List Placement) × AreStartsWhere s r P starts × (length starts ≡ n)
 
 -- a placement on telescope t before slice k
 abbrev pub IsOnBefore : ℕ → ℕ → Placement → Type 0

@@ -1,5 +1,5 @@
 -- What is said of the requests that a claim leaves out.
-use Rattle.std.specs.Prelude.{◌≡◌, ◌≢◌, ℕ, ◌⊎◌, Bool, not, ◌==◌, List, [], ◌∷◌, length, map, filter, All, AllPairs, Contains}
+use Rattle.std.specs.Prelude.{◌≡◌, ℕ, ◌⊎◌, Bool, not, ◌==◌, List, [], ◌∷◌, map, filter, All}
 use Rattle.std.specs.List.{AllZip, list_any}
 use Rattle.plan_base.specs.declared.parts.Parts.{Parts}
 use Rattle.plan_base.specs.declared.claim.Placement.{Placement}
@@ -12,17 +12,8 @@ use Rattle.explain.specs.declared.answer.Left.{Left}
 use Rattle.explain.specs.declared.answer.ExplainAnswer.{ExplainAnswer}
 use Rattle.explain.specs.declared.answer.ExplainAnswer.TheVariants.{Explained, No}
 use Rattle.openings.specs.Openings.{IsStartFor}
+use Rattle.explain.specs.Starts.{HasStarts}
 use Rattle.explain.specs.Forced.{ForcedValue, Excludes, IsInNoGoodPlan}
-
--- all possible starts of request r, each once
-pub record AreStartsFor (s : Parts) (r : ℕ) (starts : List Placement) : Type 0 where
-  pub possible : All (IsStartFor s r) starts
-  pub once : AllPairs (λ a b. a ≢ b) starts
-  pub complete : (p : Placement) → IsStartFor s r p → Contains starts p
-
--- request r has n possible starts
-abbrev pub HasStarts : Parts → ℕ → ℕ → Type 0
-HasStarts s r n = (starts : List Placement) × AreStartsFor s r starts × (length starts ≡ n)
 
 -- the placement shares a slice with a possible start of request r
 abbrev pub Blocks : Parts → ℕ → Placement → Type 0

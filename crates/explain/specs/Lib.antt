@@ -1,6 +1,7 @@
 pub mod Through
 pub mod Choice
 pub mod Forced
+pub mod Starts
 pub mod Left
 pub mod Steps
 pub mod Crossings

@@ -2,7 +2,8 @@ use Rattle.std.proofs.Common.{List, length, refl, subst}
 use Rattle.plan_base.specs.declared.claim.Placement.{Placement}
 use Rattle.plan_base.specs.declared.number.RequestNo.{RequestNo}
 use Rattle.explain.specs.Left.{AreKept, Blocks}
-use Rattle.explain.specs.Crossings.{HasStartsWhere, IsBeforeTelescope, IsPassedTo}
+use Rattle.explain.specs.Starts.{HasStartsWhere}
+use Rattle.explain.specs.Crossings.{IsBeforeTelescope, IsPassedTo}
 use Rattle.explain.proofs.Gathering.{all_starts}
 use Rattle.explain.proofs.Leaving.{detour_told}
 use Rattle.explain.proofs.left.left_of.Goals as goal
