@@ -13,6 +13,8 @@ pub mod OneReply
 pub mod Again
 pub mod Replays
 pub mod Versions
+pub mod OwnTakes
+pub mod StalePlans
 pub mod Texts
 pub mod Fields
 pub mod Whole

@@ -97,7 +97,7 @@ prefix_turns script xs f =
 
 -- ---- the first entries
 
-turns_append : (caller : ℕ) (xs ys : List EventEntry) → turns_of caller (xs ++ ys) ≡ turns_of caller xs ++ turns_of caller ys
+pub turns_append : (caller : ℕ) (xs ys : List EventEntry) → turns_of caller (xs ++ ys) ≡ turns_of caller xs ++ turns_of caller ys
 turns_append caller xs ys =
     ap (λ (es : List EventEntry). map (λ e. (e.line, e.what)) es) (filter-append (λ e. e.caller == caller) xs ys)
     ∙ map-append (λ e. (e.line, e.what)) (entries_of caller xs) (entries_of caller ys)

@@ -40,7 +40,7 @@ use Rattle.desk_book.specs.Laws.{is_change, VersionsCount}
 use Rattle.desk_book.proofs.Histories.{replay_more, each_front}
 use Rattle.desk_book.proofs.Stepping.{step_left}
 
-abbrev change_of : Reply → ℕ
+abbrev pub change_of : Reply → ℕ
 change_of r = cond (is_change r) 1 0
 
 -- ---- a step
@@ -174,7 +174,7 @@ what_counts scripts before e Publish h = publish_counts (replay scripts before) 
 
 -- ---- a history
 
-abbrev changes_in : List EventEntry → ℕ
+abbrev pub changes_in : List EventEntry → ℕ
 changes_in history = count_by (λ (x : EventEntry). is_change x.reply) history
 
 -- the replay's version is the number of changes, whatever comes after

@@ -59,7 +59,8 @@ VersionsCount =
 
 -- ---- texts
 
--- legal histories of the same scripts with one text are the same, where each entry can be written
+-- legal histories of the same scripts with one text are the same, where each entry can be written and a document that it shows can be
+-- read
 abbrev pub TextTellsHistory : Type 0
 TextTellsHistory =
     (scripts : List (List ScriptLine)) (history other : List EventEntry)

@@ -4,4 +4,5 @@ pub mod Doing
 pub mod Kept
 pub mod Inside
 pub mod Laws
+pub mod Plans
 pub mod Again

@@ -2,6 +2,7 @@
 
 ghost use Rattle.desk_book.specs.Again.{HistoriesAreMadeAgain};
 ghost use Rattle.desk_book.specs.Laws.{OneReply, VersionsCount, TextTellsHistory, OneReplay, OverIsWhole};
+ghost use Rattle.desk_book.specs.Plans.{PlansAreStaleByChanges};
 
 /// The law: for one state of the desk and one line that is a step there is one reply.
 pub fn one_reply()
@@ -13,7 +14,14 @@ pub fn versions_count()
     ensures { VersionsCount }
 {}
 
-/// The law: legal histories of the same scripts that have one text are the same.
+/// The law: a `plan` line that was taken is `Stale` exactly where a change was accepted between its Take and its Publish. Else it is
+/// refused with the count of the possible starts exactly where they are too many, else it is published.
+pub fn plans_are_stale_by_changes()
+    ensures { PlansAreStaleByChanges }
+{}
+
+/// The law: legal histories of the same scripts that have one text are the same, where each entry can be written and a document
+/// that it shows can be read.
 pub fn text_tells_history()
     ensures { TextTellsHistory }
 {}
