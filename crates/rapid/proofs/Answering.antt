@@ -13,9 +13,9 @@ use Rattle.plan_doc.specs.Line.{line_of}
 use Rattle.rapid.specs.declared.document.RapidDocument.{RapidDocument}
 use Rattle.rapid.specs.declared.rapid.RapidAnswer.{RapidAnswer}
 use Rattle.rapid.specs.declared.rapid.RapidAnswer.TheVariants.{Ready, No}
-use Rattle.rapid.specs.Standing.{Standing}
+use Rattle.rapid.specs.Standing.{Standing, opening}
 use Rattle.rapid.specs.Answer.{IsAnswer}
-use Rattle.rapid.specs.Run.{WritesEach, opening, IsOpen, IsAnswerTo}
+use Rattle.rapid.specs.Run.{WritesEach, IsOpen, IsAnswerTo}
 use Rattle.rapid.specs.Lines.{AreLinesOf, IsAnswerFrom}
 
 pub whole_lines : (first : Standing) (groups : List GroupPart) (after : Standing) (start text : List ℕ) → start ≡ []
@@ -27,7 +27,8 @@ pub both_ok : {X E : Type 0} (P Q R : X → Type 0) (r : Result X E) → IfOk r 
 both_ok P Q R (Ok x) p q f = f x p q
 both_ok P Q R (Err e) p q f = tt
 
-answer_is : (d : RapidDocument) (text : List ℕ) (what : Said) → IsOpen d → IsAnswerFrom (opening d) d.groups text what → IsAnswerTo d text what
+answer_is : (d : RapidDocument) (text : List ℕ) (what : Said) → IsOpen d
+    → IsAnswerFrom (opening d.publication.snapshot d.publication.claim) d.groups text what → IsAnswerTo d text what
 answer_is d text said.Yes open_d h = (open_d, h.0, h.1)
 answer_is d text said.No open_d h = absurd h
 answer_is d text said.NoDocument open_d h = (open_d, h)
@@ -42,7 +43,7 @@ ready_answer d claim answer rapid groups r same h e listed ok =
     both_ok (λ (a : Answer). IsAnswerFrom rapid groups a.text.items a.said) (λ (a : Answer). IsAnswerFrom rapid groups a.text.items a.said)
     (λ (a : Answer). IsAnswerTo d a.text.items a.said) r ok ok
     (λ a p q. answer_is d a.text.items a.said ready.1
-    (subst (λ (gs : List GroupPart). IsAnswerFrom (opening d) gs a.text.items a.said) listed
+    (subst (λ (gs : List GroupPart). IsAnswerFrom (opening d.publication.snapshot d.publication.claim) gs a.text.items a.said) listed
     (subst (λ (b : Standing). IsAnswerFrom b groups a.text.items a.said) ready.0 p)))
 
 -- where it isn't

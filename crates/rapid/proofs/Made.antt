@@ -17,7 +17,7 @@ use Rattle.plan_base.specs.Verdict.{IsPriceInRange, IsQuotaPriceCount, IsCertifi
 use Rattle.rapid.specs.declared.placing.Placing.{Placing}
 use Rattle.rapid.specs.declared.pricing.Pricing.{Pricing}
 use Rattle.rapid.specs.Insertion.{with_group, IsPlacing, IsNewPrice, IsInsertion}
-use Rattle.rapid.specs.Inside.{standing}
+use Rattle.rapid.specs.Standing.{opening}
 use Rattle.rapid.specs.Placing.{IsReady, IsPlacedSo, IsPricedSo}
 use Rattle.rapid.proofs.Appended.{feasible_kept, value_kept}
 use Rattle.rapid.proofs.Newest.{only_request, count_newest, newest_known, newest_at, newest_single, newest_unplaced}
@@ -96,7 +96,7 @@ module _ (before s : Parts) (claim : Claim) (group : GroupPart) (single : group.
           (subst (λ (cs : List ℤ). IsBound s cs claim.quota_prices.0 (pos pricing.bound)) (sym (ap (λ x. x.0) prices)) priced.bound));
     }
 
-    pub insertion : IsInsertion (standing before claim) group placing.inserted (record { snapshot = s; claim = after; displaced = placing.displaced })
+    pub insertion : IsInsertion (opening before claim) group placing.inserted (record { snapshot = s; claim = after; displaced = placing.displaced })
     insertion = record {
       request = q;
       only = the.1;

@@ -7,13 +7,12 @@ use Rattle.plan_base.specs.declared.verdict.Verdict.TheVariants.{Yes, No}
 use Rattle.plan_base.specs.declared.verdict.Reason.{Reason}
 use Rattle.plan_base.specs.Verdict.{IsCertified, IsFirstReason, verdict_of, IsVerdict}
 use Rattle.rapid.specs.declared.inserted.Inserted.{Inserted}
-use Rattle.rapid.specs.Standing.{Standing}
+use Rattle.rapid.specs.Standing.{Standing, opening}
 use Rattle.rapid.specs.Insertion.{IsInsertion}
-use Rattle.rapid.specs.Inside.{standing}
 
 -- what was displaced before doesn't matter
 pub insertion_from : (before after : Standing) (group : GroupPart) (answer : Inserted)
-    → IsInsertion (standing before.snapshot before.claim) group answer after → IsInsertion before group answer after
+    → IsInsertion (opening before.snapshot before.claim) group answer after → IsInsertion before group answer after
 insertion_from before after group answer h = record {
   request = h.request;
   only = h.only;

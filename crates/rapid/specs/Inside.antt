@@ -1,5 +1,5 @@
 -- What an insertion makes.
-use Rattle.std.specs.Prelude.{◌≡◌, ◌+◌, []}
+use Rattle.std.specs.Prelude.{◌≡◌, ◌+◌}
 use Rattle.plan_base.specs.declared.parts.Parts.{Parts}
 use Rattle.plan_base.specs.declared.parts.GroupPart.{GroupPart}
 use Rattle.plan_base.specs.declared.parts.Op.TheVariants.{Single}
@@ -8,7 +8,7 @@ use Rattle.plan_base.specs.declared.claim.QuotaPrices.{QuotaPrices}
 use Rattle.rapid.specs.declared.placing.Placing.{Placing}
 use Rattle.rapid.specs.declared.pricing.Pricing.{Pricing}
 use Rattle.rapid.specs.declared.making.Priced.{Priced}
-use Rattle.rapid.specs.Standing.{Standing}
+use Rattle.rapid.specs.Standing.{Standing, opening}
 use Rattle.rapid.specs.Insertion.{with_group, IsInsertion}
 
 -- the second snapshot is the first with a SINGLE at its end
@@ -16,10 +16,6 @@ pub record IsExtended (before s : Parts) : Type 0 where
   pub group : GroupPart
   pub single : group.op ≡ Single
   pub whole : s ≡ with_group before group
-
--- a snapshot with a claim before anything was displaced
-abbrev pub standing : Parts → Claim → Standing
-standing s claim = record { snapshot = s; claim = claim; displaced = [] }
 
 -- the claim with its new request placed and priced so, and what belongs to it
 abbrev pub joined : Claim → QuotaPrices → Placing → Pricing → Priced
@@ -36,4 +32,4 @@ standing_of s priced = record { snapshot = s; claim = priced.claim; displaced = 
 
 -- the second snapshot and what belongs to it are what the insertion of the group into the first and the claim makes
 abbrev pub IsMadeOf : Parts → Claim → GroupPart → Parts → Priced → Type 0
-IsMadeOf before claim group s priced = IsInsertion (standing before claim) group priced.inserted (standing_of s priced)
+IsMadeOf before claim group s priced = IsInsertion (opening before claim) group priced.inserted (standing_of s priced)

@@ -1,5 +1,5 @@
 -- Lines of insertions, as they are added to a text.
-use Rattle.std.specs.Prelude.{◌≡◌, ◌≢◌, ℕ, List, ◌∷◌, ◌++◌, Some}
+use Rattle.std.specs.Prelude.{◌≡◌, ◌≢◌, ℕ, List, ◌∷◌, ◌++◌, None, Some}
 use Rattle.plan_base.specs.declared.parts.GroupPart.{GroupPart}
 use Rattle.plan_io.specs.declared.document.Answer.{Answer}
 use Rattle.plan_io.specs.declared.document.Said.{Said}
@@ -14,10 +14,11 @@ use Rattle.rapid.specs.Refused.{refusal_of}
 use Rattle.rapid.specs.Written.{inserted_data, refusal_data}
 use Rattle.rapid.specs.Run.{WritesEach, IsCutOff}
 
--- the group is inserted, and the line of that is added to the text
+-- the group isn't refused but inserted, and the line of that is added to the text
 abbrev pub IsLineOf : Standing → GroupPart → Standing → List ℕ → List ℕ → Type 0
 IsLineOf before group after old new =
-    (answer : Inserted) × IsInsertion before group answer after × (new ≡ old ++ line_of (inserted_data after.claim after.displaced answer))
+    (refusal_of before.snapshot group ≡ None) × (answer : Inserted) × IsInsertion before group answer after
+    × (new ≡ old ++ line_of (inserted_data after.claim after.displaced answer))
 
 -- the groups are inserted, and their lines are added to the text
 abbrev pub AreLinesOf : Standing → List GroupPart → Standing → List ℕ → List ℕ → Type 0
