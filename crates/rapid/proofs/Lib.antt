@@ -23,5 +23,6 @@ pub mod Refusals
 pub mod Made
 pub mod Standings
 pub mod Writing
+pub mod Deciding
 pub mod Answering
 pub mod Inserting

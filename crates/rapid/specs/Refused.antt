@@ -1,6 +1,6 @@
 -- Which groups can be inserted, and why another can't.
-use Rattle.std.specs.Prelude.{◌≤◌, if◌then◌else◌, All, Option, Some}
-use Rattle.std.specs.Option.{option_map}
+use Rattle.std.specs.Prelude.{◌≤◌, if◌then◌else◌, All, List, [], ◌∷◌, Option, None, Some}
+use Rattle.std.specs.Option.{option_map, option_or}
 use Rattle.plan_base.specs.declared.parts.Parts.{Parts}
 use Rattle.plan_base.specs.declared.parts.GroupPart.{GroupPart}
 use Rattle.plan_base.specs.Limits.{most_seconds, most_value}
@@ -19,3 +19,8 @@ pub record IsGroupInRanges (group : GroupPart) : Type 0 where
 -- why the group can't be inserted into the snapshot, if it can't: its kind first, then what is wrong with the snapshot that it would make
 abbrev pub refusal_of : Parts → GroupPart → Option RapidFault
 refusal_of s group = if is_single group.op then option_map (λ f. Snapshot f) (fault_of (with_group s group)) else Some (NotSingle group.group)
+
+-- the first refusal where groups are put into the snapshot one after another, if one is refused
+abbrev pub first_refusal : Parts → List GroupPart → Option RapidFault
+first_refusal s [] = None
+first_refusal s (group ∷ groups) = option_or (refusal_of s group) (first_refusal (with_group s group) groups)

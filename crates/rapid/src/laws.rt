@@ -1,12 +1,14 @@
 // Laws of insertions. Each is a function with nothing to do, whose contract states the law of its arguments.
 
-ghost use Rattle.std.specs.Prelude.{◌≡◌, ◌≤◌, ◌++◌, ℕ, ℤ, pos, List};
+ghost use Rattle.std.specs.Prelude.{◌≡◌, ◌≤◌, ◌++◌, ℕ, ℤ, pos, List, None, Some};
 ghost use Rattle.plan_base.specs.declared.claim.Placement.{Placement};
 ghost use Rattle.plan_base.specs.declared.parts.GroupPart.{GroupPart};
 ghost use Rattle.plan_base.specs.Bound.{IsBound};
 ghost use Rattle.plan_base.specs.Verdict.{IsCertified};
 ghost use Rattle.rapid.specs.Standing.{Standing};
 ghost use Rattle.rapid.specs.Insertion.{with_groups, InsertsEach};
+ghost use Rattle.rapid.specs.Refused.{first_refusal};
+ghost use Rattle.rapid.specs.Run.{WritesEach, IsCutOff};
 
 use crate::rapid::Rapid;
 
@@ -21,3 +23,12 @@ pub fn insertions_are_certified(rapid: &Rapid)
 {
     let _ = rapid.claim();
 }
+
+/// Groups are all inserted only where none of them is refused, and cut off only at the first that is, with its refusal: which
+/// of the two is so, the snapshot and the groups decide.
+pub fn refusals_decide()
+    ensures whole { (before after : Standing) (groups : List GroupPart) (text : List ℕ) → WritesEach before groups text after
+        → first_refusal before.snapshot groups ≡ None }
+    ensures cut { (before : Standing) (groups : List GroupPart) (text : List ℕ) (cut : IsCutOff before groups text)
+        → first_refusal before.snapshot groups ≡ Some cut.refusal }
+{}
