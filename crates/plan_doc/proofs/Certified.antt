@@ -82,7 +82,6 @@ certified_claims_are_in_range s c is are certified =
 pub exports_are_certified : ExportsAreCertified
 exports_are_certified ms s c is are certified has_snapshot has_claim =
     let in_range = certified_claims_are_in_range s c is are certified in (
-      record { snapshot = s; claim = c },
       publications_are_read_back ms s c is are in_range has_snapshot has_claim,
       (None, certified, refl),
     )

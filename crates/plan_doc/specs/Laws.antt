@@ -12,7 +12,6 @@ use Rattle.plan_json.specs.Object.{value_of}
 use Rattle.plan_json.specs.Values.{in_byte_order, those_there}
 use Rattle.plan_doc.specs.Claim.{claim_of}
 use Rattle.plan_doc.specs.Snapshot.{parts_of, snapshot_of}
-use Rattle.plan_doc.specs.declared.publication.Publication.{Publication}
 use Rattle.plan_doc.specs.Publication.{publication_of}
 use Rattle.plan_doc.specs.Written.{claim_members, claim_data, text_of_claim, snapshot_members, snapshot_data, text_of_snapshot}
 use Rattle.plan_doc.specs.Ranges.{IsClaim, AreParts}
@@ -25,7 +24,7 @@ ClaimsAreReadBack = (c : Claim) → IsClaim c → claim_of (those_there (in_byte
 abbrev pub ClaimsAreInRange : Type 0
 ClaimsAreInRange = (ms : Members) (c : Claim) → claim_of ms ≡ Ok c → IsClaim c
 
--- claims with one text are the same; what is written is exact
+-- claims whose numbers have 64 bits, as what is written is exact, are the same where they have one text
 abbrev pub ClaimsAreDistinct : Type 0
 ClaimsAreDistinct = (c d : Claim) → IsExact (claim_data c) → IsExact (claim_data d) → text_of_claim c ≡ text_of_claim d → c ≡ d
 
@@ -37,7 +36,7 @@ SnapshotsAreReadBack = (s : Parts) → IsSnapshot s → AreParts s → snapshot_
 abbrev pub SnapshotsAreInRange : Type 0
 SnapshotsAreInRange = (ms : Members) (s : Parts) → parts_of ms ≡ Ok s → AreParts s × IsInRanges s
 
--- snapshots with one text are the same; what is written is exact
+-- snapshots whose numbers have 64 bits, as what is written is exact, are the same where they have one text
 abbrev pub SnapshotsAreDistinct : Type 0
 SnapshotsAreDistinct = (s t : Parts) → IsExact (snapshot_data s) → IsExact (snapshot_data t) → text_of_snapshot s ≡ text_of_snapshot t → s ≡ t
 
@@ -53,9 +52,9 @@ abbrev pub CertifiedClaimsAreInRange : Type 0
 CertifiedClaimsAreInRange = (s : Parts) (c : Claim) → IsSnapshot s → AreParts s → IsCertified s c → IsClaim c
 
 -- An object whose members `snapshot` and `claim` are the documents of a snapshot in the ranges and of a claim that is certified
--- for it, as the reply to an export line is one, is read as these two, and the verdict on it is Yes.
+-- for it, as the reply to an export line is one, is read as these two, and the verdict on them is Yes, with the claim's value and bound.
 abbrev pub ExportsAreCertified : Type 0
 ExportsAreCertified =
     (ms : Members) (s : Parts) (c : Claim) → IsSnapshot s → AreParts s → IsCertified s c
     → value_of ms key.Snapshot ≡ Some (snapshot_data s) → value_of ms key.Claim ≡ Some (claim_data c)
-    → (p : Publication) × (publication_of ms ≡ Ok p) × IsVerdict p.snapshot p.claim (Yes c.value c.bound)
+    → (publication_of ms ≡ Ok (record { snapshot = s; claim = c })) × IsVerdict s c (Yes c.value c.bound)

@@ -13,7 +13,7 @@ pub fn claims_are_in_range()
     ensures { ClaimsAreInRange }
 {}
 
-/// A law: distinct claims have distinct texts.
+/// A law: distinct claims, whose numbers have 64 bits, have distinct texts.
 pub fn claims_are_distinct()
     ensures { ClaimsAreDistinct }
 {}
@@ -28,7 +28,7 @@ pub fn snapshots_are_in_range()
     ensures { SnapshotsAreInRange }
 {}
 
-/// A law: distinct snapshots have distinct texts.
+/// A law: distinct snapshots, whose numbers have 64 bits, have distinct texts.
 pub fn snapshots_are_distinct()
     ensures { SnapshotsAreDistinct }
 {}
@@ -43,7 +43,8 @@ pub fn certified_claims_are_in_range()
     ensures { CertifiedClaimsAreInRange }
 {}
 
-/// A law: the verdict on the document of a snapshot in the ranges and of a claim that is certified for it is Yes.
+/// A law: an object that has the documents of a snapshot in the ranges and of a claim that is certified for it is read as these two,
+/// and the verdict on them is Yes, with the claim's value and bound.
 pub fn exports_are_certified()
     ensures { ExportsAreCertified }
 {}

@@ -55,16 +55,19 @@ exports_are_checked scripts history before after e c parts sound is reply writab
     let in_range = certified_claims_are_in_range parts c checkable.snapshot checkable.ranges checkable.certified in
     let p : Publication = record { snapshot = parts; claim = c } in
     let bounded : IsBoundedClaim parts c = bounded_claim parts c (orderly parts checkable.snapshot) checkable.certified in
-    record {
-      publication = p;
-      read =
-          publication_is bytes has.members p (document_is bytes (data_of_entry e) has.members (lines_are_read_back (data_of_entry e) writable) has.object)
-          (publications_are_read_back has.members parts c checkable.snapshot checkable.ranges in_range has.snapshot has.claim);
-      is_verdict = (None, checkable.certified, refl);
-      bounding = λ value bound same plan feasible.
-          let bounds : c.bound ≡ bound = bound_of value bound same in
-          subst (λ (b : ℕ). value_of_plan parts plan ≤ b) bounds (bounded.greatest plan feasible);
-    }
+    let read : publication_of_bytes bytes ≡ Ok p =
+    publication_is bytes has.members p (document_is bytes (data_of_entry e) has.members (lines_are_read_back (data_of_entry e) writable) has.object)
+    (publications_are_read_back has.members parts c checkable.snapshot checkable.ranges in_range has.snapshot has.claim) in (
+      read,
+      record {
+        publication = p;
+        read = read;
+        is_verdict = (None, checkable.certified, refl);
+        bounding = λ value bound same plan feasible.
+            let bounds : c.bound ≡ bound = bound_of value bound same in
+            subst (λ (b : ℕ). value_of_plan parts plan ≤ b) bounds (bounded.greatest plan feasible);
+      },
+    )
   where
     bound_of : (value bound : ℕ) → Yes c.value c.bound ≡ Yes value bound → c.bound ≡ bound
     bound_of value bound same = cc

@@ -10,6 +10,7 @@ use Rattle.plan_io.specs.declared.lines.ScriptLine.{ScriptLine}
 use Rattle.plan_io.specs.declared.lines.ScriptLine.TheVariants.{TooLong}
 use Rattle.plan_io.specs.declared.status.Status.TheVariants.{Done}
 use Rattle.plan_doc.specs.Check.{IsJudged}
+use Rattle.plan_doc.specs.Publication.{publication_of_bytes}
 use Rattle.desk_events.specs.declared.command.Command.TheVariants.{Plan}
 use Rattle.desk_events.specs.declared.entry.EventEntry.{EventEntry}
 use Rattle.desk_events.specs.declared.entry.What.TheVariants.{Publish}
@@ -52,13 +53,14 @@ PlansArePublished =
 
 -- ---- exports
 
--- The text of an entry that exports a claim, with its newline, is a document of the claim and of its snapshot, and the verdict on
--- it is Yes, with the claim's value and its bound, which no feasible plan is worth more than.
+-- The text of an entry that exports a claim and a snapshot, with its newline, is read as these two, and the verdict on it is Yes, with
+-- the claim's value and its bound, which no plan that is feasible for the snapshot is worth more than.
 abbrev pub ExportsAreChecked : Type 0
 ExportsAreChecked =
     (scripts : List (List ScriptLine)) (history before after : List EventEntry) (e : EventEntry) (claim : Claim) (parts : Parts)
     → IsSound scripts history → history ≡ before ++ e ∷ after → e.reply ≡ Exported claim parts → IsWritableEntry e
-    → IsJudged (text_of_entry e) (Yes claim.value claim.bound)
+    → (publication_of_bytes (text_of_entry e) ≡ Ok (record { snapshot = parts; claim = claim }))
+    × IsJudged (text_of_entry e) (Yes claim.value claim.bound)
 
 -- ---- summaries
 

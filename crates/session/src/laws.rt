@@ -12,7 +12,8 @@ pub fn plans_are_published()
     ensures { PlansArePublished }
 {}
 
-/// A law: what a session writes for an `export` line is a document on which the verdict is Yes, with the claim's value and bound.
+/// A law: what a session writes for an `export` line is read as the claim and the snapshot that its reply has, and the verdict on it
+/// is Yes, with the claim's value and bound.
 pub fn exports_are_checked()
     ensures { ExportsAreChecked }
 {}
