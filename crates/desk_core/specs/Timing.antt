@@ -10,7 +10,7 @@ use Rattle.allocations.specs.Changes.{with_entry, request_entry}
 use Rattle.desk_runs.specs.declared.group.Group.{Group}
 use Rattle.desk_runs.specs.declared.group.Request.{Request}
 use Rattle.plan_base.specs.declared.state.RequestState.TheVariants.{WindowExpired, Canceled}
-use Rattle.plan_base.specs.States.{is_in, is_over}
+use Rattle.plan_base.specs.States.{is_in, is_window_expired}
 use Rattle.desk_runs.specs.Numbers.{is_request, has_request, group_with, is_placed}
 use Rattle.desk_runs.specs.Clock.{at_moment, settle, started, beginning, ending, requests_in, became_in}
 use Rattle.desk_runs.specs.Reports.{reported}
@@ -30,7 +30,7 @@ use Rattle.desk_core.specs.Holds.{key_of, is_refunded, groups_along, with_progre
 abbrev pub clocked_reply : DeskSeen → Sec → Reply
 clocked_reply d at =
     let before = at_moment at d.progress in
-    reply.Clocked (became_in is_over d.progress.groups (settle before).groups) (requests_in (ending (started before)))
+    reply.Clocked (became_in is_window_expired d.progress.groups (settle before).groups) (requests_in (ending (started before)))
     (refunds_of d (settle before)) (requests_in (beginning before))
 
 -- `clock`: the moment is before now; else it is now, and does what a moment does

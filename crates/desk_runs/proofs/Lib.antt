@@ -14,6 +14,7 @@ pub mod Reporting
 pub mod ReportChange
 pub mod Known
 pub mod Adding
+pub mod Expiring
 pub mod Forgetting
 pub mod GoingOn
 pub mod Over

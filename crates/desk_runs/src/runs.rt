@@ -3,7 +3,7 @@
 ghost use Rattle.std.specs.Prelude.{◌≡◌, ◌<◌, ◌≤◌, ◌+◌, ◌^◌, [], true, All, OnOk, OnErr, None, Some, IfOk, MatchOption, length, map, filter, slice_index_or};
 ghost use Rattle.std.specs.Option.{option_copied};
 ghost use Rattle.plan_base.specs.declared.state.RequestState.TheVariants.{WindowExpired, Canceled};
-ghost use Rattle.plan_base.specs.States.{is_over, is_in};
+ghost use Rattle.plan_base.specs.States.{is_window_expired, is_in};
 ghost use Rattle.desk_runs.specs.States.{is_open};
 ghost use Rattle.desk_runs.specs.Numbers.{requests_of, group_with, group_at, is_placed};
 ghost use Rattle.desk_runs.specs.Owners.{pending_count};
@@ -161,7 +161,7 @@ impl Runs {
         at_place(groups, (number.0 - 1) as usize)
     }
 
-    /// The group with a number that one has.
+    /// The group with a number, from 1 to that of the last group.
     pub fn known(&self, number: GroupNo) -> &Group
         requires { (1 ≤ number.0) × (number.0 ≤ length self.now.groups) }
         ensures { result.now ≡ group_of self.now.groups number }
@@ -200,7 +200,7 @@ impl Runs {
     pub fn clock(&self, now: Sec) -> Result<Moved, AllocError>
         ensures started { IfOk result (λ m. m.started ≡ requests_in (beginning (at_moment now self.now))) }
         ensures failed { IfOk result (λ m. m.failed ≡ requests_in (ending (started (at_moment now self.now)))) }
-        ensures expired { IfOk result (λ m. m.expired ≡ became_in is_over self.now.groups (settle (at_moment now self.now)).groups) }
+        ensures expired { IfOk result (λ m. m.expired ≡ became_in is_window_expired self.now.groups (settle (at_moment now self.now)).groups) }
         ensures moved { IfOk result (λ m. changed self.now m.change ≡ settle (at_moment now self.now)) }
         ensures can { IfOk result (λ m. CanChange self.now m.change) }
     {

@@ -10,6 +10,7 @@ use Rattle.desk_runs.specs.Turning.{turned, is_touched, groups_of}
 use Rattle.desk_runs.specs.Changes.{changed}
 use Rattle.desk_runs.specs.Inside.{progress_of}
 use Rattle.std.specs.List.{flat_map}
+use Rattle.desk_runs.proofs.Expiring.{expired_only}
 use Rattle.desk_runs.proofs.Opened.{open_in_range}
 use Rattle.desk_runs.proofs.Moves.{is_among, found_groups, found_over, change_of, moved, told_over, can_move}
 use Rattle.desk_runs.proofs.runs.Runs.clock.Goals as goal
@@ -90,4 +91,4 @@ pub returns-clause-expired : goal.returns-clause-expired
 returns-clause-expired c =
     rw (← c.self.view_is)
     (c.from_vec.ensures ∙ told_over (progress_of c.self.inside) c.args.now c.in_ok-stopped.stopped.running.items c.in_ok-expiry.expiry.requests.items
-    c.self.invariant.sound (running_then c) (over_then c))
+    c.self.invariant.sound (running_then c) (over_then c) ∙ expired_only (at_moment c.args.now (progress_of c.self.inside)))
