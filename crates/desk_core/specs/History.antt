@@ -48,10 +48,11 @@ IsPlanning s read = (read ≡ Ok command.Plan) × IsSome s.desk
 
 -- ---- the state that a history leaves
 
--- the verdict that a reply to a `publish` line tells
+-- the verdict that a reply to a `publish` line tells, where it tells one: another reply comes of no verdict
 abbrev pub verdict_told : Reply → Verdict
+verdict_told (Published claim) = Yes claim.value claim.bound
 verdict_told (Refused (Rejected reason)) = No reason
-verdict_told reply = Yes 0 0
+verdict_told _ = Yes 0 0
 
 -- the state that is left where a step was made
 abbrev pub left_by : StateSeen → Option Stepped → StateSeen
