@@ -123,8 +123,22 @@ fn finish_all<R: Threads + Sync>(
     Ok(())
 }
 
-/// Does the lines that no thread did, the lower callers' first, and gives the book. One cache keeps possible starts from plan to
-/// plan. Fails only for want of memory.
+/// Does the lines of a book that are not done yet, the lower callers' first. One cache keeps possible starts from plan to plan.
+/// Fails only for want of memory.
+pub fn finish_book<R: Threads + Sync>(
+    rt: &R,
+    alloc: Global,
+    mut book: Book,
+) -> Result<Book, AllocError>
+    ensures scripts { IfOk result (λ done. done.scripts ≡ book.scripts) }
+    ensures over { IfOk result (λ done. (caller : ℕ) → IsOver done caller) }
+{
+    let mut cache = StartCache::new();
+    finish_all(rt, alloc, &mut book, &mut cache)?;
+    Ok(book)
+}
+
+/// Does the lines that no thread did, and gives the book. Fails only for want of memory.
 pub fn finish<S: Sending, R: Threads + Sync>(
     rt: &R,
     alloc: Global,
@@ -133,8 +147,5 @@ pub fn finish<S: Sending, R: Threads + Sync>(
     ensures scripts { IfOk result (λ book. book.scripts ≡ S.scripts) }
     ensures over { IfOk result (λ book. (caller : ℕ) → IsOver book caller) }
 {
-    let mut book = desk.into_book();
-    let mut cache = StartCache::new();
-    finish_all(rt, alloc, &mut book, &mut cache)?;
-    Ok(book)
+    finish_book(rt, alloc, desk.into_book())
 }

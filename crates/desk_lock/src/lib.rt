@@ -7,6 +7,6 @@ mod playing;
 mod working;
 
 pub use desk::{Desk, Sending};
-pub use finishing::finish;
+pub use finishing::{finish, finish_book};
 pub use playing::play;
 pub use working::work;

@@ -52,7 +52,8 @@ fn play_as<S: Sending + Send + Sync, R: Threads + Wait + Sync, G: Gate>(
 }
 
 /// Does all lines of a book, those of each caller in a thread of its own where one can be made. Each order in which the threads
-/// come to the book may be the history's. Waits for the threads. Fails only for want of memory.
+/// come to the book may be the history's. Waits for the threads. Of a book that has entries nothing says that they stay: it is
+/// for a new one. Fails only for want of memory.
 pub fn play<R: Threads + Wait + Sync, G: Gate>(
     rt: &R,
     alloc: Global,

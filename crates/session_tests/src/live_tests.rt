@@ -1,5 +1,5 @@
-//! Sessions of several callers over a source and a sink in memory: the order of two callers' lines, which a gate holds, and faults in
-//! mid-stream. What other sessions write stands in the files of cases/live, at the top of the repository.
+//! Sessions of several callers over a source and a sink in memory: the order of two callers' lines, which a gate holds, how often a
+//! line is come to, and faults in mid-stream. What other sessions write stands in the files of cases/live, at the top of the repository.
 use crate::between::Between;
 use crate::script::{OPENING, PLAN, SUBMIT, replies_of_opening_then};
 use plan_io::{Gate, MemSink, MemSource, NoGate, Point, Status};
@@ -7,7 +7,7 @@ use samples::{sink_of, source_of};
 use session::*;
 use std::alloc::{AllocError, Global};
 use std::sync::Wait;
-use std::sync::atomic::Ordering;
+use std::sync::atomic::{AtomicU32, Ordering};
 use std::test::Fail;
 use std::thread::Threads;
 
@@ -15,19 +15,21 @@ use std::thread::Threads;
 fn status_of<R: Threads + Wait + Sync, G: Gate>(
     rt: &R,
     alloc: Global,
+    word: &str,
     source: &mut MemSource,
     sink: &mut MemSink,
     gate: &G,
 ) -> Result<Status, AllocError> {
-    let words = vec![in alloc; String::from_str(alloc, "live")?]?;
+    let words = vec![in alloc; String::from_str(alloc, word)?]?;
     Ok(run_live(rt, alloc, words.as_slice(), source, sink, gate))
 }
 
-/// Whether a session of these lines ends so, where this call of the source and this call of the sink fail, and writes the first
-/// bytes of the replies.
+/// Whether a session by this word of these lines ends so, where this call of the source and this call of the sink fail, and writes
+/// the first bytes of the replies.
 fn ends_so<R: Threads + Wait + Sync, G: Gate>(
     rt: &R,
     alloc: Global,
+    word: &str,
     lines: &[u8],
     fails: (u32, u32),
     ending: (Status, &[u8]),
@@ -35,7 +37,7 @@ fn ends_so<R: Threads + Wait + Sync, G: Gate>(
 ) -> Result<bool, AllocError> {
     let mut source = source_of(alloc, lines, 40, fails.0)?;
     let mut sink = sink_of(alloc, 40, fails.1)?;
-    let status = status_of(rt, alloc, &mut source, &mut sink, gate)?;
+    let status = status_of(rt, alloc, word, &mut source, &mut sink, gate)?;
     Ok(status == ending.0 && sink.bytes() == ending.1)
 }
 
@@ -93,7 +95,15 @@ fn a_line_comes_between_a_take_and_its_publish(rt: HostRuntime) -> Result<(), Fa
     let lines = lines(rt.alloc())?;
     let replies = replies_of_opening_then(rt.alloc(), REPLIES)?;
     let ending = (Status::Done, replies.as_slice());
-    let found = ends_so(&rt, rt.alloc(), lines.as_slice(), (99, 99), ending, &gate)?;
+    let found = ends_so(
+        &rt,
+        rt.alloc(),
+        "live",
+        lines.as_slice(),
+        (99, 99),
+        ending,
+        &gate,
+    )?;
     assert_eq!(rt; gate.late.load(Ordering::SeqCst), 0);
     assert!(rt; found);
     Ok(())
@@ -121,8 +131,42 @@ fn faults_end_a_session_of_callers(rt: HostRuntime) -> Result<(), Fail> {
         ((9, 3), Status::WriteFault, 120),
     ] {
         let wanted = &REFUSED[..len.min(REFUSED.len())];
-        let found = ends_so(&rt, rt.alloc(), SHORT, fails, (status, wanted), &NoGate)?;
+        let found = ends_so(
+            &rt,
+            rt.alloc(),
+            "live",
+            SHORT,
+            fails,
+            (status, wanted),
+            &NoGate,
+        )?;
         assert!(rt; found, "calls {} and {}", fails.0, fails.1);
     }
+    Ok(())
+}
+
+/// How many lines callers were about to do.
+#[derive(Drop)]
+struct Begun {
+    lines: AtomicU32,
+}
+
+impl Gate for Begun {
+    fn pass(&self, point: Point) {
+        if let Point::BeforeLine { .. } = point {
+            self.lines.fetch_add(1, Ordering::SeqCst);
+        }
+    }
+}
+
+#[test]
+fn passes_come_to_each_line_once(rt: HostRuntime) -> Result<(), Fail> {
+    let gate = Begun {
+        lines: AtomicU32::new(0),
+    };
+    let ending = (Status::Done, REFUSED);
+    let found = ends_so(&rt, rt.alloc(), "passes", SHORT, (99, 99), ending, &gate)?;
+    assert_eq!(rt; gate.lines.load(Ordering::SeqCst), 3);
+    assert!(rt; found);
     Ok(())
 }

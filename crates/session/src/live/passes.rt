@@ -185,11 +185,9 @@ pub(crate) fn play<R: Threads + Wait + Sync, G: Gate>(
     ensures over { IfOk result (λ done. (caller : ℕ) → IsOver done caller) }
 {
     let called = call_all(rt, alloc, &sent, gate)?;
-    // A plan that was taken and not published, for want of memory, is done under the lock too.
-    let book = if is_same(&called, &sent) {
-        called
-    } else {
-        sent
-    };
-    desk_lock::play(rt, alloc, book, gate)
+    if !is_same(&called, &sent) {
+        return desk_lock::play(rt, alloc, sent, gate);
+    }
+    // A plan may be left that was taken and not published, for want of memory.
+    desk_lock::finish_book(rt, alloc, called)
 }
