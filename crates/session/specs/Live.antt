@@ -99,7 +99,13 @@ IsLiveUndone ending left left' held held' = (lines : List ScriptLine) × HasRead
 abbrev pub IsLiveRefused : Option (List ℕ) → Option (List ℕ) → Option (List ℕ) → Option (List ℕ) → Type 0
 IsLiveRefused left left' held held' = (lines : List ScriptLine) × HasNoCaller left left' lines × Adds held held' (no_caller_text (length lines + 1))
 
--- a prefix of the text of a history was written, or of that on the first line without a caller
+-- all lines were read, and a prefix of the text of a history was written, or of that on the first line without a caller
+abbrev pub IsLiveUnwritten : Option (List ℕ) → Option (List ℕ) → Option (List ℕ) → Option (List ℕ) → Type 0
+IsLiveUnwritten left left' held held' =
+    ((lines : List ScriptLine) × HasRead ending.End left left' lines × IsPartlyAnswered (scripts_of lines) held held')
+    ⊎ ((lines : List ScriptLine) × HasNoCaller left left' lines × WritesPrefix held held' (no_caller_text (length lines + 1)))
+
+-- the first lines were read, and a prefix of the text of a history was written, or of that on the first line without a caller
 abbrev pub IsLiveCutOff : Option (List ℕ) → Option (List ℕ) → Option (List ℕ) → Option (List ℕ) → Type 0
 IsLiveCutOff left left' held held' =
     ((lines : List ScriptLine) × HasReadFirst left left' lines × IsPartlyAnswered (scripts_of lines) held held')
@@ -111,7 +117,7 @@ IsLive left left' held held' Done = IsLiveEnded left left' held held'
 IsLive left left' held held' ReadFault = IsLiveUndone ending.ReadFault left left' held held'
 IsLive left left' held held' InputOver = IsLiveUndone ending.InputOver left left' held held'
 IsLive left left' held held' NoCaller = IsLiveRefused left left' held held'
-IsLive left left' held held' WriteFault = IsLiveCutOff left left' held held'
+IsLive left left' held held' WriteFault = IsLiveUnwritten left left' held held'
 IsLive left left' held held' NoMemory = IsLiveCutOff left left' held held'
 IsLive left left' held held' Words = Unit {0}
 IsLive left left' held held' NoDocument = ⊥
