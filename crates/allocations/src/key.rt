@@ -25,7 +25,9 @@ pub enum Account {
 /// instrument types' bytes.
 #[derive(Clone, PartialEq, Eq, PartialOrd, Ord)]
 pub struct Key {
+    /// Whose time it is.
     pub proposal: Name,
+    /// For which observations it is.
     pub account: Account,
     /// The instrument type, empty for the account `Ipp`.
     pub instrument: Name,

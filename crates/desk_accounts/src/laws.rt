@@ -1,7 +1,8 @@
 // Laws of histories, each the contract of a function that does nothing.
 
 ghost use Rattle.desk_accounts.specs.Laws.{BalancesAreTold, BalancesAreShown, GrantsAreShown, ChargesAreCovered, HoldsAreCovered};
-ghost use Rattle.desk_accounts.specs.Laws.{DesksAreKept, GrantsAreFew, GrantsStayBelow, RefundsAreTold, GroupsAreNumbered, RefundsAreOnce, RequestsAreChargedOnce};
+ghost use Rattle.desk_accounts.specs.Laws.{DesksAreKept, GrantsAreFew, GrantsStayBelow, RefundsAreTold, GroupsAreNumbered};
+ghost use Rattle.desk_accounts.specs.Laws.{RefundsAreOnce, RequestsAreChargedOnce};
 
 /// A law: after every legal history each account has in the replayed state what the lines and the printed replies say: the
 /// seconds of its accepted grants, less the charges and net of the refunds that replies record; none before its first grant.

@@ -64,7 +64,8 @@ pub record Tells (answer : Result Reply Refusal) (result : Result Reply CommandF
   pub ok : IfOk result (λ reply. answer ≡ Ok reply)
   pub refused : IfErr result (λ fault. fault ≢ NoMemory → (r : Refusal) × (answer ≡ Err r) × (refusal_in fault ≡ Some r))
 
--- what a command decides on a desk: a refusal, or a reply and the desk that is left
+-- what a command decides on a desk: a refusal, or a reply and the desk that is left; where there is a refusal, these two mean
+-- nothing
 pub record Decision : Type 0 where
   pub refusal : Option Refusal
   pub reply : Reply

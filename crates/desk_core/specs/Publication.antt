@@ -10,7 +10,8 @@ pub record PublicationSeen : Type 0 where
   pub snapshot : Parts
   pub claim : Claim
 
--- a document of the snapshot and the claim is read as these two, and its check says Yes
+-- the snapshot has no fault and is in the ranges of documents, and the claim is certified for it: so a document of the two is
+-- read as these, and its check says Yes
 pub record IsCheckable (s : Parts) (claim : Claim) : Type 0 where
   pub snapshot : IsSnapshot s
   pub ranges : AreParts s

@@ -119,7 +119,7 @@ impl Publication {
         &self.snapshot
     }
 
-    /// Certified for that snapshot.
+    /// What was published for it.
     pub fn claim(&self) -> &Claim
         ensures { result.now ≡ self.now.claim }
     {

@@ -24,7 +24,8 @@ use site_model::Network;
 use std::alloc::{AllocError, Global};
 use std::marker::Model;
 
-/// The state of a desk. A command costs what it touches, never the length of what came before.
+/// The state of a desk. What a command costs doesn't grow with the lines before it; one that changes groups or time goes over
+/// all open groups and the observations that wait, at most 1,024 of each.
 pub struct State {
     version: u64,
     desk: Option<Desk>,
@@ -80,7 +81,7 @@ impl State {
         self.desk.is_some()
     }
 
-    /// The seconds of an account: those granted, less those charged, and those refunded. None where it has no grant or the desk
+    /// The seconds of an account: those granted and those refunded, less those charged. None where it has no grant or the desk
     /// isn't opened.
     pub fn balance(&self, key: &Key) -> Option<u64>
         ensures { result ≡ option_and_then (λ d. balance_in d key.now) self.now.desk }

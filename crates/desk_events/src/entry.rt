@@ -19,9 +19,11 @@ pub struct EventEntry {
     pub caller: u8,
     /// The line's place in the caller's script, from 1.
     pub line: u32,
+    /// Which step of the line it is.
     pub what: What,
     /// How many entries before it changed the desk.
     pub version: u64,
+    /// What is replied to it.
     pub reply: Reply,
 }
 

@@ -8,8 +8,9 @@ use request_model::GroupDoc;
 /// What a group's ipp account gets back, written as `[group,seconds]`.
 #[derive(Clone, Copy)]
 pub struct GroupRefund {
+    /// The group that was charged.
     pub group: GroupNo,
-    /// Above 0.
+    /// Above 0: all that its ipp account was charged for it.
     pub seconds: u64,
 }
 
@@ -17,7 +18,7 @@ pub struct GroupRefund {
 pub struct AccountBalance {
     /// The members `proposal`, `account` and `instrument_type`.
     pub key: Key,
-    /// Its seconds: those granted, less those charged, and those refunded.
+    /// Its seconds: those granted and those refunded, less those charged.
     pub balance: u64,
     /// The seconds of these that no open group holds.
     pub available: u64,
@@ -36,7 +37,9 @@ impl Drop for AccountBalance {
 /// How far a request has come.
 #[derive(Clone, Copy)]
 pub struct MemberState {
+    /// The request.
     pub request: RequestNo,
+    /// Its state.
     pub state: RequestState,
 }
 

@@ -135,8 +135,9 @@ impl SharedDesk {
     }
 
     /// Does a line of the pass's caller, or only takes what it asks to be planned, and answers where its entry stands. The pass
-    /// has no open Take, and did fewer than 65,536 lines. Waits for the turn. Fails only for want of memory: then the desk is
-    /// as before, and the pass, which may have seen more, may be used again.
+    /// has no open Take, and did fewer than 65,536 lines. Waits for the turn, and meanwhile yields its processor again and
+    /// again. Fails only for want of memory: then the desk is as before, and the pass, which may have seen more, may be used
+    /// again.
     pub fn call<R: Wait>(
         &self,
         rt: &R,
@@ -169,8 +170,9 @@ impl SharedDesk {
     }
 
     /// Publishes what was found for the pass's open Take, or says that it is stale, since a change was accepted meanwhile, and
-    /// answers where this entry stands. Waits for the turn. Fails only for want of memory: then the desk is as before, and the
-    /// pass, which may have seen more, may be used again; what was found is lost, so a copy of the Take is needed to seek anew.
+    /// answers where this entry stands. Waits for the turn as [`call`](SharedDesk::call) does. Fails only for want of memory: then
+    /// the desk is as before, and the pass, which may have seen more, may be used again; what was found is lost, so a copy of the
+    /// Take is needed to seek anew.
     pub fn publish<R: Wait>(
         &self,
         rt: &R,
@@ -202,7 +204,7 @@ impl SharedDesk {
     }
 
     /// Adds, at the end of `into`, the text of the entry at a place of what the pass has seen: one JSON object and a newline.
-    /// Waits for the turn. Fails only for want of memory, and then adds nothing.
+    /// Waits for the turn as [`call`](SharedDesk::call) does. Fails only for want of memory, and then adds nothing.
     pub fn write_entry<R: Wait>(
         &self,
         rt: &R,

@@ -9,14 +9,18 @@ use std::collections::LinkedList;
 /// An entry of a desk's history, with the line that it does; a Publish has the line of its Take. Contracts speak of it, and no
 /// value of it is ever made.
 pub struct SeenEntry {
+    /// The entry.
     pub entry: EventEntry,
+    /// The line that it does.
     pub line: ScriptLine,
 }
 
 /// What was taken for a plan that isn't published yet, with the line that asked for it. Contracts speak of it, and no value of
 /// it is ever made.
 pub struct OpenTake {
+    /// What was taken.
     pub taken: Taken,
+    /// The line that asked for it.
     pub line: ScriptLine,
 }
 

@@ -52,11 +52,13 @@ impl Blocking {
 
 /// A request that a claim leaves out.
 pub struct Left {
+    /// The request.
     pub request: RequestNo,
     /// How many possible starts it has.
     pub starts: u64,
     /// The claim's placements that share a slice with one of them.
     pub blocking: Blocking,
+    /// A bound on every feasible plan that has it.
     pub forced: Forced,
 }
 

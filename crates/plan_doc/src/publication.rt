@@ -4,7 +4,9 @@ use plan_base::{Claim, Snapshot};
 
 /// A snapshot, and a claim that was made on it: what an `export` line of a desk replies, and what a check reads.
 pub struct Publication {
+    /// What the plan is of.
     pub snapshot: Snapshot,
+    /// The plan with its value, its bound and the prices that give it. It may be wrong: a check tells.
     pub claim: Claim,
 }
 

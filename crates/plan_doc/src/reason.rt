@@ -13,14 +13,23 @@ use std::alloc::AllocError;
 /// members.
 #[derive(Clone, Copy)]
 pub struct ReasonFields {
+    /// The value or the bound that is claimed.
     pub claimed: Option<u64>,
+    /// The value or the bound that was worked out.
     pub found: Option<u64>,
+    /// How many prices are given.
     pub given: Option<u64>,
+    /// The number of a group.
     pub group: Option<u32>,
+    /// A place in the list of placements or of prices, from 0.
     pub index: Option<u32>,
+    /// The most seconds that a quota allows.
     pub most: Option<u64>,
+    /// The number of a quota.
     pub quota: Option<u32>,
+    /// The seconds that the plan takes of it.
     pub seconds: Option<u64>,
+    /// How many prices there should be.
     pub wanted: Option<u64>,
 }
 

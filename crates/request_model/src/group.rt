@@ -17,11 +17,13 @@ pub enum ObsKind {
 /// A request group, as its document has it.
 #[derive(Clone)]
 pub struct GroupDoc {
+    /// What its proposal calls it. It needn't differ from other groups' names.
     pub name: Name,
     /// The proposal that is charged.
     pub proposal: Name,
     /// How the requests belong together.
     pub op: Op,
+    /// How it is to be scheduled, which says what account is charged.
     pub kind: ObsKind,
     /// The intra-proposal priority in thousandths, 500 to 2,000, of which 1,000 is neutral.
     pub ipp: u16,

@@ -9,9 +9,13 @@ use std::alloc::AllocError;
 /// enclosure, on that telescope.
 #[derive(Clone)]
 pub struct Location {
+    /// The class of telescopes, as `1m0`.
     pub class: Name,
+    /// The site's code, where it is named.
     pub site: Option<Name>,
+    /// The enclosure's code, where it is named; several sites may have such a one.
     pub enclosure: Option<Name>,
+    /// The telescope's code, where it is named; several enclosures may have such a one.
     pub telescope: Option<Name>,
 }
 
@@ -30,7 +34,9 @@ impl Drop for Location {
 /// `period` seconds, before `end`.
 #[derive(Clone, Copy)]
 pub struct Cadence {
+    /// The first centre.
     pub start: Sec,
+    /// The second before which all centres lie.
     pub end: Sec,
     /// The seconds from one centre to the next, 0 to 15,552,000; 0 makes the cadence a bad one.
     pub period: u64,
@@ -68,6 +74,7 @@ pub struct Exposure {
 /// What is taken of one target.
 #[derive(Clone)]
 pub struct ConfigDoc {
+    /// The name of what is observed; its visibility is known by it.
     pub target: Name,
     /// 1 to 16, taken in this order.
     pub exposures: ListOf<Exposure>,
@@ -84,7 +91,9 @@ impl Drop for ConfigDoc {
 
 /// A request: one observation that is asked for, or with a cadence one round each centre.
 pub struct RequestDoc {
+    /// Where it may be observed.
     pub location: Location,
+    /// When it may be observed.
     pub when: When,
     /// The instrument type of all configurations.
     pub instrument: Name,
