@@ -1,6 +1,7 @@
 pub mod Alike
 pub mod Done
 pub mod Exports
+pub mod ExportsLast
 pub mod Gathering
 pub mod Going
 pub mod LineTexts

@@ -4,5 +4,6 @@ pub mod Session
 pub mod Live
 pub mod LiveParts
 pub mod Passes
+pub mod Published
 pub mod Summary
 pub mod Laws

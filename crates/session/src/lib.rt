@@ -11,6 +11,8 @@ mod summary;
 mod tally;
 mod words;
 
-pub use laws::{exports_are_checked, one_history, one_summary, plans_are_published};
+pub use laws::{
+    exports_are_checked, exports_are_last, one_history, one_summary, plans_are_published,
+};
 pub use live::run_live;
 pub use run::run_session;
