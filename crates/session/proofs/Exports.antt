@@ -1,6 +1,5 @@
 -- A check of the text of an export says Yes.
-use Rattle.std.proofs.Common.{◌≡◌, ◌≤◌, ℕ, List, [], ◌∷◌, ◌++◌, Some, None, Result, Ok, refl, sym, ap, subst, ◌∙◌}
-use Rattle.std.specs.Prelude.{ok_or}
+use Rattle.std.proofs.Common.{◌≡◌, ◌≤◌, ℕ, List, Some, None, Result, Ok, refl, sym, subst}
 use Rattle.serde_json.specs.Data.{Data, Members}
 use Rattle.serde_json.specs.Find.{as_object}
 use Rattle.plan_base.specs.declared.claim.Claim.{Claim}
@@ -9,10 +8,9 @@ use Rattle.plan_base.specs.declared.verdict.Verdict.TheVariants.{Yes}
 use Rattle.plan_base.specs.Starts.{value_of_plan}
 use Rattle.plan_base.proofs.Orderly.{orderly}
 use Rattle.plan_json.specs.declared.fault.JsonFault.{JsonFault}
-use Rattle.plan_json.specs.declared.fault.JsonFault.TheVariants.{NotObject}
 use Rattle.plan_json.specs.declared.member.Member.TheVariants as key
-use Rattle.plan_json.specs.Object.{data_of, document_of, value_of}
-use Rattle.plan_json.specs.Reading.{◌>>=◌, result_and_then}
+use Rattle.plan_json.specs.Object.{document_of, value_of}
+use Rattle.plan_json.specs.Reading.{◌>>=◌}
 use Rattle.plan_doc.specs.declared.fault.DocFault.{DocFault}
 use Rattle.plan_doc.specs.declared.publication.Publication.{Publication}
 use Rattle.plan_doc.specs.Fault.{in_document}
