@@ -1,5 +1,5 @@
 -- What is left of a caller's lines, and of those of the others, after one line more is done.
-use Rattle.std.proofs.Common.{◌≡◌, ℕ, zero, suc, ◌+◌, ◌-◌, ◌<◌, List, [], ◌∷◌, ◌++◌, length, slice_set, refl, sym, ◌∙◌, ap, subst, arith}
+use Rattle.std.proofs.Common.{◌≡◌, ℕ, zero, suc, ◌+◌, ◌-◌, ◌<◌, List, [], ◌∷◌, ◌++◌, length, slice_set, refl, sym, ◌∙◌, ap, subst, arith, append_assoc}
 use Rattle.std.proofs.Common.{Option, Some, None, true, Result, Ok, Err, OnOk, OnErr, get_or-set_same, get_or-set_other}
 use Rattle.std.specs.declared.alloc.AllocError.{AllocError}
 use Rattle.plan_base.specs.declared.taken.Taken.{Taken as TakenParts}
@@ -18,7 +18,7 @@ use Rattle.desk_book.specs.Seen.{BookSeen, take_of, done_of, ends_line, IsOver, 
 use Rattle.desk_book.specs.Doing.{DoesTake, IsPerformed, IsPublished, IsAnswered}
 use Rattle.desk_book.specs.Kept.{IsBook}
 use Rattle.desk_book.proofs.Turns.{done_more, done_same, done_other}
-use Rattle.desk_lock.specs.Finishing.{KeepsOthers, EndsLine}
+use Rattle.desk_lock.specs.Finishing.{KeepsOthers, KeepsEntries, EndsLine}
 
 -- ---- the steps of a line
 
@@ -29,12 +29,18 @@ open_below [] (suc n) t h = cc
 open_below (x ∷ xs) zero t h = omega arith
 open_below (x ∷ xs) (suc n) t h = let less : n < length xs = open_below xs n t h in omega arith
 
+-- entries that stay from one book to the next, and from that to a third, stay
+pub keeps_on : (b c d : BookSeen) → KeepsEntries b c → KeepsEntries c d → KeepsEntries b d
+keeps_on b c d first later =
+    (first.0 ++ later.0, later.1 ∙ ap (λ (es : List EventEntry). es ++ later.0) first.1 ∙ append_assoc b.history first.0 later.0)
+
 -- only the Take of the caller's line is done
 pub record BeginsLine (b : BookSeen) (caller : ℕ) (taken : TakenParts) (c : BookSeen) : Type 0 where
   pub scripts : c.scripts ≡ b.scripts
   pub kept : take_of c.takes caller ≡ Some taken
   pub named : taken.caller ≡ caller
   pub done : done_of caller c.history ≡ done_of caller b.history
+  pub entries : KeepsEntries b c
   pub others : KeepsOthers b caller c
 
 take_begins : (b : BookSeen) (caller : ℕ) (read : Result Command CommandFault) (taken : TakenParts) (c : BookSeen) → IsBook b → caller < length b.scripts
@@ -50,6 +56,7 @@ take_begins b caller read taken c k low does =
       kept = ap (λ (ts : List (Option TakenParts)). take_of ts caller) takes ∙ get_or-set_same b.takes caller (Some taken) None within;
       named = does.2;
       done = ap (done_of caller) history ∙ done_same caller b.history e refl refl;
+      entries = (e ∷ [], history);
       others = λ other differs. (
         ap (λ (ts : List (Option TakenParts)). take_of ts other) takes
             ∙ get_or-set_other b.takes caller other (Some taken) None differs,
@@ -77,6 +84,7 @@ published_ends b solved e c p =
       shut = ap (λ (ts : List (Option TakenParts)). take_of ts caller) takes
           ∙ get_or-set_same b.takes caller None None (open_below b.takes caller solved.taken p.0);
       done = ap (done_of caller) history ∙ done_more caller b.history e mine ends;
+      entries = (e ∷ [], history);
       others = λ other differs. (
         ap (λ (ts : List (Option TakenParts)). take_of ts other) takes ∙ get_or-set_other b.takes caller other None None differs,
         ap (done_of other) history ∙ done_other other b.history e (λ same. differs (sym same ∙ mine)),
@@ -96,6 +104,7 @@ begun_ends b caller taken c d begins ends = record {
   scripts = ends.scripts ∙ begins.scripts;
   shut = ends.shut;
   done = ends.done ∙ ap (λ (n : ℕ). n + 1) begins.done;
+  entries = keeps_on b c d begins.entries ends.entries;
   others = λ other differs. (
     (ends.others other differs).0 ∙ (begins.others other differs).0,
     (ends.others other differs).1 ∙ (begins.others other differs).1,
@@ -113,6 +122,7 @@ same_scripts (Err error) b caller c ok err = ap (λ (x : BookSeen). x.scripts) e
 -- so far lines of this caller alone were done
 pub record GoesOn (b : BookSeen) (caller : ℕ) (c : BookSeen) : Type 0 where
   pub scripts : c.scripts ≡ b.scripts
+  pub entries : KeepsEntries b c
   pub others : KeepsOthers b caller c
 
 -- how many lines of the caller are left
@@ -125,3 +135,4 @@ left_of caller b = length (script_of b.scripts caller) - done_of caller b.histor
 pub record EndsFirst (count : ℕ) (b c : BookSeen) : Type 0 where
   pub scripts : c.scripts ≡ b.scripts
   pub over : (caller : ℕ) → caller < count → IsOver c caller
+  pub entries : KeepsEntries b c

@@ -3,7 +3,7 @@
 ghost use Rattle.std.specs.Prelude.{◌≡◌, ◌<◌, ℕ, length, Some, IsSome, IfOk, OnOk, OnErr, MatchBool};
 ghost use Rattle.lanes.specs.Solving.{IsInRange};
 ghost use Rattle.desk_book.specs.Seen.{take_of, IsOver};
-ghost use Rattle.desk_lock.specs.Finishing.{EndsLine, EndsScript, EndsAll};
+ghost use Rattle.desk_lock.specs.Finishing.{KeepsEntries, EndsLine, EndsScript, EndsAll};
 
 use crate::desk::{Desk, Sending};
 use desk_book::{Book, BookStep};
@@ -131,6 +131,7 @@ pub fn finish_book<R: Threads + Sync>(
     mut book: Book,
 ) -> Result<Book, AllocError>
     ensures scripts { IfOk result (λ done. done.scripts ≡ book.scripts) }
+    ensures entries { IfOk result (λ done. KeepsEntries book done) }
     ensures over { IfOk result (λ done. (caller : ℕ) → IsOver done caller) }
 {
     let mut cache = StartCache::new();
