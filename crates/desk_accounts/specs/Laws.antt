@@ -1,5 +1,6 @@
 -- What the replies of a history tell of its accounts.
-use Rattle.std.specs.Prelude.{◌≡◌, ◌≢◌, ℕ, ◌+◌, ◌*◌, ◌^◌, ◌<◌, ◌≤◌, List, [], ◌∷◌, ◌++◌, map, All, AllPairs, Any, Option, Some, IfSome, IsSome, option_and_then}
+use Rattle.std.specs.Prelude.{◌≡◌, ◌≢◌, ℕ, ◌+◌, ◌*◌, ◌^◌, ◌<◌, ◌≤◌, List, [], ◌∷◌, ◌++◌, map, All, AllPairs, Any}
+use Rattle.std.specs.Prelude.{Option, Some, IfSome, IsSome, option_and_then}
 use Rattle.plan_base.specs.Limits.{most_version}
 use Rattle.plan_io.specs.declared.lines.ScriptLine.{ScriptLine}
 use Rattle.allocations.specs.declared.key.Key.{Key}
