@@ -6,7 +6,7 @@ ghost use Rattle.interval_solver.specs.Lanes.{IsForLanes};
 
 use std::alloc::{AllocError, Global};
 
-/// A table of so many entries for each lane, all of them 0, as [`crate::Rows::solve`] wants it. Fails only for want of
+/// A table of so many entries for each lane, in which [`crate::Rows::solve`] may write. Fails only for want of
 /// memory.
 pub fn zero_table<const L: usize>(
     alloc: Global,

@@ -1,6 +1,6 @@
 // Laws of plans, values and bounds. Each is a function with nothing to do, whose contract states the law of its arguments.
 
-ghost use Rattle.std.specs.Prelude.{◌≤◌, ◌<◌, ℕ, ℤ, pos, ◌+ℤ◌, ◌≤ℤ◌, ◌<ℤ◌, List, [], length, All};
+ghost use Rattle.std.specs.Prelude.{◌≤◌, ◌<◌, ◌*◌, ℕ, ℤ, pos, neg_ℤ, ◌+ℤ◌, ◌≤ℤ◌, ◌<ℤ◌, List, [], length, All};
 ghost use Rattle.plan_base.specs.Starts.{IsPossibleStart, worth_at, value_of_plan};
 ghost use Rattle.plan_base.specs.Requests.{request_value};
 ghost use Rattle.plan_base.specs.Feasible.{IsFeasible};
@@ -8,9 +8,10 @@ ghost use Rattle.plan_base.specs.Saturated.{IsSaturated};
 ghost use Rattle.plan_base.specs.Fill.{IsFilled, IsGreedy};
 ghost use Rattle.plan_base.specs.Planned.{IsPlanned};
 ghost use Rattle.plan_base.specs.Sums.{AreParts, sum_of};
-ghost use Rattle.plan_base.specs.Limits.{most_price, most_quota_price, bound_limit};
+ghost use Rattle.plan_base.specs.Limits.{most_value, most_price, most_quota_price, bound_limit};
 ghost use Rattle.plan_base.specs.Bound.{IsBest, net_price, IsRebate, IsQuotaPart, IsBound};
 ghost use Rattle.plan_base.specs.Tables.{horizon_end, IsTable};
+ghost use Rattle.plan_base.specs.Round.{IsRoundPrices};
 ghost use Rattle.plan_base.specs.Verdict.{IsPriceInRange};
 ghost use Rattle.plan_base.specs.declared.claim.Claim.{Claim};
 ghost use Rattle.plan_base.specs.declared.claim.Placement.{Placement};
@@ -53,6 +54,17 @@ pub fn bound_limit(snapshot: &Snapshot, prices: &Prices, quota_prices: &QuotaPri
     requires quota_prices { All (λ u. u ≤ most_quota_price) quota_prices.now.0 }
     ensures least { (bound : ℤ) → IsBound snapshot.now prices.now.0 quota_prices.now.0 bound → pos 0 ≤ℤ bound }
     ensures most { (bound : ℤ) → IsBound snapshot.now prices.now.0 quota_prices.now.0 bound → bound <ℤ pos bound_limit }
+{
+    snapshot.recall_valid();
+}
+
+/// How far the prices of a lane's rounds are from 0: in each round a price moves by no more than the greatest value that a request
+/// may have, so that after 256 rounds it is within 10^12. Those of quotas are 200,000 at most.
+pub fn round_limit(snapshot: &Snapshot)
+    ensures prices { (lane round : ℕ) (prices : List ℤ) (quota_prices : List ℕ) → IsRoundPrices snapshot.now lane round prices quota_prices
+        → All (λ p. (neg_ℤ (pos (round * most_value)) ≤ℤ p) × (p ≤ℤ pos (round * most_value))) prices }
+    ensures quota_prices { (lane round : ℕ) (prices : List ℤ) (quota_prices : List ℕ) → IsRoundPrices snapshot.now lane round prices quota_prices
+        → All (λ u. u ≤ most_quota_price) quota_prices }
 {
     snapshot.recall_valid();
 }

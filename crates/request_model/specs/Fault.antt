@@ -7,14 +7,8 @@ use Rattle.request_model.specs.declared.fault.GroupFault.TheVariants.{Json, NoMe
 
 -- want of memory stays what it is
 abbrev pub fault_of : JsonFault → GroupFault
-fault_of json.NotJson = Json json.NotJson
-fault_of json.NotObject = Json json.NotObject
-fault_of (json.Missing m) = Json (json.Missing m)
-fault_of (json.WrongKind m) = Json (json.WrongKind m)
-fault_of (json.NotWhole m) = Json (json.NotWhole m)
-fault_of (json.OutOfRange m) = Json (json.OutOfRange m)
-fault_of (json.BadMoment m) = Json (json.BadMoment m)
 fault_of json.NoMemory = NoMemory
+fault_of fault = Json fault
 
 -- what was read, its fault being the group's
 abbrev pub in_group : {T : Type 0} → Result T JsonFault → Result T GroupFault
