@@ -52,14 +52,21 @@ enum Turn {
 /// wanting no byte is lost, and the call may be made again.
 pub struct Lines {
     alloc: Global,
+    /// What was taken of the source and not answered yet.
     held: Held,
+    /// Where a block is read to, before `held` takes it up.
     room: Vec<u8>,
+    /// Whether the line that is being read is too long, so that its bytes so far were dropped.
     long: bool,
+    /// How many bytes were taken of the source.
     taken: u64,
+    /// How many lines were answered.
     answered: u64,
     most_bytes: u64,
     most_lines: u64,
+    /// Whether a read failed.
     failed: bool,
+    /// Whether the source gave no more.
     ended: bool,
 }
 
@@ -260,6 +267,7 @@ impl Lines {
         ensures err_state { OnErr result ((self.new.failed ≡ self.old.failed) × IsWithin self.new
             × (self.old.ended ≡ false → self.new.ended ≡ true → IsAtEnd (S.left source.new))) }
         ensures err_faults { OnErr result (S.faults source.old ≤ S.faults source.new) }
+        ensures err_at_hand { HasLine self.old → OnErr result (self.new ≡ self.old) }
     {
         if self.failed {
             return Ok(LineAnswer::ReadFault);
@@ -310,11 +318,5 @@ fn read_size(allowed: u64) -> usize
     ensures room { result ≤ 65536 }
     ensures within { result ≤ max 1 allowed }
 {
-    if allowed == 0 {
-        1
-    } else if allowed < ROOM as u64 {
-        allowed as usize
-    } else {
-        ROOM
-    }
+    allowed.clamp(1, ROOM as u64) as usize
 }

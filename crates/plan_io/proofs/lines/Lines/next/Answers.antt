@@ -33,5 +33,12 @@ returns-in-None-clause-at_hand g c =
     let opened : s.ended ≡ false = subst (λ (v : LinesSeen). v.ended ≡ false) c.self.view_is c.if-self-2.false in
     λ has. absurd (no_line_at_hand s c.cut.new.self opened cut has)
 
+pub returns-in-None-clause-err_at_hand : goal.returns-in-None-clause-err_at_hand
+returns-in-None-clause-err_at_hand g c =
+    let s = c.args.self.now in
+    let cut = subst (IsCut s c.cut.new.self) c.in-None.is c.in_ok-line.ensures.cut in
+    let opened : s.ended ≡ false = subst (λ (v : LinesSeen). v.ended ≡ false) c.self.view_is c.if-self-2.false in
+    λ has. absurd (no_line_at_hand s c.cut.new.self opened cut has)
+
 pub returns-in-None-clause-err : goal.returns-in-None-clause-err
 returns-in-None-clause-err g c = grind (arith, common_steps)
