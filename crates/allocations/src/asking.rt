@@ -77,7 +77,9 @@ pub fn amounts_for(
 /// What a group is to hold, and its ipp charge where there is one.
 #[derive(Drop)]
 pub struct Booking {
+    /// The seconds of each account that it is to hold.
     pub holds: ListOf<Amount>,
+    /// The seconds that its proposal's ipp account is charged, if any.
     pub ipp: Option<Amount>,
 }
 

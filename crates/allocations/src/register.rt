@@ -15,7 +15,9 @@ use std::marker::Model;
 
 /// An account in the order of keys.
 pub struct Listed {
+    /// What names it.
     pub key: Key,
+    /// Its place in the register, from 0.
     pub place: usize,
 }
 

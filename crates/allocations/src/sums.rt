@@ -9,14 +9,18 @@ use crate::entry::EntryKind;
 /// Seconds of the account at a place of the register.
 #[derive(Clone, Copy)]
 pub struct Amount {
+    /// The place of the account, from 0.
     pub account: usize,
+    /// How many seconds of it.
     pub seconds: u64,
 }
 
 /// What the entries leave of an account, and what groups hold of it.
 #[derive(Clone, Copy)]
 pub struct Sums {
+    /// Its seconds: those granted and those refunded, less those charged.
     pub balance: u64,
+    /// How many of these seconds groups hold.
     pub held: u64,
 }
 

@@ -13,14 +13,18 @@ use plan_base::{Prices, QuotaPrices, RequestPart, Snapshot, larger};
 /// The requests of a group with their prices, and the price of a second of the group's quota.
 #[derive(Clone, Copy)]
 pub(crate) struct Nets<'a> {
+    /// All requests of the group.
     pub requests: &'a [RequestPart],
+    /// Their prices, in their order.
     pub prices: &'a [i64],
+    /// 0 to 200,000, and 0 where the group counts towards no quota.
     pub quota_price: u32,
 }
 
 /// A number that a loop changes.
 #[derive(Clone, Copy)]
 pub(crate) struct Sum {
+    /// What it is so far.
     pub value: i64,
 }
 

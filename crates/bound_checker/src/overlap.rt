@@ -13,6 +13,7 @@ use std::alloc::{AllocError, Global};
 /// The slots of a placement: slot `t * slices + i` is slice `i` of the horizon on telescope `t`.
 #[derive(Clone, Copy)]
 pub(crate) struct Slots {
+    /// The first slot.
     pub from: usize,
     /// The slot after the last.
     pub to: usize,

@@ -10,7 +10,7 @@ use plan_base::{ListOf, larger};
 /// A possible start, in the row of its slice.
 #[derive(Clone, Copy)]
 pub struct Start {
-    /// What it is worth beyond its request's price.
+    /// What it is worth beyond its request's price: at least -10^12, and at most 288,000,000 above 10^12.
     pub weight: i64,
     /// The row of the slice after its last.
     pub after: usize,

@@ -14,13 +14,13 @@ use plan_base::{RequestPart, faded, least_from, slices_for};
 pub struct Offer {
     /// How long it observes.
     pub observation: Observation,
-    /// How many slices it takes.
+    /// How many slices it takes, 1 to 1,440.
     pub size: u64,
-    /// The price of the request.
+    /// The price of the request, -10^12 to 10^12.
     pub price: i64,
-    /// What it is worth before any of it fades.
+    /// What it is worth before any of it fades, at most 288,000,000.
     pub value: u64,
-    /// The thousandths that are lost with each slice of delay.
+    /// The thousandths, 0 to 1,000, that are lost with each slice of delay.
     pub fade: u64,
     /// The slice from which it fades.
     pub earliest: u64,

@@ -19,6 +19,7 @@ pub(crate) struct Footprint {
     pub op: Op,
     /// The quota that its group counts towards.
     pub quota: Option<u16>,
+    /// How long the request takes, which counts towards that quota.
     pub seconds: u64,
     /// The first slot.
     pub from: usize,

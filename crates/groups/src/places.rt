@@ -13,7 +13,9 @@ const REMAINDERS: usize = 4_096;
 /// A request of a snapshot, and its place among all.
 #[derive(Clone, Copy)]
 pub(crate) struct Note {
+    /// Its number of the desk.
     pub request: RequestNo,
+    /// Its place among all requests of the snapshot, from 0.
     pub place: u16,
 }
 

@@ -10,13 +10,13 @@ use plan_base::{RequestPart, faded, least_from, slices_for};
 /// What a request gives, and how many slices it takes for it.
 #[derive(Clone, Copy)]
 pub(crate) struct Offer {
-    /// The place of the request among all.
+    /// The place of the request among all, from 0.
     pub place: u32,
-    /// How many slices it takes.
+    /// How many slices it takes, at most 1,440.
     pub size: u64,
-    /// What it is worth before any of it fades.
+    /// What it is worth before any of it fades, at most 288,000,000.
     pub value: u64,
-    /// The thousandths that are lost with each slice of delay.
+    /// The thousandths, 0 to 1,000, that are lost with each slice of delay.
     pub fade: u64,
     /// The slice from which it fades.
     pub earliest: u64,

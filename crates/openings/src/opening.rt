@@ -15,6 +15,7 @@ use std::alloc::{AllocError, Global};
 
 /// A request, what it offers at a price, and where it may start.
 pub struct Openings {
+    /// The number of the request.
     pub request: RequestNo,
     /// What it takes, and what it is worth beyond its price.
     pub offer: Offer,

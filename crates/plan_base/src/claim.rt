@@ -31,7 +31,9 @@ pub struct QuotaPrices(pub ListOf<u32>);
 pub struct Claim {
     /// The plan, in any order.
     pub placements: ListOf<Placement>,
+    /// The prices of the requests: one for each, where it is certified.
     pub prices: Prices,
+    /// The prices of a second of the quotas: one for each or none at all, where it is certified.
     pub quota_prices: QuotaPrices,
     /// What the plan is said to be worth: 0 to 10^12 in a document.
     pub value: u64,

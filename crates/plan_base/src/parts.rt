@@ -56,6 +56,7 @@ impl Op {
 /// A telescope; its number is its place in the snapshot's list.
 #[derive(Clone, PartialEq, Eq)]
 pub struct TelescopePart {
+    /// Where it stands, by its number of the desk.
     pub site: SiteNo,
     /// When it can observe, sorted with gaps between the spans.
     pub usable: ListOf<Span>,
@@ -91,6 +92,7 @@ impl Drop for Sky {
 /// An observation that is asked for.
 #[derive(Clone, PartialEq, Eq)]
 pub struct RequestPart {
+    /// Its number of the desk; numbers rise through all groups of the snapshot.
     pub request: RequestNo,
     /// How long it takes, 1 to 86,400 seconds.
     pub seconds: u32,
@@ -126,6 +128,7 @@ impl Drop for RequestPart {
 pub struct GroupPart {
     /// Its number of the desk; numbers rise through the snapshot's list.
     pub group: GroupNo,
+    /// Which of its requests may be placed together.
     pub op: Op,
     /// Those that may still be placed: 1 in a `SINGLE`, 1 to 256 in a `MANY`, 1 to 32 in the others.
     pub requests: ListOf<RequestPart>,

@@ -12,6 +12,7 @@ use std::alloc::{AllocError, Global};
 /// Where a request stands.
 #[derive(Clone, Copy)]
 pub(crate) struct Row {
+    /// Its number of the desk.
     pub request: RequestNo,
     /// The place of its group.
     pub group: usize,

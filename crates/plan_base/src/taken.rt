@@ -8,7 +8,7 @@ use crate::snapshot::Snapshot;
 /// What a desk hands out to be planned.
 #[derive(Clone)]
 pub struct Taken {
-    /// The caller whose line asked for it, counted from 0.
+    /// The caller whose line asked for it, 0 to 7.
     pub caller: u8,
     /// How the plan is to be sought.
     pub settings: Settings,

@@ -1,6 +1,6 @@
 //! What threads pass on their way, so that a test can order them.
 
-/// A point that a thread passes.
+/// A point that a thread passes. Lines are counted from 1, callers, workers, lanes and rounds from 0.
 #[derive(Clone, Copy)]
 pub enum Point {
     /// A caller is about to do its line; the lock isn't held.

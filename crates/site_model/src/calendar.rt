@@ -19,7 +19,9 @@ use std::marker::Model;
 /// A target at a site.
 #[derive(Clone, Copy, PartialEq, Eq, Hash)]
 pub struct SkyKey {
+    /// The number of the target.
     pub target: TargetNo,
+    /// The number of the site.
     pub site: SiteNo,
 }
 

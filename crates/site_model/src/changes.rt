@@ -23,7 +23,9 @@ pub enum Change {
 /// The closed seconds that a telescope is to have.
 #[derive(Drop)]
 pub struct Closed {
+    /// The number of the telescope.
     pub telescope: TelescopeNo,
+    /// All seconds in which it is to be closed.
     pub spans: Spans,
 }
 

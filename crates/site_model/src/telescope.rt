@@ -18,8 +18,11 @@ use std::alloc::Global;
 
 /// What is kept of a telescope beside its code: the number of its site, its class, and the places of its instruments.
 pub struct Telescope {
+    /// The number of the site where it stands.
     pub site: SiteNo,
+    /// Its class, such as `1m0`.
     pub class: Name,
+    /// The places of the instrument types that it carries among those that are registered, from 0.
     pub instruments: ListOf<usize>,
 }
 

@@ -10,14 +10,18 @@ use std::alloc::{AllocError, Global};
 /// A request on one of its telescopes.
 #[derive(Clone, Copy)]
 pub(crate) struct Pair {
+    /// The number of the request.
     pub request: RequestNo,
+    /// One of the telescopes that can take it.
     pub telescope: TelescopeNo,
 }
 
 /// A pair with the slices at which it has a possible start.
 #[derive(Drop)]
 pub(crate) struct PairSlices {
+    /// The request and its telescope.
     pub pair: Pair,
+    /// The slices, where other spans have seconds.
     pub slices: Spans,
 }
 

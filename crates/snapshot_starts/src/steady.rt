@@ -14,7 +14,9 @@ use std::alloc::{AllocError, Global};
 /// A target and a site.
 #[derive(Clone, Copy, PartialEq, Eq, PartialOrd, Ord)]
 pub(crate) struct SkyKey {
+    /// The number of the target.
     pub target: TargetNo,
+    /// The number of the site.
     pub site: SiteNo,
 }
 

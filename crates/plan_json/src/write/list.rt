@@ -29,7 +29,9 @@ pub trait Form<T> {
 /// The list of all items, each in one form.
 #[derive(Drop)]
 pub struct Each<'a, F, T> {
+    /// The form of each item.
     pub form: F,
+    /// The items, in the order in which they are written.
     pub items: &'a ListOf<T>,
 }
 

@@ -63,7 +63,9 @@ fn write_name(name: &str, is_later: bool, out: &mut Vec<u8>) -> Result<(), Alloc
 pub struct Named<'a, T, R: Members> {
     /// A comma, the name in quotes, and a colon.
     pub name: &'a str,
+    /// What it holds.
     pub value: T,
+    /// The members after it, whose names come later in byte order.
     pub rest: R,
     ghost is_next: { IsTrue (is_next name.now (R.names rest)) },
 }
@@ -88,7 +90,9 @@ impl<'a, T: Json, R: Members> Members for Named<'a, T, R> {
 pub struct Perhaps<'a, T, R: Members> {
     /// A comma, the name in quotes, and a colon.
     pub name: &'a str,
+    /// What it holds, if it is there.
     pub value: &'a Option<T>,
+    /// The members after it, whose names come later in byte order.
     pub rest: R,
     ghost is_next: { IsTrue (is_next name.now (R.names rest)) },
 }
@@ -113,6 +117,7 @@ impl<'a, T: Json, R: Members> Members for Perhaps<'a, T, R> {
 
 /// An object, by its members. [`object!`](crate::object) makes it.
 pub struct Object<R> {
+    /// The members, in byte order of their names.
     pub members: R,
 }
 
