@@ -18,7 +18,7 @@ use plan_base::{ListOf, Name};
 use std::alloc::Global;
 
 /// The amount of an account for a need, tested against what is left once the group at `old` is freed.
-pub fn amount_for(
+pub(crate) fn amount_for(
     store: &Store,
     old: Option<usize>,
     key: &Key,
@@ -51,7 +51,7 @@ pub fn amount_for(
 }
 
 /// The amounts for holds, each tested in order.
-pub fn amounts_for(
+pub(crate) fn amounts_for(
     alloc: Global,
     store: &Store,
     old: Option<usize>,
@@ -76,7 +76,7 @@ pub fn amounts_for(
 
 /// What a group is to hold, and its ipp charge where there is one.
 #[derive(Drop)]
-pub struct Booking {
+pub(crate) struct Booking {
     /// The seconds of each account that it is to hold.
     pub holds: ListOf<Amount>,
     /// The seconds that its proposal's ipp account is charged, if any.
@@ -111,7 +111,7 @@ fn ipp_amount_for(
 
 /// The amounts for holds of one proposal and its ipp charge, tested against what is left once the group at `old` is
 /// freed.
-pub fn booking_for(
+pub(crate) fn booking_for(
     alloc: Global,
     store: &Store,
     old: Option<usize>,

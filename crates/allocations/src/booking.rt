@@ -45,7 +45,7 @@ fn open_group(store: &mut Store, alloc: Global, group: GroupNo) -> usize
 }
 
 /// Charges a group that holds nothing, and gives it what it holds from now on.
-pub fn book_group(store: &mut Store, alloc: Global, group: GroupNo, booking: Booking)
+pub(crate) fn book_group(store: &mut Store, alloc: Global, group: GroupNo, booking: Booking)
     requires slot { 0 < store.old.slots }
     requires spare { 0 < store.old.spare }
     requires nothing { HoldsNothing group store.old.groups }
@@ -94,7 +94,7 @@ fn free_old(store: &mut Store, alloc: Global, old: Option<usize>)
 
 /// Books holds and an ipp charge for a group that holds nothing, once the group at `old` is freed. An error changes
 /// nothing of the books.
-pub fn settle(
+pub(crate) fn settle(
     store: &mut Store,
     alloc: Global,
     old: Option<usize>,

@@ -49,7 +49,7 @@ fn account_for(store: &mut Store, key: &Key) -> Result<usize, LedgerFault>
 }
 
 /// Grants seconds to an account, and answers its balance. An error changes nothing of the books.
-pub fn grant(store: &mut Store, key: &Key, seconds: u64) -> Result<u64, LedgerFault>
+pub(crate) fn grant(store: &mut Store, key: &Key, seconds: u64) -> Result<u64, LedgerFault>
     requires granted { IsGranted store.old }
     requires listed { store.old.listed ≡ accounts_of (store_books store.old).entries }
     requires bound { total_seconds (store_books store.old) + seconds ≤ MOST_SECONDS_IN_ALL }

@@ -24,7 +24,7 @@ fn first_on(store: &Store, account: usize, holds: &[Hold]) -> Option<u64>
 }
 
 /// What a group holds once it is lowered to these holds, in the memory of the list that it held.
-pub fn lowered(store: &Store, held: ListOf<Amount>, holds: &[Hold]) -> ListOf<Amount>
+pub(crate) fn lowered(store: &Store, held: ListOf<Amount>, holds: &[Hold]) -> ListOf<Amount>
     requires { All (λ m. m.account < length store.now.keys) held }
     ensures { result ≡ lowered_to store.now.keys held holds.now }
 {

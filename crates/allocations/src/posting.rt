@@ -6,7 +6,7 @@ use plan_base::{GroupNo, ListOf, RequestNo};
 
 /// An entry, with its account's place.
 #[derive(Clone, Copy)]
-pub struct Posting {
+pub(crate) struct Posting {
     /// The place of its account in the register, from 0.
     pub account: usize,
     /// Whether the account gains or loses the seconds.
@@ -20,7 +20,7 @@ pub struct Posting {
 }
 
 /// What a group holds, by rising keys, and its ipp charge while that stands and wasn't refunded.
-pub struct GroupState {
+pub(crate) struct GroupState {
     /// Its number of the desk; the groups that are kept rise by it.
     pub group: GroupNo,
     /// The seconds of each account that it holds.

@@ -14,7 +14,7 @@ use std::alloc::{AllocError, Global};
 use std::marker::Model;
 
 /// An account in the order of keys.
-pub struct Listed {
+pub(crate) struct Listed {
     /// What names it.
     pub key: Key,
     /// Its place in the register, from 0.
@@ -29,7 +29,7 @@ impl Drop for Listed {
 
 /// The accounts, each with a place that it keeps: places count up from 0 in the order in which accounts are added.
 /// Contracts see the keys by place, and the keys in their order.
-pub struct Register {
+pub(crate) struct Register {
     keys: Vec<Key>,
     order: Vec<Listed>,
 }
@@ -61,7 +61,7 @@ fn search(order: &[Listed], key: &Key) -> Result<usize, usize>
 
 impl Register {
     /// No account.
-    pub fn new(alloc: Global) -> Self
+    pub(crate) fn new(alloc: Global) -> Self
         ensures keys { result.keys ≡ [] }
         ensures listed { result.listed ≡ [] }
     {
@@ -72,14 +72,14 @@ impl Register {
     }
 
     /// How many accounts there are.
-    pub fn len(&self) -> usize
+    pub(crate) fn len(&self) -> usize
         ensures { result ≡ length self.now.listed }
     {
         self.order.len()
     }
 
     /// The place of an account, or where it would stand in the order of keys.
-    pub fn find(&self, key: &Key) -> Result<usize, usize>
+    pub(crate) fn find(&self, key: &Key) -> Result<usize, usize>
         ensures found { IfOk result (λ place. slice_get self.now.keys place ≡ Some key.now) }
         ensures listed { OnOk result (insert_key key_cmp self.now.listed key.now ≡ self.now.listed) }
         ensures gap { IfErr result (IsGap key_cmp self.now.listed key.now) }
@@ -92,7 +92,7 @@ impl Register {
     }
 
     /// Whether a proposal has an account.
-    pub fn knows(&self, proposal: &Name) -> bool
+    pub(crate) fn knows(&self, proposal: &Name) -> bool
         ensures { IsTrue result ↔ Any (λ key. key.proposal ≡ proposal.now) self.now.keys }
     {
         self.order
@@ -101,7 +101,7 @@ impl Register {
     }
 
     /// The key of the account at a place.
-    pub fn key(&self, place: usize) -> &Key
+    pub(crate) fn key(&self, place: usize) -> &Key
         requires { place < length self.now.keys }
         ensures { result.now ≡ key_at self.now.keys place }
     {
@@ -109,7 +109,7 @@ impl Register {
     }
 
     /// The account at a place in the order of keys.
-    pub fn get(&self, index: usize) -> Option<&Key>
+    pub(crate) fn get(&self, index: usize) -> Option<&Key>
         ensures key { option_copied result ≡ slice_get self.now.listed index }
         ensures rising { Rises key_cmp self.now.listed }
         ensures listed { All (Contains self.now.keys) self.now.listed }
@@ -122,7 +122,7 @@ impl Register {
     }
 
     /// Adds an account where it stands in the order of keys. Fails only for want of memory, and then changes nothing.
-    pub fn add(&mut self, index: usize, key: &Key) -> Result<(), AllocError>
+    pub(crate) fn add(&mut self, index: usize, key: &Key) -> Result<(), AllocError>
         requires { IsGap key_cmp self.old.listed key.now index }
         ensures keys { OnOk result (self.new.keys ≡ self.old.keys ++ key.now ∷ []) }
         ensures listed { OnOk result (self.new.listed ≡ insert_key key_cmp self.old.listed key.now) }

@@ -23,7 +23,7 @@ use std::marker::Model;
 use std::mem;
 
 /// Accounts, entries and groups, with the balance and the held seconds of each account.
-pub struct Store {
+pub(crate) struct Store {
     register: Register,
     sums: Vec<Sums>,
     postings: Vec<Posting>,
@@ -57,7 +57,7 @@ impl Model for Store {
 
 impl Store {
     /// No account, no entry and no group.
-    pub fn new(alloc: Global) -> Self
+    pub(crate) fn new(alloc: Global) -> Self
         ensures keys { result.keys ≡ [] }
         ensures listed { result.listed ≡ [] }
         ensures postings { result.postings ≡ [] }
@@ -73,14 +73,14 @@ impl Store {
     }
 
     /// How many accounts there are.
-    pub fn accounts(&self) -> usize
+    pub(crate) fn accounts(&self) -> usize
         ensures { result ≡ length self.now.listed }
     {
         self.register.len()
     }
 
     /// The key of the account at a place.
-    pub fn key(&self, place: usize) -> &Key
+    pub(crate) fn key(&self, place: usize) -> &Key
         requires { place < length self.now.keys }
         ensures { result.now ≡ key_at self.now.keys place }
     {
@@ -88,7 +88,7 @@ impl Store {
     }
 
     /// The account at a place in the order of keys.
-    pub fn account(&self, index: usize) -> Option<&Key>
+    pub(crate) fn account(&self, index: usize) -> Option<&Key>
         ensures key { option_copied result ≡ slice_get self.now.listed index }
         ensures rising { Rises key_cmp self.now.listed }
         ensures listed { All (Contains self.now.keys) self.now.listed }
@@ -99,7 +99,7 @@ impl Store {
     }
 
     /// The place of an account, or where it would stand in the order of keys.
-    pub fn find(&self, key: &Key) -> Result<usize, usize>
+    pub(crate) fn find(&self, key: &Key) -> Result<usize, usize>
         ensures found { IfOk result (λ place. slice_get self.now.keys place ≡ Some key.now) }
         ensures listed { OnOk result (insert_key key_cmp self.now.listed key.now ≡ self.now.listed) }
         ensures gap { IfErr result (IsGap key_cmp self.now.listed key.now) }
@@ -110,7 +110,7 @@ impl Store {
     }
 
     /// Whether a proposal has an account.
-    pub fn knows(&self, proposal: &Name) -> bool
+    pub(crate) fn knows(&self, proposal: &Name) -> bool
         ensures known { IsTrue result ↔ Any (λ key. key.proposal ≡ proposal.now) self.now.keys }
         ensures sound { IsSound self.now }
     {
@@ -118,7 +118,7 @@ impl Store {
     }
 
     /// What an account has, and what groups hold of it.
-    pub fn sums(&self, place: usize) -> Sums
+    pub(crate) fn sums(&self, place: usize) -> Sums
         requires { place < length self.now.keys }
         ensures balance { result.balance + posted Charge place self.now.postings ≡ given_at place self.now.postings }
         ensures held { result.held ≡ held_at place self.now.groups }
@@ -130,7 +130,7 @@ impl Store {
 
     /// Adds an account where it stands in the order of keys, and gives its place. Fails only for want of memory, and then
     /// changes nothing.
-    pub fn add_account(&mut self, index: usize, key: &Key) -> Result<usize, AllocError>
+    pub(crate) fn add_account(&mut self, index: usize, key: &Key) -> Result<usize, AllocError>
         requires gap { IsGap key_cmp self.old.listed key.now index }
         requires absent { ¬ (Contains self.old.keys key.now) }
         ensures ok { OnOk result (self.new ≡ record self.old { keys = self.old.keys ++ key.now ∷ []; listed = insert_key key_cmp self.old.listed key.now }) }
@@ -149,7 +149,7 @@ impl Store {
     }
 
     /// Makes room for entries. Fails only for want of memory.
-    pub fn reserve(&mut self, entries: usize) -> Result<(), AllocError>
+    pub(crate) fn reserve(&mut self, entries: usize) -> Result<(), AllocError>
         ensures spare { OnOk result (entries ≤ self.new.spare) }
         ensures least { self.old.spare ≤ self.new.spare }
         ensures rest { self.new ≡ record self.old { spare = self.new.spare } }
@@ -161,7 +161,7 @@ impl Store {
     }
 
     /// Adds an entry.
-    pub fn post(&mut self, posting: Posting)
+    pub(crate) fn post(&mut self, posting: Posting)
         requires spare { 0 < self.old.spare }
         requires place { posting.account < length self.old.keys }
         requires room { CanPost self.old posting.account posting.kind posting.seconds }
@@ -175,7 +175,7 @@ impl Store {
     }
 
     /// Where a group stands, or where it would.
-    pub fn group_index(&self, group: GroupNo) -> Result<usize, usize>
+    pub(crate) fn group_index(&self, group: GroupNo) -> Result<usize, usize>
         ensures found { IsFoundAt nat_cmp (numbers_of self.now.groups) group.0 result }
         ensures sound { IsSound self.now }
     {
@@ -185,7 +185,7 @@ impl Store {
     }
 
     /// Where a group stands, if it is there.
-    pub fn find_group(&self, group: GroupNo) -> Option<usize>
+    pub(crate) fn find_group(&self, group: GroupNo) -> Option<usize>
         ensures found { let numbers = numbers_of self.now.groups in
             MatchOption result (¬ (Contains numbers group.0)) (λ index. slice_get numbers index ≡ Some group.0) }
         ensures within { IfSome result (λ index. index < length self.now.groups) }
@@ -198,7 +198,7 @@ impl Store {
     }
 
     /// Makes room for a group. Fails only for want of memory.
-    pub fn make_slot(&mut self) -> Result<(), AllocError>
+    pub(crate) fn make_slot(&mut self) -> Result<(), AllocError>
         ensures slot { OnOk result (0 < self.new.slots) }
         ensures rest { self.new ≡ record self.old { slots = self.new.slots } }
         ensures sound { IsSound self.new }
@@ -207,7 +207,7 @@ impl Store {
     }
 
     /// Adds a group that holds nothing.
-    pub fn open(&mut self, alloc: Global, index: usize, group: GroupNo)
+    pub(crate) fn open(&mut self, alloc: Global, index: usize, group: GroupNo)
         requires gap { IsGap nat_cmp (numbers_of self.old.groups) group.0 index }
         requires slot { 0 < self.old.slots }
         ensures { self.new ≡ record self.old { groups = insert self.old.groups index (empty_group group); slots = self.new.slots } }
@@ -221,7 +221,7 @@ impl Store {
     }
 
     /// Ends what a group holds, and gives the list of it.
-    pub fn unbook(&mut self, alloc: Global, index: usize) -> ListOf<Amount>
+    pub(crate) fn unbook(&mut self, alloc: Global, index: usize) -> ListOf<Amount>
         requires { index < length self.old.groups }
         ensures holds { result ≡ (group_at self.old.groups index).holds }
         ensures was { IsSound self.old }
@@ -234,7 +234,7 @@ impl Store {
     }
 
     /// Gives a group that holds nothing what it holds from now on.
-    pub fn book(&mut self, index: usize, holds: ListOf<Amount>)
+    pub(crate) fn book(&mut self, index: usize, holds: ListOf<Amount>)
         requires index { index < length self.old.groups }
         requires nothing { (group_at self.old.groups index).holds ≡ [] }
         requires places { All (λ m. m.account < length self.old.keys) holds }
@@ -247,7 +247,7 @@ impl Store {
     }
 
     /// Sets which ipp charge of a group stands.
-    pub fn set_ipp(&mut self, index: usize, ipp: Option<Amount>)
+    pub(crate) fn set_ipp(&mut self, index: usize, ipp: Option<Amount>)
         requires index { index < length self.old.groups }
         requires place { IfSome ipp (λ m. m.account < length self.old.keys) }
         ensures changed { self.new ≡ with_group self.old index (record (group_at self.old.groups index) { ipp = ipp }) }
@@ -257,7 +257,7 @@ impl Store {
     }
 
     /// What is left of an account by its charges and holds, with what the group at `old` gives back.
-    pub fn available(&self, place: usize, old: Option<usize>) -> u64
+    pub(crate) fn available(&self, place: usize, old: Option<usize>) -> u64
         requires place { place < length self.now.keys }
         requires old { IfSome old (λ j. j < length self.now.groups) }
         requires fits { given_at place (freed_postings old self.now.postings self.now.groups) < 2 ^ 64 }
@@ -276,7 +276,7 @@ impl Store {
     }
 
     /// Refunds the ipp charge of a group, where it stands.
-    pub fn refund(&mut self, index: usize)
+    pub(crate) fn refund(&mut self, index: usize)
         requires index { index < length self.old.groups }
         requires spare { 0 < self.old.spare }
         requires fits { All (λ p. given_at p.account self.old.postings + p.seconds < 2 ^ 64) (refunds_of (group_at self.old.groups index)) }
@@ -298,7 +298,7 @@ impl Store {
     }
 
     /// Ends what a group holds, and refunds its ipp charge where that stands.
-    pub fn free(&mut self, alloc: Global, index: usize)
+    pub(crate) fn free(&mut self, alloc: Global, index: usize)
         requires index { index < length self.old.groups }
         requires spare { 0 < self.old.spare }
         requires fits { All (λ p. given_at p.account self.old.postings + p.seconds < 2 ^ 64) (refunds_of (group_at self.old.groups index)) }

@@ -8,7 +8,7 @@ use crate::entry::EntryKind;
 
 /// Seconds of the account at a place of the register.
 #[derive(Clone, Copy)]
-pub struct Amount {
+pub(crate) struct Amount {
     /// The place of the account, from 0.
     pub account: usize,
     /// How many seconds of it.
@@ -17,7 +17,7 @@ pub struct Amount {
 
 /// What the entries leave of an account, and what groups hold of it.
 #[derive(Clone, Copy)]
-pub struct Sums {
+pub(crate) struct Sums {
     /// Its seconds: those granted and those refunded, less those charged.
     pub balance: u64,
     /// How many of these seconds groups hold.
@@ -26,7 +26,7 @@ pub struct Sums {
 
 impl Sums {
     /// The sums after an entry.
-    pub fn after(self, kind: EntryKind, seconds: u64) -> Sums
+    pub(crate) fn after(self, kind: EntryKind, seconds: u64) -> Sums
         requires { CanTake self kind seconds }
         ensures { result ≡ sums_after self kind seconds }
     {
@@ -53,7 +53,7 @@ impl Sums {
 }
 
 /// Adds amounts to what is held.
-pub fn raise(sums: &mut [Sums], amounts: &[Amount])
+pub(crate) fn raise(sums: &mut [Sums], amounts: &[Amount])
     requires places { All (λ m. m.account < length sums.old) amounts.now }
     requires room { (i : ℕ) → i < length sums.old
         → (slice_index_or sums.old i no_sums).held + amount_at i amounts.now ≤ (slice_index_or sums.old i no_sums).balance }
@@ -68,7 +68,7 @@ pub fn raise(sums: &mut [Sums], amounts: &[Amount])
 }
 
 /// Takes amounts from what is held.
-pub fn lower(sums: &mut [Sums], amounts: &[Amount])
+pub(crate) fn lower(sums: &mut [Sums], amounts: &[Amount])
     requires places { All (λ m. m.account < length sums.old) amounts.now }
     requires held { (i : ℕ) → i < length sums.old → amount_at i amounts.now ≤ (slice_index_or sums.old i no_sums).held }
     ensures held { (i : ℕ) → i < length sums.old
@@ -81,7 +81,7 @@ pub fn lower(sums: &mut [Sums], amounts: &[Amount])
 }
 
 /// The seconds of one account in a list of amounts.
-pub fn seconds_at(amounts: &[Amount], account: usize) -> u64
+pub(crate) fn seconds_at(amounts: &[Amount], account: usize) -> u64
     requires { amount_at account amounts.now < 2 ^ 64 }
     ensures { result ≡ amount_at account amounts.now }
 {
@@ -95,7 +95,7 @@ pub fn seconds_at(amounts: &[Amount], account: usize) -> u64
 }
 
 /// The seconds of one account in an amount, if there is one.
-pub fn seconds_in(amount: Option<Amount>, account: usize) -> u64
+pub(crate) fn seconds_in(amount: Option<Amount>, account: usize) -> u64
     ensures { result ≡ amount_at account (option_to_list amount) }
 {
     match amount {

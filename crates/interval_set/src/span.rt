@@ -16,7 +16,7 @@ pub fn common(one: Span, other: Span) -> Span
 }
 
 /// The seconds from `from` to the beginning of the span at place `next`, or to `end` where there is none.
-pub fn gap_before(from: Sec, spans: &[Span], next: usize, end: Sec) -> Span
+pub(crate) fn gap_before(from: Sec, spans: &[Span], next: usize, end: Sec) -> Span
     ensures from { result.from ≡ from }
     ensures before { next < length spans.now → HoldsAt (λ s. result.to ≡ s.from) spans.now next }
     ensures last { length spans.now ≤ next → result.to ≡ end }

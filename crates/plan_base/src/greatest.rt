@@ -37,7 +37,7 @@ pub const MOST_SLICES: u32 = 1_440;
 pub const MOST_REQUESTS: usize = 1_024;
 
 /// The most telescopes of a snapshot.
-pub const MOST_TELESCOPES: usize = 32;
+pub(crate) const MOST_TELESCOPES: usize = 32;
 
 /// The most possible starts of a snapshot that is planned.
 pub const MOST_STARTS: u64 = 1_048_576;

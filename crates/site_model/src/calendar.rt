@@ -27,7 +27,7 @@ pub struct SkyKey {
 
 /// The night of each site, the closures of each telescope, and the sky of each target at each site. There is a night and
 /// there are closures for every number that there may be, without seconds at first.
-pub struct Calendar {
+pub(crate) struct Calendar {
     nights: Vec<Spans>,
     closures: Vec<Spans>,
     skies: IndexMap<SkyKey, Spans>,
@@ -63,7 +63,7 @@ impl Model for Calendar {
 
 impl Calendar {
     /// No seconds at any number. Fails only for want of memory.
-    pub fn new(alloc: Global) -> Result<Self, AllocError>
+    pub(crate) fn new(alloc: Global) -> Result<Self, AllocError>
         ensures { IfOk result (λ calendar. calendar ≡ no_calendar) }
     {
         Ok(Calendar {
@@ -77,7 +77,7 @@ impl Calendar {
     }
 
     /// Replaces the night of a site. Fails only for want of memory, and then changes nothing.
-    pub fn set_night(&mut self, site: SiteNo, spans: &Spans) -> Result<(), AllocError>
+    pub(crate) fn set_night(&mut self, site: SiteNo, spans: &Spans) -> Result<(), AllocError>
         requires site { site.0 < most_sites }
         requires few { length spans.now ≤ most_spans }
         ensures ok { OnOk result (self.new ≡ with_night self.old site.0 spans.now) }
@@ -89,7 +89,7 @@ impl Calendar {
     }
 
     /// Replaces the sky of a target at a site. `Full` comes where all skies would have too many pieces.
-    pub fn set_sky(&mut self, key: SkyKey, spans: &Spans) -> Result<(), SiteFault>
+    pub(crate) fn set_sky(&mut self, key: SkyKey, spans: &Spans) -> Result<(), SiteFault>
         requires { length spans.now ≤ most_spans }
         ensures { ChangesOrRefuses (sky_refusal self.old key spans.now) self.old (with_sky self.old key spans.now) self.new result }
     {
@@ -106,7 +106,7 @@ impl Calendar {
 
     /// Adds seconds to the closures of telescopes, or takes them away. `Full` comes where one of them would have too many
     /// pieces.
-    pub fn change(
+    pub(crate) fn change(
         &mut self,
         change: Change,
         telescopes: &[TelescopeNo],
@@ -130,7 +130,7 @@ impl Calendar {
     }
 
     /// The seconds of a site's night that a telescope's closures don't have. Fails only for want of memory.
-    pub fn usable(&self, site: SiteNo, telescope: TelescopeNo) -> Result<Spans, AllocError>
+    pub(crate) fn usable(&self, site: SiteNo, telescope: TelescopeNo) -> Result<Spans, AllocError>
         requires site { site.0 < most_sites }
         requires telescope { telescope.0 < most_telescopes }
         ensures usable { IfOk result (IsDifference (set_at self.now.nights site.0) (set_at self.now.closures telescope.0)) }
@@ -142,7 +142,7 @@ impl Calendar {
     }
 
     /// The sky of a target at a site.
-    pub fn sky(&self, key: SkyKey) -> &Spans
+    pub(crate) fn sky(&self, key: SkyKey) -> &Spans
         ensures sky { result.now ≡ sky_of self.now.skies key }
         ensures few { length result.now ≤ most_spans }
         ensures limits { IsWithinLimits self.now }

@@ -22,7 +22,7 @@ pub enum Change {
 
 /// The closed seconds that a telescope is to have.
 #[derive(Drop)]
-pub struct Closed {
+pub(crate) struct Closed {
     /// The number of the telescope.
     pub telescope: TelescopeNo,
     /// All seconds in which it is to be closed.
@@ -47,7 +47,7 @@ fn changed(alloc: Global, change: Change, closed: &Spans, spans: &Spans) -> Resu
 }
 
 /// What the line makes of the closures of each of the telescopes. `Full` comes where one of them has too many pieces.
-pub fn changes_of(
+pub(crate) fn changes_of(
     alloc: Global,
     change: Change,
     telescopes: &[TelescopeNo],
@@ -71,7 +71,7 @@ pub fn changes_of(
 }
 
 /// Puts each change in the place of its telescope.
-pub fn put(closures: &mut Vec<Spans>, changes: Vec<Closed>)
+pub(crate) fn put(closures: &mut Vec<Spans>, changes: Vec<Closed>)
     requires { All (λ c. c.telescope.0 < length closures.old.items) changes.items }
     ensures { closures.new.items ≡ with_changes closures.old.items changes.items }
 {

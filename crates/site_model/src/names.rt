@@ -17,7 +17,7 @@ use std::alloc::Global;
 
 /// The number of a name, which gets the next one where it is new; `Full` where there are as many as there may be. An error
 /// changes nothing.
-pub fn number(
+pub(crate) fn number(
     names: &mut IndexSet<Name>,
     alloc: Global,
     name: &Name,
@@ -37,7 +37,7 @@ pub fn number(
 }
 
 /// The places of the instruments of these names. `NoSuchInstrument` names the first that isn't registered.
-pub fn places_of(
+pub(crate) fn places_of(
     alloc: Global,
     instruments: &IndexMap<Name, InstrumentTimes>,
     names: &[Name],

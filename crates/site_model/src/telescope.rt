@@ -17,7 +17,7 @@ use plan_base::{ListOf, Name, SiteNo, TelescopeNo};
 use std::alloc::Global;
 
 /// What is kept of a telescope beside its code: the number of its site, its class, and the places of its instruments.
-pub struct Telescope {
+pub(crate) struct Telescope {
     /// The number of the site where it stands.
     pub site: SiteNo,
     /// Its class, such as `1m0`.
@@ -37,7 +37,7 @@ impl Drop for Telescope {
 }
 
 /// Whether a telescope has the class, and the site, the enclosure and the code where these are given.
-pub fn has_names(
+pub(crate) fn has_names(
     names: &Code,
     telescope: &Telescope,
     class: &Name,
@@ -55,7 +55,7 @@ pub fn has_names(
 }
 
 /// Whether a telescope carries an instrument.
-pub fn carries(
+pub(crate) fn carries(
     instruments: &IndexMap<Name, InstrumentTimes>,
     telescope: &Telescope,
     name: &Name,
@@ -80,7 +80,7 @@ fn is_or_any(name: &Name, asked: Option<&Name>) -> bool
 }
 
 /// The numbers of the telescopes of a site, rising. Fails only for want of memory.
-pub fn numbers_at(
+pub(crate) fn numbers_at(
     alloc: Global,
     telescopes: &IndexMap<Code, Telescope>,
     site: SiteNo,
