@@ -43,8 +43,11 @@ pub enum Command {
     },
     /// `telescope`: a telescope is registered.
     Telescope {
+        /// The code of its site, a new one where no telescope has it.
         site: Name,
+        /// The code of its enclosure.
         enclosure: Name,
+        /// Its own code: no other telescope has all three.
         telescope: Name,
         /// The class of its aperture, such as `1m0`.
         class: Name,
@@ -53,25 +56,32 @@ pub enum Command {
     },
     /// `night`: when it is night at a site.
     Night {
+        /// The site's code.
         site: Name,
+        /// The seconds of its nights, in place of those before.
         spans: ListOf<Span>,
     },
     /// `visibility`: when a target can be observed from a site.
     Visibility {
+        /// The target's name.
         target: Name,
+        /// The site's code.
         site: Name,
+        /// The seconds at which it can be observed from there, in place of those before.
         spans: ListOf<Span>,
     },
     /// `close`: telescopes are closed.
     Close {
         /// The telescope of the members `site`, `enclosure` and `telescope` where `telescope` is there, else the site.
         scope: Scope,
+        /// The seconds for which they are closed, beside those of before.
         spans: ListOf<Span>,
     },
     /// `reopen`: closures are taken back.
     Reopen {
         /// As that of `close`.
         scope: Scope,
+        /// The seconds for which they are closed no longer.
         spans: ListOf<Span>,
     },
     /// `grant`: a time account gets seconds.
@@ -83,23 +93,29 @@ pub enum Command {
     },
     /// `submit`: a request group is submitted.
     Submit {
+        /// The group, as its document has it.
         group: GroupDoc,
     },
     /// `amend`: a group is withdrawn and another submitted in its place.
     Amend {
+        /// The number of the group that is withdrawn.
         group_number: GroupNo,
+        /// The group that is submitted, as its document has it.
         group: GroupDoc,
     },
     /// `withdraw`: a group is withdrawn.
     Withdraw {
+        /// The number of the group.
         group_number: GroupNo,
     },
     /// `clock`: the desk's time moves on to `at`.
     Clock {
+        /// The moment that it then is.
         at: Sec,
     },
     /// `report`: an observation has ended.
     Report {
+        /// The number of the request that was observed.
         request: RequestNo,
         /// How much of it was taken, 0 to 100.
         percent: u8,
@@ -112,6 +128,7 @@ pub enum Command {
     Publish {
         /// The version of the desk that it is meant for, 0 to 524,288.
         version: u64,
+        /// The plan with its value, its bound and the prices that give it.
         claim: Claim,
     },
     /// `export`: the last publication is shown.
@@ -120,6 +137,7 @@ pub enum Command {
     Balances,
     /// `show`: a group is shown.
     Show {
+        /// The number of the group.
         group_number: GroupNo,
     },
 }

@@ -17,11 +17,11 @@ pub enum What {
 pub struct EventEntry {
     /// Who sent the line, 0 to 7.
     pub caller: u8,
-    /// The line's place in the caller's script, from 1.
+    /// The line's place in the caller's script, 1 to 65,536.
     pub line: u32,
     /// Which step of the line it is.
     pub what: What,
-    /// How many entries before it changed the desk.
+    /// How many entries before it changed the desk, at most 524,288.
     pub version: u64,
     /// What is replied to it.
     pub reply: Reply,

@@ -52,6 +52,7 @@ pub enum Reply {
     Instrument,
     /// `telescope`: it is registered and has this number.
     Telescope {
+        /// 0 to 31, in the order in which telescopes are registered.
         telescope: TelescopeNo,
     },
     /// `night`: the site's night is as the line says.
@@ -64,6 +65,7 @@ pub enum Reply {
     Reopened,
     /// `granted`: the account has so many seconds now.
     Granted {
+        /// Its seconds: those granted and those refunded, less those charged.
         balance: u64,
     },
     /// `submitted`
@@ -90,6 +92,7 @@ pub enum Reply {
     },
     /// `withdrawn`
     Withdrawn {
+        /// What was refunded of the group.
         refunded: ListOf<GroupRefund>,
     },
     /// `clocked`
@@ -98,6 +101,7 @@ pub enum Reply {
         expired: ListOf<RequestNo>,
         /// The requests that ended without a report.
         failed: ListOf<RequestNo>,
+        /// What was refunded of the groups that are no longer pending.
         refunded: ListOf<GroupRefund>,
         /// The requests that began to run.
         started: ListOf<RequestNo>,
@@ -106,36 +110,44 @@ pub enum Reply {
     Completed {
         /// The requests of its group that are no longer wanted.
         canceled: ListOf<RequestNo>,
-        /// The seconds that were charged.
+        /// The seconds that were charged, 0 to 86,400.
         charged: u64,
     },
     /// `failed`: too little of the request was taken.
     Failed {
         /// The requests whose windows have ended, and those that can't be taken without them.
         expired: ListOf<RequestNo>,
+        /// What was refunded of the groups that are no longer pending.
         refunded: ListOf<GroupRefund>,
     },
     /// `taken`: the snapshot of a plan was taken.
     Taken,
     /// `published`: the claim's placements are the plan from now on.
     Published {
+        /// The claim, certified for the snapshot of the desk.
         claim: Claim,
     },
     /// `exported`: the last claim that was published, and the snapshot that it is of.
     Exported {
+        /// That claim.
         claim: Claim,
+        /// The snapshot for which it is certified.
         snapshot: Snapshot,
     },
     /// `balances`: all accounts, by proposal, then in the order of accounts, then by instrument type.
     Balances {
+        /// What each of them has.
         balances: ListOf<AccountBalance>,
     },
     /// `shown`
     Shown {
         /// The group as it was submitted.
         document: GroupDoc,
+        /// The group's number.
         group: GroupNo,
+        /// How far each of its requests has come, by rising numbers.
         requests: ListOf<MemberState>,
+        /// How far the group has come.
         state: RequestState,
     },
     /// The line is refused, and the desk is as before.
