@@ -104,6 +104,7 @@ impl Model for Publication {
 }
 
 impl Publication {
+    /// The publication of a claim for the snapshot.
     pub(crate) fn new(snapshot: Snapshot, claim: Claim) -> Publication
         requires { AreParts snapshot }
         ensures { result ≡ record { snapshot = snapshot; claim = claim } }

@@ -16,8 +16,11 @@ use std::alloc::{AllocError, Global};
 /// What an open group holds from now on, and its ipp charge where that is given back.
 #[derive(Drop)]
 pub(crate) struct Ending {
+    /// Which group it is.
     pub group: GroupNo,
+    /// What it holds from now on, account by account.
     pub holds: ListOf<Hold>,
+    /// Its ipp charge, where that is given back.
     pub refund: Option<Hold>,
 }
 

@@ -36,17 +36,20 @@ const MOST_PENDING: usize = 1_024;
 /// A group that is to be booked.
 #[derive(Drop)]
 pub(crate) struct NewGroup {
+    /// Its number.
     pub number: GroupNo,
     /// What it holds.
     pub holds: ListOf<Hold>,
     /// The numbers of its requests.
     pub requests: ListOf<RequestNo>,
+    /// What is kept of it.
     pub submitted: Submitted,
 }
 
 /// What is told of a group that was booked.
 #[derive(Drop)]
 pub(crate) struct Booked {
+    /// Its number.
     pub group: GroupNo,
     /// The seconds that its ipp account was charged.
     pub ipp_charged: u64,

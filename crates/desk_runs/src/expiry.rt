@@ -16,7 +16,9 @@ use std::alloc::{AllocError, Global};
 /// Groups of which requests became window expired, as they then are, and these requests.
 #[derive(Drop)]
 pub struct Expiry {
+    /// The groups, by rising numbers.
     pub groups: Vec<Group>,
+    /// The requests, in rising order.
     pub requests: Vec<RequestNo>,
 }
 

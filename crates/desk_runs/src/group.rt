@@ -52,7 +52,7 @@ impl Drop for Group {
 }
 
 impl Request {
-    // The same request in another state.
+    /// The same request in another state.
     pub(crate) fn in_state(self, state: RequestState) -> Request
         ensures { result ≡ with_state state self }
     {

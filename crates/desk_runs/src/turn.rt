@@ -144,8 +144,11 @@ pub fn requests_in(
 /// Kept observations of which some have begun.
 #[derive(Drop)]
 pub struct Started {
+    /// Those that haven't begun.
     pub kept: Vec<Observation>,
+    /// Those that run, the ones that began last at the end.
     pub running: Vec<Observation>,
+    /// The requests of those that began, in rising order.
     pub requests: ListOf<RequestNo>,
 }
 
@@ -188,7 +191,9 @@ pub fn start(
 /// Running observations of which some have stopped.
 #[derive(Drop)]
 pub struct Stopped {
+    /// Those that still run.
     pub running: Vec<Observation>,
+    /// The requests of those that stopped, in rising order.
     pub requests: ListOf<RequestNo>,
 }
 

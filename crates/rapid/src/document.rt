@@ -20,7 +20,9 @@ const MOST_GROUPS: u32 = 64;
 /// A snapshot with a claim on it, and groups to insert.
 #[derive(Drop)]
 pub(crate) struct RapidDocument {
+    /// The snapshot with the claim.
     pub publication: Publication,
+    /// The groups, 1 to 64, inserted in this order.
     pub groups: ListOf<GroupPart>,
 }
 

@@ -14,6 +14,7 @@ use std::alloc::{AllocError, Global};
 /// A placement, with what is asked of it again and again.
 #[derive(Clone, Copy)]
 pub(crate) struct Held {
+    /// The placement itself.
     pub placement: Placement,
     /// The slice after its last.
     pub after: u64,

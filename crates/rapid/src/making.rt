@@ -24,17 +24,22 @@ use std::alloc::{AllocError, Global};
 /// A claim on a snapshot with one more group, and what belongs to it.
 #[derive(Drop)]
 pub(crate) struct Priced {
+    /// The claim, certified for that snapshot.
     pub claim: Claim,
     /// What each telescope gives from each slice of the horizon on, at the claim's prices.
     pub tables: ListOf<ListOf<i64>>,
+    /// The requests that had to go for the new one, in rising order.
     pub displaced: ListOf<RequestNo>,
+    /// Where the new request is placed.
     pub inserted: Inserted,
 }
 
 /// A snapshot with one more group, and the claim on it.
 #[derive(Drop)]
 pub(crate) struct Made {
+    /// The snapshot, the group at its end.
     pub snapshot: Snapshot,
+    /// The claim, with what belongs to it.
     pub priced: Priced,
 }
 

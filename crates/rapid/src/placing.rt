@@ -20,6 +20,7 @@ use std::alloc::{AllocError, Global};
 /// A plan with a new request in it, if that has a place.
 #[derive(Drop)]
 pub(crate) struct Placing {
+    /// Where the new request is placed.
     pub inserted: Inserted,
     /// By telescope, then slice.
     pub placements: ListOf<Placement>,

@@ -16,8 +16,11 @@ use std::alloc::{AllocError, Global};
 /// prices that stand.
 #[derive(Drop)]
 pub(crate) struct Pricing {
+    /// One for each request, that of the new one at the end.
     pub prices: Prices,
+    /// What each telescope gives from each slice of the horizon on.
     pub tables: ListOf<ListOf<i64>>,
+    /// The bound.
     pub bound: u64,
 }
 

@@ -18,6 +18,7 @@ use std::alloc::{AllocError, Global};
 /// A start that qualifies.
 #[derive(Drop)]
 pub(crate) struct Found {
+    /// The start itself.
     pub start: Placement,
     /// What has to go for it.
     pub gone: Vec<Placement>,

@@ -55,8 +55,11 @@ impl Json for PlacedDoc {
 /// `placed`, where the new one is placed, or `null`.
 #[derive(Drop)]
 pub(crate) struct InsertedDoc<'a> {
+    /// The claim after the insertion.
     pub claim: &'a Claim,
+    /// The requests that it displaced, in rising order.
     pub displaced: &'a ListOf<RequestNo>,
+    /// Where the new request is placed.
     pub inserted: Inserted,
 }
 

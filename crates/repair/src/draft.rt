@@ -79,6 +79,7 @@ impl<'a> Draft<'a> {
         let _ = self.build.placed();
     }
 
+    /// Whether the request is placed.
     pub(crate) fn is_placed(&self, request: RequestNo) -> bool
         ensures { IsTrue result ↔ Contains (requests_of self.now.placed) request.0 }
     {

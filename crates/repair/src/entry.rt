@@ -11,6 +11,7 @@ use std::alloc::{AllocError, Global};
 
 /// A request, with the runs of its possible starts.
 pub(crate) struct Entry {
+    /// Its number.
     pub request: RequestNo,
     /// Its place among all.
     pub place: usize,

@@ -11,6 +11,7 @@ use std::alloc::{AllocError, Global};
 /// What a request is worth, and how it fades.
 #[derive(Clone, Copy)]
 pub(crate) struct Offer {
+    /// Which request it is.
     pub request: RequestNo,
     /// Whether its group is an AND.
     pub is_of_and: bool,
@@ -24,7 +25,9 @@ pub(crate) struct Offer {
 
 /// The offers of all requests, by their places.
 pub(crate) struct Offers {
+    /// The offer of each request, in their order.
     pub by_place: Vec<Offer>,
+    /// Where each request stands among all.
     pub places: Places,
 }
 

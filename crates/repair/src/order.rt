@@ -9,7 +9,9 @@ use std::cmp::Reverse;
 /// The place of a worth, ordered by the worth, falling, and then by itself.
 #[derive(Clone, Copy, PartialEq, Eq, PartialOrd, Ord)]
 pub(crate) struct Rank {
+    /// The worth, of which the greatest comes first.
     pub worth: Reverse<u64>,
+    /// Its place among all worths.
     pub place: usize,
 }
 

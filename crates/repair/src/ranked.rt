@@ -19,9 +19,13 @@ use std::cmp::Reverse;
 /// A start, ordered by its worth, falling, then by request, telescope and slice.
 #[derive(Clone, Copy, PartialEq, Eq, PartialOrd, Ord)]
 pub(crate) struct Ranked {
+    /// What the request is worth at this start; the greatest comes first.
     pub worth: Reverse<u32>,
+    /// Which request it is a start of.
     pub request: RequestNo,
+    /// On which telescope it is.
     pub telescope: TelescopeNo,
+    /// Its first slice.
     pub slice: SliceNo,
 }
 

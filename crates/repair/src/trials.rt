@@ -17,7 +17,9 @@ use std::alloc::{AllocError, Global};
 
 /// A group, with its requests in the order in which they are tried.
 pub(crate) struct Trial {
+    /// Which of its requests may be placed together.
     pub op: Op,
+    /// Its requests, in that order.
     pub entries: Vec<Entry>,
 }
 
@@ -29,7 +31,9 @@ impl Drop for Trial {
 
 /// All groups in their order, and their places in the order of a pass.
 pub(crate) struct Trials {
+    /// The groups, in the snapshot's order.
     pub groups: Vec<Trial>,
+    /// Their places, by falling worth, then by place.
     pub order: Vec<usize>,
 }
 

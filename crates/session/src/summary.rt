@@ -12,6 +12,7 @@ use std::alloc::{AllocError, Global};
 pub(crate) struct Summary {
     /// The bound of the last claim that was published, or 0.
     pub bound: u64,
+    /// How many lines there were.
     pub lines: u64,
     /// How many entries are refused.
     pub refused: u64,

@@ -7,6 +7,7 @@ ghost use Rattle.workload.specs.Generator.{next_number, drawn_at};
 /// by the next, to take its upper 31 bits.
 #[derive(Drop)]
 pub(crate) struct Draws {
+    /// That number.
     pub x: u64,
 }
 

@@ -92,8 +92,11 @@ impl Json for Name {
 /// A name that is a letter and a number. What memory it takes to write comes from the allocator.
 #[derive(Drop)]
 pub(crate) struct Numbered<'a> {
+    /// The allocator.
     pub alloc: Global,
+    /// What stands before the number.
     pub letter: &'a str,
+    /// The number, written in decimal digits.
     pub number: u32,
 }
 

@@ -19,6 +19,7 @@ fn put_byte(out: &mut Vec<u8>, byte: u8) -> Result<(), AllocError>
 /// The list of one item.
 #[derive(Drop)]
 pub(crate) struct One<T> {
+    /// The item.
     pub item: T,
 }
 

@@ -16,10 +16,15 @@ use std::alloc::{AllocError, Global};
 /// A request as it is drawn: an exposure of a target by telescopes of a class, within a window of seconds.
 #[derive(Clone, Copy)]
 pub(crate) struct Request {
+    /// The class of the telescopes.
     pub class: Class,
+    /// The number of its target, 0 to 39.
     pub target: u32,
+    /// How long it is exposed, 60,000 to 1,200,000 milliseconds.
     pub exposure_ms: u32,
+    /// The first second of its window, 0 to 21,300.
     pub start: u32,
+    /// The second after its window, 7,200 to 21,300 after the first.
     pub end: u32,
 }
 
@@ -120,6 +125,7 @@ impl Json for Window {
 /// Requests as documents. What memory it takes comes from the allocator.
 #[derive(Drop)]
 pub(crate) struct AsDocument {
+    /// The allocator.
     pub alloc: Global,
 }
 

@@ -26,14 +26,18 @@ const MOST_CONFIGURATIONS: u32 = 16;
 /// A configuration, with its instrument type.
 #[derive(Drop)]
 pub(crate) struct Typed {
+    /// The instrument type.
     pub instrument: Name,
+    /// The configuration.
     pub configuration: ConfigDoc,
 }
 
 /// Configurations of one instrument type.
 #[derive(Drop)]
 pub(crate) struct OfOneType {
+    /// The instrument type.
     pub instrument: Name,
+    /// The configurations, 1 to 16, in the document's order.
     pub configurations: ListOf<ConfigDoc>,
 }
 

@@ -21,6 +21,7 @@ impl Json for Exposure {
 /// Configurations of one instrument type.
 #[derive(Drop)]
 pub(crate) struct OfType<'a> {
+    /// The instrument type.
     pub instrument: &'a Name,
 }
 
