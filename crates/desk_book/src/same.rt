@@ -19,7 +19,7 @@ fn are_same_settings(a: &Settings, b: &Settings) -> bool
 }
 
 /// Whether the same was taken.
-pub fn is_same(a: &Taken, b: &Taken) -> bool
+pub(crate) fn is_same(a: &Taken, b: &Taken) -> bool
     ensures { IsTrue result ↔ (a.now ≡ b.now) }
 {
     a.caller == b.caller

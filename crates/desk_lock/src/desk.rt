@@ -38,12 +38,12 @@ pub(crate) struct Held<S: Sending> {
 
 impl<S: Sending> Held<S> {
     /// Whether the caller's script has a line at this place; there may be no such caller.
-    pub fn has_line(&self, caller: u8, index: u32) -> bool {
+    pub(crate) fn has_line(&self, caller: u8, index: u32) -> bool {
         caller < self.book.callers() && self.book.line(caller, index).is_some()
     }
 
     /// Does the caller's next line, or only takes what it asks to be planned. Where there is no such caller, none is left.
-    pub fn perform(&mut self, caller: u8) -> Result<BookStep, AllocError>
+    pub(crate) fn perform(&mut self, caller: u8) -> Result<BookStep, AllocError>
         ensures { IfOk result IsStepInRange }
     {
         if caller >= self.book.callers() {
@@ -55,7 +55,7 @@ impl<S: Sending> Held<S> {
     }
 
     /// Publishes the plan of what the caller took, whatever that is.
-    pub fn publish_kept<R: Threads + Sync>(
+    pub(crate) fn publish_kept<R: Threads + Sync>(
         &mut self,
         rt: &R,
         alloc: Global,
@@ -70,7 +70,7 @@ impl<S: Sending> Held<S> {
 
     /// Publishes what was found for what the caller took. Where it was found for another Take, its own is sought anew: no call
     /// comes to that, but what lies under a lock doesn't tell.
-    pub fn publish<R: Threads + Sync>(
+    pub(crate) fn publish<R: Threads + Sync>(
         &mut self,
         rt: &R,
         alloc: Global,

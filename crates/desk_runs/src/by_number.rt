@@ -10,14 +10,14 @@ use crate::group::Group;
 use plan_base::GroupNo;
 
 /// The group at a place, if there is one.
-pub fn at_place(groups: &[Group], place: usize) -> Option<&Group>
+pub(crate) fn at_place(groups: &[Group], place: usize) -> Option<&Group>
     ensures { option_copied result ≡ slice_get groups.now place }
 {
     groups.get(place)
 }
 
 /// The group at the place of a number.
-pub fn group_of(groups: &[Group], number: GroupNo) -> &Group
+pub(crate) fn group_of(groups: &[Group], number: GroupNo) -> &Group
     requires { (1 ≤ number.0) × (number.0 ≤ length groups.now) }
     ensures { result.now ≡ group_of groups.now number }
 {
@@ -25,7 +25,7 @@ pub fn group_of(groups: &[Group], number: GroupNo) -> &Group
 }
 
 /// Puts groups in the places of their numbers.
-pub fn put_groups(groups: &mut Vec<Group>, changed: Vec<Group>)
+pub(crate) fn put_groups(groups: &mut Vec<Group>, changed: Vec<Group>)
     ensures { groups.new.items ≡ fold put groups.old.items changed.items }
 {
     for group in changed {
@@ -50,14 +50,14 @@ fn is_open_at(groups: &[Group], number: GroupNo) -> bool
 }
 
 /// Keeps the numbers of groups that are open.
-pub fn keep_open(numbers: &mut Vec<GroupNo>, groups: &[Group])
+pub(crate) fn keep_open(numbers: &mut Vec<GroupNo>, groups: &[Group])
     ensures { numbers.new.items ≡ filter (is_open_at groups.now) numbers.old.items }
 {
     numbers.retain(|number| is_open_at(groups, *number));
 }
 
 /// How many requests of the groups with these numbers are pending.
-pub fn count_pending(groups: &[Group], numbers: &[GroupNo]) -> usize
+pub(crate) fn count_pending(groups: &[Group], numbers: &[GroupNo]) -> usize
     requires there { All (λ n. (1 ≤ n.0) × (n.0 ≤ length groups.now)) numbers.now }
     requires few { sum_by (λ n. pending_of (group_of groups.now n)) numbers.now < 2 ^ 32 }
     ensures { result ≡ sum_by (λ n. pending_of (group_of groups.now n)) numbers.now }

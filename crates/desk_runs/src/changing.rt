@@ -118,7 +118,7 @@ fn with_completed(
 }
 
 /// The group with its past requests window expired.
-pub fn with_past(
+pub(crate) fn with_past(
     alloc: Global,
     group: &Group,
     running: &[Observation],
@@ -131,7 +131,11 @@ pub fn with_past(
 }
 
 /// The group, and where it is lost, its waiting requests window expired.
-pub fn with_lost(alloc: Global, group: Group, running: &[Observation]) -> Result<Group, AllocError>
+pub(crate) fn with_lost(
+    alloc: Global,
+    group: Group,
+    running: &[Observation],
+) -> Result<Group, AllocError>
     ensures { IfOk result (λ g. g ≡ with_lost running.now group) }
 {
     if !group.is_lost() {
@@ -142,7 +146,7 @@ pub fn with_lost(alloc: Global, group: Group, running: &[Observation]) -> Result
 }
 
 /// The group with its pending requests canceled.
-pub fn canceled(alloc: Global, group: &Group) -> Result<Group, AllocError>
+pub(crate) fn canceled(alloc: Global, group: &Group) -> Result<Group, AllocError>
     ensures { IfOk result (λ g. g ≡ canceled group.now) }
 {
     let requests = with_pending_canceled(alloc, group.requests.as_slice())?;
@@ -158,7 +162,11 @@ fn with_one_completed(alloc: Global, group: &Group, number: RequestNo) -> Result
 }
 
 /// The group with a request completed, and in a `ONEOF` the other pending members canceled.
-pub fn completed(alloc: Global, group: &Group, number: RequestNo) -> Result<Group, AllocError>
+pub(crate) fn completed(
+    alloc: Global,
+    group: &Group,
+    number: RequestNo,
+) -> Result<Group, AllocError>
     ensures { IfOk result (λ g. g ≡ completed number group.now) }
 {
     let done = with_one_completed(alloc, group, number)?;

@@ -15,7 +15,7 @@ use std::alloc::{AllocError, Global};
 
 /// Groups of which requests became window expired, as they then are, and these requests.
 #[derive(Drop)]
-pub struct Expiry {
+pub(crate) struct Expiry {
     /// The groups, by rising numbers.
     pub groups: Vec<Group>,
     /// The requests, in rising order.
@@ -23,7 +23,7 @@ pub struct Expiry {
 }
 
 /// The group after a moment, with its past requests window expired, and where it then is lost, its waiting ones too.
-pub fn turned(
+pub(crate) fn turned(
     alloc: Global,
     group: &Group,
     running: &[Observation],
@@ -80,7 +80,7 @@ fn push_became(
 }
 
 /// Adds the requests that were pending and now are in the state.
-pub fn extend_became(
+pub(crate) fn extend_became(
     requests: &mut Vec<RequestNo>,
     state: RequestState,
     before: &[Request],
@@ -110,7 +110,7 @@ fn push_over(
 }
 
 /// Adds the requests that were pending and no longer are.
-pub fn extend_over(
+pub(crate) fn extend_over(
     requests: &mut Vec<RequestNo>,
     before: &[Request],
     after: &[Request],
@@ -151,7 +151,7 @@ fn turn_group(
 }
 
 /// What a moment does to the groups with these numbers.
-pub fn expire(
+pub(crate) fn expire(
     alloc: Global,
     groups: &[Group],
     opened: &[GroupNo],

@@ -72,7 +72,7 @@ impl Request {
     }
 
     /// Whether it is waiting and its last window has ended.
-    pub fn is_past(&self, running: &[Observation], now: Sec) -> bool
+    pub(crate) fn is_past(&self, running: &[Observation], now: Sec) -> bool
         ensures { result ≡ is_past running.now now self.now }
     {
         self.last.0 <= now.0 && self.is_waiting(running)
@@ -146,7 +146,7 @@ impl Group {
     }
 
     /// Whether it is an `AND` with a window expired member.
-    pub fn is_lost(&self) -> bool
+    pub(crate) fn is_lost(&self) -> bool
         ensures { result ≡ is_lost self.now }
     {
         self.op.is_and() && self.has_state(RequestState::WindowExpired)

@@ -8,7 +8,7 @@ use plan_base::{ListOf, RequestNo, RequestState};
 use std::alloc::{AllocError, Global};
 
 /// Pending requests for what is asked, with numbers from the first on.
-pub fn pending_requests(
+pub(crate) fn pending_requests(
     alloc: Global,
     first: u32,
     asks: &[Ask],
@@ -29,7 +29,11 @@ pub fn pending_requests(
 }
 
 /// Adds the place of a group for each of its requests. Fails only for want of memory, and then changes nothing.
-pub fn push_owners(owners: &mut Vec<usize>, place: usize, count: usize) -> Result<(), AllocError>
+pub(crate) fn push_owners(
+    owners: &mut Vec<usize>,
+    place: usize,
+    count: usize,
+) -> Result<(), AllocError>
     requires { length owners.old.items + count < 2 ^ 32 }
     ensures ok { OnOk result (owners.new.items ≡ owners.old.items ++ replicate count place) }
     ensures err { OnErr result (owners.new.items ≡ owners.old.items) }

@@ -36,14 +36,14 @@ impl Observation {
     }
 
     /// Whether its start is below now.
-    pub fn has_begun(&self, len: u32, now: Sec) -> bool
+    pub(crate) fn has_begun(&self, len: u32, now: Sec) -> bool
         ensures { result ≡ has_begun len now self.now }
     {
         self.start(len) < now.0
     }
 
     /// Whether its end is below now.
-    pub fn has_ended(&self, len: u32, now: Sec) -> bool
+    pub(crate) fn has_ended(&self, len: u32, now: Sec) -> bool
         ensures { result ≡ has_ended len now self.now }
     {
         self.end(len) < now.0
@@ -51,7 +51,7 @@ impl Observation {
 }
 
 /// Whether a request is among those that are observed.
-pub fn is_placed(observations: &[Observation], number: RequestNo) -> bool
+pub(crate) fn is_placed(observations: &[Observation], number: RequestNo) -> bool
     ensures { result ≡ is_placed observations.now number }
 {
     observations.iter().any(|o| o.request.0 == number.0)

@@ -18,7 +18,7 @@ use plan_base::{ListOf, RequestNo, RequestState, Sec};
 use std::alloc::{AllocError, Global};
 
 /// The group of a reported request, completed or not, after the moment.
-pub fn settled_group(
+pub(crate) fn settled_group(
     alloc: Global,
     group: &Group,
     number: RequestNo,
@@ -36,7 +36,11 @@ pub fn settled_group(
 }
 
 /// The requests of a group that were pending and no longer are.
-pub fn over_of(alloc: Global, before: &Group, after: &Group) -> Result<Vec<RequestNo>, AllocError>
+pub(crate) fn over_of(
+    alloc: Global,
+    before: &Group,
+    after: &Group,
+) -> Result<Vec<RequestNo>, AllocError>
     requires { IsLater before.now after.now }
     ensures { IfOk result (λ v. v.items ≡ became is_over before.now.requests after.now.requests) }
 {
@@ -50,7 +54,7 @@ pub fn over_of(alloc: Global, before: &Group, after: &Group) -> Result<Vec<Reque
 }
 
 /// The requests of a group that were pending and now are in a state.
-pub fn became_of(
+pub(crate) fn became_of(
     alloc: Global,
     state: RequestState,
     before: &Group,
@@ -75,7 +79,7 @@ fn one(alloc: Global, group: Group) -> Result<ListOf<Group>, AllocError>
 }
 
 /// The change of one group, with the observations of its requests that are over no longer kept.
-pub fn change_one(
+pub(crate) fn change_one(
     alloc: Global,
     now: Sec,
     after: Group,

@@ -10,7 +10,7 @@ use std::alloc::{AllocError, Global};
 use std::collections::BTreeSet;
 
 /// The observations that have begun.
-pub fn begun(
+pub(crate) fn begun(
     alloc: Global,
     observations: &[Observation],
     len: u32,
@@ -26,7 +26,7 @@ pub fn begun(
 }
 
 /// The observations that haven't begun.
-pub fn not_begun(
+pub(crate) fn not_begun(
     alloc: Global,
     observations: &[Observation],
     len: u32,
@@ -42,7 +42,7 @@ pub fn not_begun(
 }
 
 /// The observations that have ended.
-pub fn ended(
+pub(crate) fn ended(
     alloc: Global,
     observations: &[Observation],
     len: u32,
@@ -58,7 +58,7 @@ pub fn ended(
 }
 
 /// The observations that haven't ended.
-pub fn not_ended(
+pub(crate) fn not_ended(
     alloc: Global,
     observations: &[Observation],
     len: u32,
@@ -81,7 +81,7 @@ fn is_among(requests: &[RequestNo], number: RequestNo) -> bool
 }
 
 /// The observations of other requests than those.
-pub fn without(
+pub(crate) fn without(
     alloc: Global,
     observations: &[Observation],
     requests: &[RequestNo],
@@ -96,7 +96,7 @@ pub fn without(
 }
 
 /// The observations of other requests than this one.
-pub fn without_one(
+pub(crate) fn without_one(
     alloc: Global,
     observations: &[Observation],
     number: RequestNo,
@@ -130,7 +130,7 @@ fn listed(alloc: Global, numbers: &BTreeSet<u32>) -> Result<Vec<RequestNo>, Allo
 }
 
 /// The requests of observations, in rising order.
-pub fn requests_in(
+pub(crate) fn requests_in(
     alloc: Global,
     observations: &[Observation],
 ) -> Result<ListOf<RequestNo>, AllocError>
@@ -143,7 +143,7 @@ pub fn requests_in(
 
 /// Kept observations of which some have begun.
 #[derive(Drop)]
-pub struct Started {
+pub(crate) struct Started {
     /// Those that haven't begun.
     pub kept: Vec<Observation>,
     /// Those that run, the ones that began last at the end.
@@ -166,7 +166,7 @@ fn joined(
 }
 
 /// The observations that are kept and those that run, once those that have begun run.
-pub fn start(
+pub(crate) fn start(
     alloc: Global,
     kept: &[Observation],
     running: &[Observation],
@@ -190,7 +190,7 @@ pub fn start(
 
 /// Running observations of which some have stopped.
 #[derive(Drop)]
-pub struct Stopped {
+pub(crate) struct Stopped {
     /// Those that still run.
     pub running: Vec<Observation>,
     /// The requests of those that stopped, in rising order.
@@ -198,7 +198,7 @@ pub struct Stopped {
 }
 
 /// The observations that run, once those that have ended have stopped.
-pub fn stop(
+pub(crate) fn stop(
     alloc: Global,
     running: &[Observation],
     len: u32,

@@ -92,7 +92,7 @@ impl<'a> Forest<'a> {
     }
 
     /// Recalls, where a proof needs it, what the type keeps of the trees. It does nothing.
-    pub fn recall_sound(&self)
+    pub(crate) fn recall_sound(&self)
         ensures { IsForest (snapshot_of self.now) (trees_of self.now) }
     {
         let _ = &self.trees;

@@ -14,7 +14,7 @@ use std::alloc::AllocError;
 /// A verdict as an object: `{"bound":B,"ok":"yes","value":V}`, or `no`, the reason's number, `reason`, its name, and its
 /// fields. Reasons that a check without trees gives too are written as there.
 #[derive(Clone, Copy)]
-pub struct ForestVerdictDoc(pub ForestVerdict);
+pub(crate) struct ForestVerdictDoc(pub ForestVerdict);
 
 fn write_yes(value: u64, bound: u64, out: &mut Vec<u8>) -> Result<(), AllocError>
     ensures { AddsNested result out.old.items out.new.items 1 (yes_data value bound) }

@@ -9,7 +9,6 @@ mod sky;
 mod snapshot;
 
 pub use claim::read_claim;
-pub use element::{Element, read_list};
 pub use group::read_groups;
 pub use publication::{read_publication, read_publication_bytes};
 pub use snapshot::read_snapshot;

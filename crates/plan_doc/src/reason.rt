@@ -46,7 +46,7 @@ const NO_FIELDS: ReasonFields = ReasonFields {
 };
 
 /// The number of the reason, from 1.
-pub fn reason_number(reason: Reason) -> u8
+pub(crate) fn reason_number(reason: Reason) -> u8
     ensures { result ≡ number_of_reason reason }
 {
     match reason {

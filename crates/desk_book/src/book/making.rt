@@ -7,7 +7,7 @@ use plan_io::ScriptLine;
 use std::alloc::{AllocError, Global};
 
 /// So many scripts without a line.
-pub fn no_scripts(alloc: Global, count: usize) -> Result<Vec<ListOf<ScriptLine>>, AllocError>
+pub(crate) fn no_scripts(alloc: Global, count: usize) -> Result<Vec<ListOf<ScriptLine>>, AllocError>
     ensures { IfOk result (λ scripts. scripts.items ≡ replicate count []) }
 {
     let mut scripts = Vec::new(alloc);
@@ -18,7 +18,7 @@ pub fn no_scripts(alloc: Global, count: usize) -> Result<Vec<ListOf<ScriptLine>>
 }
 
 /// No open Take, for so many callers.
-pub fn no_takes(alloc: Global, count: usize) -> Result<Vec<Option<Taken>>, AllocError>
+pub(crate) fn no_takes(alloc: Global, count: usize) -> Result<Vec<Option<Taken>>, AllocError>
     ensures { IfOk result (λ takes. takes.items ≡ replicate count None) }
 {
     let mut takes = Vec::new(alloc);

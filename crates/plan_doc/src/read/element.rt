@@ -16,7 +16,7 @@ use plan_json::{Doc, DocList, JsonFault, Member};
 use std::alloc::Global;
 
 /// A way to read the elements of a list of a document.
-pub trait Element<T> {
+pub(crate) trait Element<T> {
     /// What a value is read as, its faults naming a member.
     ghost element_in: { Key → Data → Result T Fault };
 
@@ -48,7 +48,7 @@ fn read_each<T: Drop, E: Element<T>>(
 
 /// The list of `least` to `most` elements that the member is, each read alike. Fails as [`Doc::list`] does, then as the
 /// first element that can't be read, its faults naming the member.
-pub fn read_list<T: Drop, E: Element<T>>(
+pub(crate) fn read_list<T: Drop, E: Element<T>>(
     alloc: Global,
     element: &E,
     doc: &Doc,
