@@ -12,7 +12,7 @@ ghost use Rattle.desk_core.specs.DeskSnapshot.{both_at, IsGroupNo, listed_groups
 ghost use Rattle.desk_core.specs.DeskSnapshot.{group_part, with_numbers_of, group_targets, part_targets, skies_of, snapshot_of, IsHorizonSet, HasFew};
 
 use crate::desk::Desk;
-use crate::targets::listed;
+use crate::targets::as_targets;
 use indexmap::IndexSet;
 use interval_set::Spans;
 use plan_base::{
@@ -241,5 +241,5 @@ fn numbers_in(alloc: Global, groups: &[GroupPart]) -> Result<BTreeSet<u16>, Allo
 fn targets_in(alloc: Global, groups: &[GroupPart]) -> Result<Vec<TargetNo>, AllocError>
     ensures { IfOk result (λ targets. targets.items ≡ map (λ n. record { 0 = n }) (with_numbers_of [] (part_targets groups.now))) }
 {
-    listed(alloc, &numbers_in(alloc, groups)?)
+    as_targets(alloc, &numbers_in(alloc, groups)?)
 }

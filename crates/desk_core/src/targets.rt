@@ -70,8 +70,11 @@ fn numbers_of(
     Ok(numbers)
 }
 
-// The targets with these numbers.
-pub(crate) fn listed(alloc: Global, numbers: &BTreeSet<u16>) -> Result<Vec<TargetNo>, AllocError>
+/// The targets with these numbers, in rising order. Fails only for want of memory.
+pub(crate) fn as_targets(
+    alloc: Global,
+    numbers: &BTreeSet<u16>,
+) -> Result<Vec<TargetNo>, AllocError>
     ensures { IfOk result (λ v. v.items ≡ map (λ n. record { 0 = n }) numbers.now.keys) }
 {
     numbers.iter().map(|n| TargetNo(*n)).collect(alloc)
@@ -86,6 +89,6 @@ pub(crate) fn targets_of(
     ensures { IfOk result (λ targets. targets ≡ targets_of network.now.registry.targets configurations.now) }
 {
     let numbers = numbers_of(alloc, network, configurations)?;
-    let targets = listed(alloc, &numbers)?;
+    let targets = as_targets(alloc, &numbers)?;
     Ok(ListOf::from_vec(targets))
 }
