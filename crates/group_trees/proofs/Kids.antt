@@ -4,7 +4,7 @@ use Rattle.std.proofs.Common.{subst, arith}
 use Rattle.std.proofs.lemmas.List.{at_drop_more, drop_all}
 use Rattle.plan_base.specs.declared.parts.Parts.{Parts}
 use Rattle.plan_base.specs.Bound.{price}
-use Rattle.plan_base.specs.Verdict.{IsPriceInRange}
+use Rattle.plan_base.specs.NetPrices.{IsNetInRange}
 use Rattle.group_trees.specs.declared.tree.Tree.{Tree}
 use Rattle.group_trees.specs.declared.rebate.Greatest.{Greatest}
 use Rattle.group_trees.specs.Trees.{Node, leaf, many, one_of, all_of, Nodes, seen, all_seen}
@@ -13,7 +13,7 @@ use Rattle.group_trees.specs.Rebates.{IsGreatest}
 use Rattle.group_trees.specs.Pairs.{IsSome, IsPair, IsSum, AreSums, IsJoined, IsSound, AreSound}
 use Rattle.group_trees.proofs.Choices.{choice_short, union_short, whole_short}
 use Rattle.group_trees.proofs.Sums.{pair_more, pair_single, best_more, best_single, whole_more, whole_none, pair_beside, some_leaf, some_one_of}
-use Rattle.group_trees.proofs.Sums.{some_all_of, greatest_between, pair_between, price_in_range}
+use Rattle.group_trees.proofs.Sums.{some_all_of, greatest_between, pair_between, price_up_to}
 use Rattle.group_trees.proofs.Sound.{sound_at, sound_from}
 
 -- the elements from a place on
@@ -26,7 +26,7 @@ drop_end xs i l = drop_all i xs l
 pub sound_read : (s : Parts) (xs : List Tree) (i : ℕ) (x : Tree) → i < length xs → x ≡ slice_index_or xs i x → AreSound s (all_seen xs) → IsSound s (seen x)
 sound_read s xs i x l e h = subst (λ (y : Tree). IsSound s (seen y)) (sym e) (sound_at s xs i x l h)
 
-module _ (s : Parts) (prices : List ℤ) (xs : List Tree) (range : All IsPriceInRange prices) (sound : AreSound s (all_seen xs)) where
+module _ (s : Parts) (prices : List ℤ) (xs : List Tree) (range : All IsNetInRange prices) (sound : AreSound s (all_seen xs)) where
   -- the last child alone
   pub union_last : (i : ℕ) (x : Tree) (sums : Greatest) → i + 1 ≡ length xs → x ≡ slice_index_or xs i x → IsPair (IsTreeChoice (seen x)) (price s prices) sums
       → IsPair (IsUnion (all_seen (drop i xs))) (price s prices) sums
@@ -72,19 +72,19 @@ module _ (s : Parts) (prices : List ℤ) (xs : List Tree) (range : All IsPriceIn
       → IsPair (IsTreeChoice (seen x)) (price s prices) sums → AreSums sums
   child_sums i x sums l e h =
       let one : IsSound s (seen x) = sound_read s xs i x l e sound in
-      pair_between (IsTreeChoice (seen x)) (price s prices) sums (price_in_range s prices range)
+      pair_between (IsTreeChoice (seen x)) (price s prices) sums (price_up_to 2000000000000 s prices range)
       (λ choice a. let short = choice_short (seen x) choice a in let few = one.few in omega arith) h
 
   pub union_sums : (i : ℕ) (sums : Greatest) → IsPair (IsUnion (all_seen (drop i xs))) (price s prices) sums → AreSums sums
   union_sums i sums h =
       let rest : AreSound s (all_seen (drop i xs)) = sound_from s xs i sound in
-      pair_between (IsUnion (all_seen (drop i xs))) (price s prices) sums (price_in_range s prices range)
+      pair_between (IsUnion (all_seen (drop i xs))) (price s prices) sums (price_up_to 2000000000000 s prices range)
       (λ choice a. let short = union_short (all_seen (drop i xs)) choice a in let few = rest.few in omega arith) h
 
   pub whole_sum : (i : ℕ) (sum : ℤ) → IsGreatest (IsWhole (all_seen (drop i xs))) (price s prices) sum → IsSum sum
   whole_sum i sum h =
       let rest : AreSound s (all_seen (drop i xs)) = sound_from s xs i sound in
-      greatest_between (IsWhole (all_seen (drop i xs))) (price s prices) sum (price_in_range s prices range)
+      greatest_between (IsWhole (all_seen (drop i xs))) (price s prices) sum (price_up_to 2000000000000 s prices range)
       (λ choice a. let short = whole_short (all_seen (drop i xs)) choice a in let few = rest.few in omega arith) h
 
 -- ---- the node over the children

@@ -1,6 +1,7 @@
 -- The greatest sums over choices, built up node by node.
-use Rattle.std.proofs.Common.{◌≡◌, ◌≢◌, ℕ, ◌*◌, ◌≤◌, ◌<◌, ◌⊎◌, inl, inr, ℤ, pos, neg_ℤ, ◌+ℤ◌, ◌≤ℤ◌, List, [], ◌∷◌, ◌++◌, length, All, refl, sym, ◌∙◌}
+use Rattle.std.proofs.Common.{◌≡◌, ◌≢◌, ℕ, suc, ◌+◌, ◌*◌, ◌≤◌, ◌<◌, ◌⊎◌, inl, inr, ℤ, pos, neg_ℤ, ◌+ℤ◌, ◌≤ℤ◌, List, [], ◌∷◌, ◌++◌, length, All, refl, sym, ◌∙◌}
 use Rattle.std.proofs.Common.{ap, subst, arith}
+use Rattle.std.proofs.Math.Nat.{suc-mul}
 use Rattle.std.proofs.lemmas.Int.{ints}
 use Rattle.std.proofs.lemmas.List.{append-nil, get_or_past}
 use Rattle.std.proofs.Common.{slice_index_or}
@@ -8,7 +9,9 @@ use Rattle.plan_base.specs.declared.parts.Parts.{Parts}
 use Rattle.plan_base.specs.Sums.{total}
 use Rattle.plan_base.specs.Requests.{place_of}
 use Rattle.plan_base.specs.Bound.{price}
+use Rattle.plan_base.specs.NetPrices.{IsNetInRange}
 use Rattle.plan_base.specs.Verdict.{IsPriceInRange}
+use Rattle.plan_base.proofs.RoundPrices.{IsUpTo}
 use Rattle.plan_base.proofs.Totals.{total_append}
 use Rattle.group_trees.specs.declared.rebate.Greatest.{Greatest}
 use Rattle.group_trees.specs.Trees.{Node, leaf, one_of, all_of, Nodes, none, and_then}
@@ -189,27 +192,28 @@ some_all_of t ts c x h =
 
 -- ---- how great the sums are
 
-total_between : (c : ℕ → ℤ) (xs : List ℕ) → ((r : ℕ) → IsPriceInRange (c r)) → (neg_ℤ (pos (length xs * 1000000000000)) ≤ℤ total c xs)
-    × (total c xs ≤ℤ pos (length xs * 1000000000000))
-total_between c [] range = (omega (arith, ints), omega (arith, ints))
-total_between c (x ∷ xs) range =
-    let rest = total_between c xs range in
-    let low : neg_ℤ (pos (length xs * 1000000000000)) ≤ℤ total c xs = rest.0 in
-    let high : total c xs ≤ℤ pos (length xs * 1000000000000) = rest.1 in
-    let here_low : neg_ℤ (pos 1000000000000) ≤ℤ c x = (range x).0 in
-    let here_high : c x ≤ℤ pos 1000000000000 = (range x).1 in
+-- a sum of numbers that are no further from 0 than m
+pub total_between : (m : ℕ) (c : ℕ → ℤ) (xs : List ℕ) → ((r : ℕ) → IsUpTo m (c r)) → IsUpTo (length xs * m) (total c xs)
+total_between m c [] range = (omega (arith, ints), omega (arith, ints))
+total_between m c (x ∷ xs) range =
+    let rest = total_between m c xs range in
+    let low : neg_ℤ (pos (length xs * m)) ≤ℤ total c xs = rest.0 in
+    let high : total c xs ≤ℤ pos (length xs * m) = rest.1 in
+    let here_low : neg_ℤ (pos m) ≤ℤ c x = (range x).0 in
+    let here_high : c x ≤ℤ pos m = (range x).1 in
+    let more : suc (length xs) * m ≡ length xs * m + m = suc-mul (length xs) m in
     (omega (arith, ints), omega (arith, ints))
 
-sum_within : (n : ℕ) (b : ℤ) → n ≤ 1024 → (neg_ℤ (pos (n * 1000000000000)) ≤ℤ b) × (b ≤ℤ pos (n * 1000000000000)) → IsSum b
+sum_within : (n : ℕ) (b : ℤ) → n ≤ 1024 → IsUpTo (n * 2000000000000) b → IsSum b
 sum_within n b l (low, high) = (omega (arith, ints), omega (arith, ints))
 
 -- the greatest sum over choices of at most 1,024 leaves
-pub greatest_between : (P : List ℕ → Type 0) (c : ℕ → ℤ) (b : ℤ) → ((r : ℕ) → IsPriceInRange (c r))
+pub greatest_between : (P : List ℕ → Type 0) (c : ℕ → ℤ) (b : ℤ) → ((r : ℕ) → IsNetInRange (c r))
     → ((choice : List ℕ) → P choice → length choice ≤ 1024) → IsGreatest P c b → IsSum b
 greatest_between P c b range short h =
-    subst IsSum h.reached.2 (sum_within (length h.reached.0) _ (short h.reached.0 h.reached.1) (total_between c h.reached.0 range))
+    subst IsSum h.reached.2 (sum_within (length h.reached.0) _ (short h.reached.0 h.reached.1) (total_between 2000000000000 c h.reached.0 range))
 
-pub pair_between : (P : List ℕ → Type 0) (c : ℕ → ℤ) (x : Greatest) → ((r : ℕ) → IsPriceInRange (c r))
+pub pair_between : (P : List ℕ → Type 0) (c : ℕ → ℤ) (x : Greatest) → ((r : ℕ) → IsNetInRange (c r))
     → ((choice : List ℕ) → P choice → length choice ≤ 1024) → IsPair P c x → AreSums x
 pair_between P c x range short h =
     record {
@@ -220,10 +224,17 @@ pair_between P c x range short h =
 place_cases : (a b : ℕ) → (a < b) ⊎ (b ≤ a)
 place_cases a b = grind arith
 
--- each price, or 0 past the end, of prices in their range
-pub price_in_range : (s : Parts) (prices : List ℤ) → All IsPriceInRange prices → (r : ℕ) → IsPriceInRange (price s prices r)
-price_in_range s prices range r = elim (place_cases (place_of s r) (length prices)) [
+-- each price, or 0 past the end, of prices that are no further from 0 than m
+pub price_up_to : (m : ℕ) (s : Parts) (prices : List ℤ) → All (IsUpTo m) prices → (r : ℕ) → IsUpTo m (price s prices r)
+price_up_to m s prices range r = elim (place_cases (place_of s r) (length prices)) [
   | inl l ↦ range (place_of s r) (pos 0) l
   | inr l ↦ let past : slice_index_or prices (place_of s r) (pos 0) ≡ pos 0 = get_or_past prices (place_of s r) (pos 0) l in
       (omega (arith, ints), omega (arith, ints))
 ]
+
+-- a price is a net price where there is no quota
+pub prices_are_net : (prices : List ℤ) → All IsPriceInRange prices → All IsNetInRange prices
+prices_are_net prices range i d l =
+    let low : neg_ℤ (pos 1000000000000) ≤ℤ slice_index_or prices i d = (range i d l).0 in
+    let high : slice_index_or prices i d ≤ℤ pos 1000000000000 = (range i d l).1 in
+    (omega (arith, ints), omega (arith, ints))

@@ -1,22 +1,24 @@
 -- What a forest says of each of its trees.
-use Rattle.std.proofs.Common.{◌≡◌, ◌≢◌, ℕ, zero, suc, ◌+◌, ◌≤◌, ◌<◌, Bool, true, false, ◌&&◌, ℤ, pos, ◌≤ℤ◌, List, [], ◌∷◌, ◌++◌, length, map}
+use Rattle.std.proofs.Common.{◌≡◌, ◌≢◌, ℕ, zero, suc, ◌+◌, ◌*◌, ◌≤◌, ◌<◌, Bool, true, false, ◌&&◌, ℤ, pos, ◌≤ℤ◌, List, [], ◌∷◌, ◌++◌, length, map}
 use Rattle.std.proofs.Common.{slice_index_or, All, AllPairs, Contains, refl, sym, ap, ◌∙◌, subst, arith}
+use Rattle.std.proofs.lemmas.Int.{ints}
 use Rattle.std.proofs.lemmas.List.{length-append, length-map, get_or-map}
 use Rattle.std.proofs.lemmas.List.Elements.{All-head, All-tail, All-contains_itself, Contains-append_left, Contains-append_right}
 use Rattle.plan_base.specs.declared.parts.Parts.{Parts}
 use Rattle.plan_base.specs.Requests.{listed, IsKnown}
 use Rattle.plan_base.proofs.Known.{known_as}
+use Rattle.plan_base.proofs.RoundPrices.{IsUpTo}
 use Rattle.plan_base.proofs.Lists.{contains_map, length_among}
 use Rattle.group_trees.specs.declared.tree.Tree.{Tree}
 use Rattle.group_trees.specs.Trees.{Node, leaf, many, one_of, all_of, Nodes, none, and_then, seen, trees_seen, has_child, is_full, are_full}
-use Rattle.group_trees.specs.Choices.{leaves, all_leaves, IsTreeChoice}
+use Rattle.group_trees.specs.Choices.{leaves, all_leaves}
 use Rattle.group_trees.specs.Forests.{forest_leaves, IsForest}
-use Rattle.group_trees.specs.Pairs.{IsSum, IsSound}
+use Rattle.group_trees.specs.Pairs.{IsSound}
 use Rattle.group_trees.specs.Rebates.{IsTreeRebate, IsRebateAt}
 use Rattle.plan_base.specs.Bound.{price}
 use Rattle.plan_base.specs.Verdict.{IsPriceInRange}
 use Rattle.group_trees.proofs.Choices.{no_choice, choice_short}
-use Rattle.group_trees.proofs.Sums.{greatest_between, price_in_range}
+use Rattle.group_trees.proofs.Sums.{total_between, price_up_to}
 use Rattle.group_trees.proofs.Apart.{pairs_left, pairs_right}
 use Rattle.group_trees.proofs.ForestDuality.{leaf_known, leaves_once}
 
@@ -139,6 +141,9 @@ rebate_between s trees prices i b few forest range l h =
     let rebate : IsTreeRebate (price s prices) t b = h (leaf 0) in
     let sound : IsSound s t = tree_sound s trees i (leaf 0) few forest l in
     let least : pos 0 ≤ℤ b = rebate.bound [] (no_choice t) in
-    let sum : IsSum b = greatest_between (IsTreeChoice t) (price s prices) b (price_in_range s prices range)
-    (λ choice a. let short = choice_short t choice a in let most = sound.few in omega arith) rebate in
-    (least, sum.1)
+    let reached = rebate.reached in
+    let few_leaves : length reached.0 ≤ 1024 = let short = choice_short t reached.0 reached.1 in let most = sound.few in omega arith in
+    let sum : IsUpTo (length reached.0 * 1000000000000) b = subst (IsUpTo (length reached.0 * 1000000000000)) reached.2
+    (total_between 1000000000000 (price s prices) reached.0 (price_up_to 1000000000000 s prices range)) in
+    let most : b ≤ℤ pos (length reached.0 * 1000000000000) = sum.1 in
+    (least, omega (arith, ints))

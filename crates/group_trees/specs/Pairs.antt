@@ -1,7 +1,7 @@
 -- The two numbers of a node: the greatest sum over all choices, and that over the choices that aren't empty.
 use Rattle.std.specs.Prelude.{◌≡◌, ◌≢◌, ℕ, ◌≤◌, ◌*◌, ℤ, pos, neg_ℤ, ◌+ℤ◌, ◌≤ℤ◌, ◌⊎◌, true, List, [], length, All}
 use Rattle.plan_base.specs.declared.parts.Parts.{Parts}
-use Rattle.plan_base.specs.Limits.{most_price}
+use Rattle.plan_base.specs.Limits.{most_net_price}
 use Rattle.plan_base.specs.Requests.{IsKnown}
 use Rattle.group_trees.specs.Trees.{Node, Nodes, is_full, are_full}
 use Rattle.group_trees.specs.Choices.{leaves, all_leaves}
@@ -19,7 +19,7 @@ pub record IsPair (P : List ℕ → Type 0) (c : ℕ → ℤ) (x : Greatest) : T
 
 -- no sum over 1,024 leaves is greater
 abbrev pub most_sum : ℕ
-most_sum = 1024 * most_price
+most_sum = 1024 * most_net_price
 
 -- the number lies from minus the greatest sum to the greatest sum
 abbrev pub IsSum : ℤ → Type 0

@@ -3,7 +3,7 @@
 ghost use Rattle.std.specs.Prelude.{◌≡◌, ◌<◌, ◌≤ℤ◌, pos, ◌+ℤ◌, ◌⊎◌, length, All};
 ghost use Rattle.plan_base.specs.Requests.{listed, place_of, IsKnown};
 ghost use Rattle.plan_base.specs.Bound.{price};
-ghost use Rattle.plan_base.specs.Verdict.{IsPriceInRange};
+ghost use Rattle.plan_base.specs.NetPrices.{IsNetInRange};
 ghost use Rattle.group_trees.specs.Trees.{seen, all_seen};
 ghost use Rattle.group_trees.specs.Choices.{IsTreeChoice, IsUnion, IsOfOne, IsWhole};
 ghost use Rattle.group_trees.specs.Rebates.{IsGreatest, IsRebateAt};
@@ -31,12 +31,12 @@ struct Sum {
 }
 
 /// The greatest sum of prices over all choices that the tree at a place allows: it is never negative. There is one price
-/// for each request of the forest's snapshot, from -10^12 to 10^12. It takes no memory, and time for the leaves of the
-/// tree.
+/// for each request of the forest's snapshot, from -2 * 10^12 to 2 * 10^12. It takes no memory, and time for the leaves
+/// of the tree.
 pub fn tree_rebate(forest: &Forest<'_>, tree: usize, prices: &Prices) -> i64
     requires tree { tree < length (trees_of forest.now) }
     requires count { length prices.now.0 ≡ length (listed (snapshot_of forest.now)) }
-    requires range { All IsPriceInRange prices.now.0 }
+    requires range { All IsNetInRange prices.now.0 }
     ensures { IsRebateAt (snapshot_of forest.now) prices.now.0 (trees_of forest.now) tree result }
 {
     forest.recall_sound();
@@ -50,7 +50,7 @@ pub fn tree_rebate(forest: &Forest<'_>, tree: usize, prices: &Prices) -> i64
 #[cycle(rebate)]
 fn sums_of(snapshot: &Snapshot, prices: &Prices, tree: &Tree, guesses: &mut Guesses<'_>) -> Greatest
     requires count { length prices.now.0 ≡ length (listed snapshot.now) }
-    requires range { All IsPriceInRange prices.now.0 }
+    requires range { All IsNetInRange prices.now.0 }
     requires sound { IsSound snapshot.now (seen tree.now) }
     ensures { IsPair (IsTreeChoice (seen tree.now)) (price snapshot.now prices.now.0) result }
 {
@@ -71,7 +71,7 @@ fn union_of(
     guesses: &mut Guesses<'_>,
 ) -> Greatest
     requires count { length prices.now.0 ≡ length (listed snapshot.now) }
-    requires range { All IsPriceInRange prices.now.0 }
+    requires range { All IsNetInRange prices.now.0 }
     requires sound { AreSound snapshot.now (all_seen children.now.items) }
     requires some { 0 < length children.now.items }
     ensures { IsPair (IsUnion (all_seen children.now.items)) (price snapshot.now prices.now.0) result }
@@ -93,7 +93,7 @@ fn best_child(
     guesses: &mut Guesses<'_>,
 ) -> Sum
     requires count { length prices.now.0 ≡ length (listed snapshot.now) }
-    requires range { All IsPriceInRange prices.now.0 }
+    requires range { All IsNetInRange prices.now.0 }
     requires sound { AreSound snapshot.now (all_seen children.now.items) }
     requires some { 0 < length children.now.items }
     ensures { IsGreatest (IsSome (IsOfOne (all_seen children.now.items))) (price snapshot.now prices.now.0) result.value }
@@ -115,7 +115,7 @@ fn whole_of(
     guesses: &mut Guesses<'_>,
 ) -> Sum
     requires count { length prices.now.0 ≡ length (listed snapshot.now) }
-    requires range { All IsPriceInRange prices.now.0 }
+    requires range { All IsNetInRange prices.now.0 }
     requires sound { AreSound snapshot.now (all_seen children.now.items) }
     ensures { IsGreatest (IsWhole (all_seen children.now.items)) (price snapshot.now prices.now.0) result.value }
 {

@@ -10,11 +10,15 @@ use Rattle.group_trees.specs.declared.tree.Tree.{Tree}
 use Rattle.group_trees.specs.Trees.{Node, seen, trees_seen}
 use Rattle.group_trees.specs.Rebates.{IsRebateAt}
 use Rattle.group_trees.specs.Built.{snapshot_of, trees_of}
+use Rattle.group_trees.proofs.Sums.{prices_are_net}
 use Rattle.group_trees.proofs.Trees.{trees_few, rebate_between}
 use Rattle.group_trees.proofs.check.tree_rebates.Goals as goal
 
 same_count : (ts : List Tree) (trees : List Node) → trees_seen ts ≡ trees → length ts ≡ length trees
 same_count ts trees e = sym (length-map ts seen) ∙ ap (λ (us : List Node). length us) e
+
+pub tree_rebate-requires-clause-range : goal.tree_rebate-requires-clause-range
+tree_rebate-requires-clause-range c = prices_are_net c.args.prices.now.0 c.requires.range
 
 pub overflow_add-sum : goal.overflow_add-sum
 overflow_add-sum c =
