@@ -21,11 +21,13 @@ use Rattle.desk_book.specs.Seen.{BookSeen, take_of, done_of, next_line}
 use Rattle.desk_book.specs.Doing.{IsAnswered, IsPublished as IsBookPublished}
 use Rattle.desk_book.specs.Kept.{IsOpenTake}
 use Rattle.desk_passes.specs.declared.seen.OpenTake.{OpenTake}
+use Rattle.desk_passes.specs.declared.seen.PassPlace.TheVariants.{NotMade}
 use Rattle.desk_passes.specs.declared.seen.PassView.{PassView}
 use Rattle.desk_passes.specs.declared.seen.SeenEntry.{SeenEntry}
 use Rattle.desk_passes.specs.Seen.{with_line_of, log_of, of_caller, lines_done, line_next, open_with, begun, EachHasEntry}
 use Rattle.desk_passes.specs.Knowing.{IsFull, IsOwn, SeesAll}
 use Rattle.desk_passes.specs.Plays.{Seated, GoesOn, GetsTurn, Counts}
+use Rattle.desk_passes.specs.Rule.{place_of}
 use Rattle.desk_passes.specs.Steps.{with_turn, with_entry, without_turn}
 use Rattle.desk_passes.specs.Turns.{HasOneMore, answered}
 use Rattle.desk_passes.specs.Calls.{SeesMore, Adds, IsCalled, IsForTake, IsPublished, WritesEntry}
@@ -263,7 +265,9 @@ closed_none c r at empty = let clash : Some c.book ≡ None = closed_slot c r at
 pub closed_book : {callers : ℕ} {v : PassView} {slots : List (Option BookSeen)} (c : Closes callers v slots) (r : Option BookSeen) (book : BookSeen)
     → get_elem? slots 0 ≡ some r → r ≡ Some book
     → (length book.scripts ≡ callers) × (v.seen ≡ log_of book) × EachHasEntry book
+    × ((caller : ℕ) → place_of v.passes caller ≡ NotMade → of_caller caller (log_of book) ≡ [])
 closed_book {callers} {v} {slots} c r book at is =
     let both : Some c.book ≡ Some book = closed_slot c r at ∙ is in
     let one : c.book ≡ book = cc in
-    subst (λ (b : BookSeen). (length b.scripts ≡ callers) × (v.seen ≡ log_of b) × EachHasEntry b) one (c.count, c.seen, c.each)
+    subst (λ (b : BookSeen). (length b.scripts ≡ callers) × (v.seen ≡ log_of b) × EachHasEntry b
+    × ((caller : ℕ) → place_of v.passes caller ≡ NotMade → of_caller caller (log_of b) ≡ [])) one (c.count, c.seen, c.each, c.nobody)

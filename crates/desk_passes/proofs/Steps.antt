@@ -15,7 +15,7 @@ use Rattle.desk_passes.specs.declared.seen.PassPlace.{PassPlace}
 use Rattle.desk_passes.specs.declared.seen.PassPlace.TheVariants.{NotMade, Out}
 use Rattle.desk_passes.specs.declared.seen.PassView.{PassView}
 use Rattle.desk_passes.specs.declared.seen.SeenEntry.{SeenEntry}
-use Rattle.desk_passes.specs.Seen.{log_of, open_with, line_next, EachHasEntry}
+use Rattle.desk_passes.specs.Seen.{log_of, of_caller, open_with, line_next, EachHasEntry}
 use Rattle.desk_passes.specs.Knowing.{IsFull, IsOwn, SeesAll}
 use Rattle.desk_passes.specs.Plays.{Seated, GoesOn, Looks, GetsTurn, TriesTurn, Counts, GivesTurn}
 use Rattle.desk_passes.specs.Rule.{EachIsBack, EachView, IsHome, IsOut, IsWithin, place_of, Rule, RuleHolds}
@@ -356,6 +356,7 @@ pub record Closes (callers : ℕ) (v : PassView) (slots : List (Option BookSeen)
   pub count : length book.scripts ≡ callers
   pub seen : v.seen ≡ log_of book
   pub each : EachHasEntry book
+  pub nobody : (caller : ℕ) → place_of v.passes caller ≡ NotMade → of_caller caller (log_of book) ≡ []
 
 nobody_out : (callers turn : ℕ) (homes : List (Home (Option BookSeen))) (views : List PassView) (b : BookSeen) (v : PassView)
     → Rule callers turn homes views b → get_elem? views 0 ≡ some v
@@ -386,4 +387,6 @@ closes callers v id words slots first looked back final =
       seen = (subst (λ (u : PassView). u.looked ≡ true → EachIsBack u → u.seen ≡ log_of h.book)
           (same_there s.views 0 h.rule.root.view v h.rule.root.at at) h.rule.root.all) looked back;
       each = h.rule.shared.full.each;
+      nobody = λ caller unmade. (subst (λ (u : PassView). place_of u.passes caller ≡ NotMade → of_caller caller (log_of h.book) ≡ [])
+          (same_there s.views 0 h.rule.root.view v h.rule.root.at at) (λ unmade'. (h.rule.root.not_made caller unmade').0)) unmade;
     }

@@ -1,9 +1,9 @@
 // A desk's passes and notes, and its end.
 
-ghost use Rattle.std.specs.Prelude.{◌≡◌, ◌<◌, [], length, Some, None, IfOk};
+ghost use Rattle.std.specs.Prelude.{◌≡◌, ◌<◌, ℕ, [], length, Some, None, IfOk};
 ghost use Rattle.desk_book.specs.Seen.{empty_book};
 ghost use Rattle.desk_passes.specs.declared.seen.PassPlace.TheVariants.{NotMade};
-ghost use Rattle.desk_passes.specs.Seen.{log_of, BeginsWith, EachHasEntry};
+ghost use Rattle.desk_passes.specs.Seen.{log_of, of_caller, BeginsWith, EachHasEntry};
 ghost use Rattle.desk_passes.specs.Knowing.{SeesHistory};
 ghost use Rattle.desk_passes.specs.Rule.{place_of, EachIsBack};
 ghost use Rattle.desk_passes.specs.Steps.{first_view, new_pass, with_back, with_pass_out};
@@ -114,13 +114,15 @@ impl SharedDesk {
         self.table.shared.load::<Look>(&mut root.inner, COUNT);
     }
 
-    /// The book, once every pass was given back. Its history is what the root has seen, and each line has its entry.
+    /// The book, once every pass was given back. Its history is what the root has seen, each line has its entry, and a caller who
+    /// got no pass has none.
     pub fn close(self, root: Root) -> Book
         requires root { IsRootOf self root }
         requires back { EachIsBack (root_view root) }
         ensures callers { length result.scripts ≡ callers_of self }
         ensures seen { (root_view root).seen ≡ log_of result }
         ensures each { EachHasEntry result }
+        ensures nobody { (caller : ℕ) → place_of (root_view root).passes caller ≡ NotMade → of_caller caller (log_of result) ≡ [] }
     {
         let SharedDesk { table } = self;
         let Root { inner } = root;

@@ -21,3 +21,8 @@ pub returns-clause-each : goal.returns-clause-each
 returns-clause-each c =
     (closed_book (closes _ _ _ _ _ c.args.root.first c.args.root.looked c.requires.back c.close_with-closed.ensures.values.2) c.take-slot.result
     c.in-Some.book c.take-slot.ensures.value c.in-Some.is).2
+
+pub returns-clause-nobody : goal.returns-clause-nobody
+returns-clause-nobody c =
+    (closed_book (closes _ _ _ _ _ c.args.root.first c.args.root.looked c.requires.back c.close_with-closed.ensures.values.2) c.take-slot.result
+    c.in-Some.book c.take-slot.ensures.value c.in-Some.is).3
