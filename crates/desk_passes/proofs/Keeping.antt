@@ -1,5 +1,5 @@
 -- Each step keeps the rule.
-use Rattle.std.proofs.Common.{true, ◌≡◌, ◌≢◌, ℕ, zero, suc, ◌<◌, List, [], ◌∷◌, ◌++◌, refl, sym, ◌∙◌, ap, subst, ◌⊎◌, inl, inr, ⊎_elim, arith, Option}
+use Rattle.std.proofs.Common.{◌≡◌, ◌≢◌, ℕ, zero, suc, ◌<◌, List, [], ◌∷◌, ◌++◌, refl, sym, ◌∙◌, ap, subst, ◌⊎◌, inl, inr, ⊎_elim, arith, Option}
 use Rattle.std.proofs.Common.{Some, None, slice_set, length}
 use mathlib.Core.Option.{Option as Home, some, none, some-injective}
 use lib.ListN.{get_elem?}
@@ -11,8 +11,8 @@ use Rattle.desk_passes.specs.declared.seen.PassPlace.TheVariants.{NotMade, Out}
 use Rattle.desk_passes.specs.declared.seen.PassView.{PassView}
 use Rattle.desk_passes.specs.declared.seen.SeenEntry.{SeenEntry}
 use Rattle.desk_passes.specs.Seen.{log_of, of_caller, open_take, BeginsWith}
-use Rattle.desk_passes.specs.Knowing.{IsOwn}
-use Rattle.desk_passes.specs.Rule.{EachIsBack, IsShared, IsHome, IsOut, IsWithin, place_of, IsRoot, Rule}
+use Rattle.desk_passes.specs.Knowing.{IsOwn, IsAllOf}
+use Rattle.desk_passes.specs.Rule.{EachIsBack, EachView, IsShared, IsHome, IsOut, IsWithin, place_of, IsRoot, Rule}
 use Rattle.desk_passes.specs.Steps.{spent, with_turn, with_entry, without_turn}
 use Rattle.desk_passes.specs.Turns.{HasOneMore}
 use Rattle.desk_passes.proofs.Logs.{begins_same, begins_none, begins_more, own_other}
@@ -98,13 +98,15 @@ pub record Replaces (b : BookSeen) (v w : PassView) : Type 0 where
   pub still : v.turn ≡ None
   pub stays : w.turn ≡ None
   pub within : IsWithin b w
-  pub all : (v.looked ≡ true → EachIsBack v → v.seen ≡ log_of b) → w.looked ≡ true → EachIsBack w → w.seen ≡ log_of b
+  pub known : (caller : ℕ) → IsAllOf v caller (of_caller caller (log_of b)) → IsAllOf w caller (of_caller caller (log_of b))
+  pub all : (v.back ≡ None → EachIsBack v → v.seen ≡ log_of b) → w.back ≡ None → EachIsBack w → w.seen ≡ log_of b
 
 root_put : (callers : ℕ) (b : BookSeen) (views : List PassView) (i : ℕ) (v w : PassView) → get_elem? views i ≡ some v
     → w.caller ≡ v.caller → w.passes ≡ v.passes
-    → ((v.looked ≡ true → EachIsBack v → v.seen ≡ log_of b) → w.looked ≡ true → EachIsBack w → w.seen ≡ log_of b) → IsRoot callers b views
+    → ((caller : ℕ) → IsAllOf v caller (of_caller caller (log_of b)) → IsAllOf w caller (of_caller caller (log_of b)))
+    → ((v.back ≡ None → EachIsBack v → v.seen ≡ log_of b) → w.back ≡ None → EachIsBack w → w.seen ≡ log_of b) → IsRoot callers b views
     → IsRoot callers b (slice_set views i w)
-root_put callers b views zero v w at same passes all root =
+root_put callers b views zero v w at same passes known all root =
     let is : root.view ≡ v = same_there views 0 root.view v root.at at in
     let held : w.passes ≡ root.view.passes = passes ∙ ap (λ (u : PassView). u.passes) (sym is) in
     record {
@@ -116,9 +118,11 @@ root_put callers b views zero v w at same passes all root =
           (λ seat u there caller mine. ap (λ (ps : List PassPlace). place_of ps caller) held ∙ root.out seat u there caller mine)
           (λ caller mine. no_some v.caller caller (ap (λ (u : PassView). u.caller) (sym is) ∙ root.nobody) (sym same ∙ mine));
       not_made = λ caller unmade. root.not_made caller (sym (ap (λ (ps : List PassPlace). place_of ps caller) held) ∙ unmade);
-      all = all (subst (λ (u : PassView). u.looked ≡ true → EachIsBack u → u.seen ≡ log_of b) is root.all);
+      known = λ caller away. known caller (subst (λ (u : PassView). IsAllOf u caller (of_caller caller (log_of b))) is
+          (root.known caller (λ out. away (ap (λ (ps : List PassPlace). place_of ps caller) held ∙ out))));
+      all = all (subst (λ (u : PassView). u.back ≡ None → EachIsBack u → u.seen ≡ log_of b) is root.all);
     }
-root_put callers b views (suc i) v w at same passes all root = record {
+root_put callers b views (suc i) v w at same passes known all root = record {
   view = root.view;
   at = set_else views (suc i) 0 w (λ e. omega arith) ∙ root.at;
   nobody = root.nobody;
@@ -126,6 +130,7 @@ root_put callers b views (suc i) v w at same passes all root = record {
   out = each_set (λ seat u. (caller : ℕ) → u.caller ≡ Some caller → place_of root.view.passes caller ≡ Out) views (suc i) w root.out
       (λ caller mine. root.out (suc i) v at caller (sym same ∙ mine));
   not_made = root.not_made;
+  known = root.known;
   all = root.all;
 }
 
@@ -137,7 +142,7 @@ rule_put callers turn homes views b i v w r at new = record {
   place = place_put turn homes views b i v w at new.still new.stays r.place;
   within = each_set (λ seat u. IsWithin b u) views i w r.within new.within;
   apart = apart_set views i v w r.apart at (λ caller mine. sym new.caller ∙ mine);
-  root = root_put callers b views i v w at new.caller new.passes new.all r.root;
+  root = root_put callers b views i v w at new.caller new.passes new.known new.all r.root;
 }
 
 -- ---- a view is added that is unheld
@@ -158,6 +163,7 @@ rule_more callers turn homes views b u r nobody stays within = record {
     out = each_more (λ seat w. (caller : ℕ) → w.caller ≡ Some caller → place_of r.root.view.passes caller ≡ Out) views u r.root.out
         (λ caller mine. no_some u.caller caller nobody mine);
     not_made = r.root.not_made;
+    known = r.root.known;
     all = r.root.all;
   };
 }
@@ -188,6 +194,7 @@ rule_spent callers turn homes views b i v r at later still = record {
     out = each_set (λ seat u. (caller : ℕ) → u.caller ≡ Some caller → place_of r.root.view.passes caller ≡ Out) views i spent r.root.out
         (λ caller is. no_some spent.caller caller refl is);
     not_made = r.root.not_made;
+    known = r.root.known;
     all = r.root.all;
   };
 }
@@ -203,6 +210,8 @@ pub record Steps (callers : ℕ) (views : List PassView) (b : BookSeen) (i : ℕ
   pub not_made : (caller : ℕ) → ((seat : ℕ) (u : PassView) → get_elem? views seat ≡ some u → u.caller ≢ Some caller)
       → (of_caller caller (log_of b) ≡ []) × (open_take b caller ≡ None)
       → (of_caller caller (log_of c) ≡ []) × (open_take c caller ≡ None)
+  pub same : (caller : ℕ) → ((seat : ℕ) (u : PassView) → get_elem? views seat ≡ some u → u.caller ≢ Some caller)
+      → of_caller caller (log_of c) ≡ of_caller caller (log_of b)
 
 pub unmade_apart : (callers : ℕ) (b : BookSeen) (views : List PassView) (root : IsRoot callers b views) (caller : ℕ)
     → place_of root.view.passes caller ≡ NotMade
@@ -229,6 +238,8 @@ rule_steps callers turn homes views b i caller v w turn' homes' c r at mine same
         out = each_set (λ seat u. (caller' : ℕ) → u.caller ≡ Some caller' → place_of r.root.view.passes caller' ≡ Out) views i w r.root.out
             (λ caller' is. r.root.out i v at caller' (sym same ∙ is));
         not_made = λ caller' unmade. new.not_made caller' (unmade_apart callers b views r.root caller' unmade) (r.root.not_made caller' unmade);
+        known = λ caller' away. subst (IsAllOf r.root.view caller')
+            (sym (new.same caller' (λ seat u there is. away (r.root.out seat u there caller' is)))) (r.root.known caller' away);
         all = λ looked back. absurd (back caller (r.root.out i v at caller mine));
       };
     }
@@ -261,6 +272,7 @@ takes_turn callers turn homes views b i caller v r home at mine =
         nobody = λ empty. no_some v.caller caller empty mine;
       };
       not_made = λ caller' _ facts. facts;
+      same = λ caller' _. refl;
     }
 
 -- the turn is given back
@@ -286,6 +298,7 @@ gives_turn callers turn homes views b i caller v r out held at mine =
         nobody = λ _. refl;
       };
       not_made = λ caller' _ facts. facts;
+      same = λ caller' _. refl;
     }
 
 -- an entry of another caller changes nothing of one's own
@@ -311,6 +324,11 @@ counts callers turn homes views b c i caller v r out held at mine more =
     let old : IsWithin b v = r.within i v at in
     let own : IsOwn b caller v = old.mine caller mine in
     let w : PassView = with_entry c caller v in
+    let differs : (other : ℕ) → EachView (λ seat u. u.caller ≢ Some other) views → other ≢ caller =
+    λ other unheld is. unheld i v at (mine ∙ ap (λ (n : ℕ). Some n) (sym is)) in
+    let same : (other : ℕ) → EachView (λ seat u. u.caller ≢ Some other) views → of_caller other (log_of c) ≡ of_caller other (log_of b) =
+    λ other unheld. ap (of_caller other) more.log
+    ∙ own_other other (log_of b) more.entry (λ is. differs other unheld (sym is ∙ more.mine)) in
     rule_steps callers turn homes views b i caller v w turn homes c r at mine refl record {
       shared = record { full = more.full; count = more.callers ∙ r.shared.count };
       place = inr record {
@@ -342,7 +360,6 @@ counts callers turn homes views b c i caller v r out held at mine more =
         nobody = λ empty. no_some v.caller caller empty mine;
       };
       not_made = λ other unheld facts.
-          let ne : other ≢ caller = λ same. unheld i v at (mine ∙ ap (λ (n : ℕ). Some n) (sym same)) in
-          let apart : more.entry.entry.caller ≢ other = λ same. ne (sym same ∙ more.mine) in
-          (ap (of_caller other) more.log ∙ own_other other (log_of b) more.entry apart ∙ facts.0, more.others other ne ∙ facts.1);
+          (same other unheld ∙ facts.0, more.others other (differs other unheld) ∙ facts.1);
+      same = same;
     }

@@ -1,9 +1,9 @@
 -- What is known once a call is made.
-use Rattle.std.proofs.Common.{◌≡◌, ℕ, ◌+◌, ◌<◌, List, [], ◌∷◌, ◌++◌, length, refl, sym, ◌∙◌, ap, subst, Option, Some, None, arith}
+use Rattle.std.proofs.Common.{◌≡◌, ◌≢◌, ℕ, ◌+◌, ◌<◌, List, [], ◌∷◌, ◌++◌, length, refl, sym, ◌∙◌, ap, subst, Option, Some, None, arith}
 use mathlib.Core.Option.{some, some-injective}
 use lib.ListN.{get_elem?}
 use Rattle.atomic_table.specs.Table.{rest}
-use Rattle.std.proofs.Common.{zero, suc, ◌⊎◌, inl, inr, slice_get, Result, Ok, Err, OnOk}
+use Rattle.std.proofs.Common.{zero, suc, ◌⊎◌, inl, inr, slice_get, slice_set, get_or-set_other, Result, Ok, Err, OnOk}
 use Rattle.std.specs.declared.alloc.AllocError.{AllocError}
 use Rattle.std.specs.Option.{option_map}
 use Rattle.std.proofs.lemmas.Option.{slice_get-map}
@@ -21,14 +21,15 @@ use Rattle.desk_book.specs.Seen.{BookSeen, take_of, done_of, next_line}
 use Rattle.desk_book.specs.Doing.{IsAnswered, IsPublished as IsBookPublished}
 use Rattle.desk_book.specs.Kept.{IsOpenTake}
 use Rattle.desk_passes.specs.declared.seen.OpenTake.{OpenTake}
-use Rattle.desk_passes.specs.declared.seen.PassPlace.TheVariants.{NotMade}
+use Rattle.desk_passes.specs.declared.seen.PassPlace.{PassPlace}
+use Rattle.desk_passes.specs.declared.seen.PassPlace.TheVariants.{NotMade, Out, Back}
 use Rattle.desk_passes.specs.declared.seen.PassView.{PassView}
 use Rattle.desk_passes.specs.declared.seen.SeenEntry.{SeenEntry}
 use Rattle.desk_passes.specs.Seen.{with_line_of, log_of, of_caller, lines_done, line_next, open_with, begun, EachHasEntry}
-use Rattle.desk_passes.specs.Knowing.{IsFull, IsOwn, SeesAll}
-use Rattle.desk_passes.specs.Plays.{Seated, GoesOn, GetsTurn, Counts}
+use Rattle.desk_passes.specs.Knowing.{IsFull, IsOwn, SeesAll, IsAllOf}
+use Rattle.desk_passes.specs.Plays.{Seated, GoesOn, RootLooks, GetsTurn, Counts}
 use Rattle.desk_passes.specs.Rule.{place_of}
-use Rattle.desk_passes.specs.Steps.{with_turn, with_entry, without_turn}
+use Rattle.desk_passes.specs.Steps.{with_turn, with_entry, without_turn, with_back, with_pass_back}
 use Rattle.desk_passes.specs.Turns.{HasOneMore, answered}
 use Rattle.desk_passes.specs.Calls.{SeesMore, Adds, IsCalled, IsForTake, IsPublished, WritesEntry}
 use Rattle.desk_passes.proofs.Logs.{own_mine, done_lined}
@@ -54,12 +55,13 @@ pub counted_as : (before after : Seated) (caller word : ℕ) (c : BookSeen) → 
     → Counts before word after
     → (after ≡ (with_entry c caller before.0, (0, Some c) ∷ [])) × (word ≡ length before.0.seen)
 counted_as before after caller word c mine carried told =
-    let callers : Some told.1 ≡ Some caller = sym told.2 ∙ mine in
-    let same : told.1 ≡ caller = cc in
-    let book : told.0 ≡ c = ap (held_of c) (sym told.3 ∙ carried) in (
-      told.4 ∙ ap (λ (x : BookSeen). (with_entry x told.1 before.0, before.1)) book ∙ ap (λ (n : ℕ). (with_entry c n before.0, before.1)) same
+    let callers : Some told.1.entry.caller ≡ Some caller = sym told.3 ∙ mine in
+    let same : told.1.entry.caller ≡ caller = cc in
+    let book : told.0 ≡ c = ap (held_of c) (sym told.4 ∙ carried) in (
+      told.5 ∙ ap (λ (x : BookSeen). (with_entry x told.1.entry.caller before.0, before.1)) book
+          ∙ ap (λ (n : ℕ). (with_entry c n before.0, before.1)) same
           ∙ ap (λ (xs : List (ℕ × Option BookSeen)). (with_entry c caller before.0, xs)) carried,
-      told.5,
+      told.6,
     )
 
 -- ---- what a call leaves
@@ -251,6 +253,38 @@ writes (Ok x) v b place e old new goes low there written =
     let both : Some e ≡ Some it.0.entry = there ∙ it.2 in
     let one : e ≡ it.0.entry = cc in
     (it.0, it.1, written ∙ ap (λ (y : EventEntry). old ++ text_of_entry y) one)
+
+-- ---- a pass comes back
+
+set_back : (passes : List PassPlace) (caller : ℕ) → place_of (slice_set passes caller Back) caller ≡ Back
+set_back [] zero = refl
+set_back [] (suc n) = refl
+set_back (x ∷ xs) zero = refl
+set_back (x ∷ xs) (suc n) = set_back xs n
+
+-- the root, which got a pass back and looked, has seen exactly the pass's own calls of its caller
+pub got_own : (before after : Seated) (v p : PassView) (word caller : ℕ) → before.0 ≡ with_pass_back v p → p.caller ≡ Some caller
+    → RootLooks before word after → of_caller caller after.0.seen ≡ p.own
+got_own before after v p word caller joined mine looks =
+    let now : after.0.seen ≡ log_of looks.0 = ap (λ (me : Seated). me.0.seen) looks.1 in
+    let back : place_of before.0.passes caller ≡ Back = ap (λ (u : PassView). place_of u.passes caller) joined
+    ∙ ap (λ (o : Option ℕ). place_of (with_back v.passes o) caller) mine ∙ set_back v.passes caller in
+    let known : IsAllOf before.0 caller (of_caller caller (log_of looks.0)) = looks.4 caller
+    (λ out. let clash : Back ≡ Out = sym back ∙ out in absurd (cc)) in
+    ap (of_caller caller) now ∙ known.got (ap (λ (u : PassView). u.back) joined ∙ mine) ∙ ap (λ (u : PassView). u.own) joined
+
+-- of another caller whose pass isn't out it has seen nothing more
+pub got_rest : (before after : Seated) (v p : PassView) (word caller other : ℕ) → before.0 ≡ with_pass_back v p → p.caller ≡ Some caller
+    → RootLooks before word after → place_of v.passes other ≢ Out → p.caller ≢ Some other
+    → of_caller other after.0.seen ≡ of_caller other v.seen
+got_rest before after v p word caller other joined mine looks away differs =
+    let now : after.0.seen ≡ log_of looks.0 = ap (λ (me : Seated). me.0.seen) looks.1 in
+    let ne : other ≢ caller = λ same. differs (mine ∙ ap (λ (n : ℕ). Some n) (sym same)) in
+    let place : place_of before.0.passes other ≡ place_of v.passes other = ap (λ (u : PassView). place_of u.passes other) joined
+    ∙ ap (λ (o : Option ℕ). place_of (with_back v.passes o) other) mine ∙ get_or-set_other v.passes caller other Back Back ne in
+    let known : IsAllOf before.0 other (of_caller other (log_of looks.0)) = looks.4 other (λ out. away (sym place ∙ out)) in
+    ap (of_caller other) now ∙ known.seen (λ is. differs (sym (ap (λ (u : PassView). u.back) joined) ∙ is))
+    ∙ ap (λ (u : PassView). of_caller other u.seen) joined
 
 -- ---- the end
 

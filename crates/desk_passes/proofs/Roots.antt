@@ -1,16 +1,18 @@
 -- The root's passes are made and come back: that keeps the rule.
-use Rattle.std.proofs.Common.{true, false, ◌≡◌, ◌≢◌, ℕ, zero, suc, ◌<◌, List, [], ◌∷◌, ◌++◌, refl, sym, ◌∙◌, ap, subst, arith, Option, Some, None}
+use Rattle.std.proofs.Common.{◌≡◌, ◌≢◌, ℕ, zero, suc, ◌<◌, List, [], ◌∷◌, ◌++◌, refl, sym, ◌∙◌, ap, subst, ⊎_elim, arith, Option, Some, None}
 use Rattle.std.proofs.Common.{slice_set, length}
 use Rattle.std.proofs.Common.{length-set, get_or-set_same, get_or-set_other}
 use mathlib.Core.Option.{Option as Home, some}
 use lib.ListN.{get_elem?}
 use Rattle.atomic_table.proofs.Lists.{at_longer}
 use Rattle.desk_book.specs.Seen.{BookSeen}
+use Rattle.desk_book.proofs.Keeping.{same_or_other}
 use Rattle.desk_passes.specs.declared.seen.PassPlace.{PassPlace}
 use Rattle.desk_passes.specs.declared.seen.PassPlace.TheVariants.{NotMade, Out, Back}
 use Rattle.desk_passes.specs.declared.seen.PassView.{PassView}
-use Rattle.desk_passes.specs.Seen.{log_of}
-use Rattle.desk_passes.specs.Knowing.{IsOwn}
+use Rattle.desk_passes.specs.declared.seen.SeenEntry.{SeenEntry}
+use Rattle.desk_passes.specs.Seen.{log_of, of_caller}
+use Rattle.desk_passes.specs.Knowing.{IsOwn, IsAllOf}
 use Rattle.desk_passes.specs.Rule.{EachView, IsWithin, place_of, Rule}
 use Rattle.desk_passes.specs.Steps.{with_pass_out, new_pass}
 use Rattle.desk_passes.proofs.Logs.{begins_none}
@@ -84,6 +86,12 @@ makes_pass callers turn homes views b caller v r at unmade =
             let clash : Out ≡ NotMade = sym here ∙ ap (place_of w.passes) (sym same) ∙ unmade'' in absurd (cc) in
             r.root.not_made caller' (sym (ap (λ (ps : List PassPlace). place_of ps caller') passes)
             ∙ sym (get_or-set_other v.passes caller caller' Out Back ne) ∙ unmade'');
+        known = λ caller' away.
+            let ne : caller' ≢ caller = λ same. away (ap (place_of w.passes) same ∙ here) in
+            let it : IsAllOf v caller' (of_caller caller' (log_of b)) = subst (λ (x : PassView). IsAllOf x caller' (of_caller caller' (log_of b))) is
+            (r.root.known caller' (λ out'. away (get_or-set_other v.passes caller caller' Out Back ne
+            ∙ ap (λ (ps : List PassPlace). place_of ps caller') passes ∙ out'))) in
+            record { got = it.got; seen = it.seen };
         all = λ looked back. absurd (back caller here);
       };
     }
@@ -92,9 +100,10 @@ makes_pass callers turn homes views b caller v r at unmade =
 pub takes_back : (callers turn : ℕ) (homes : List (Home (Option BookSeen))) (views : List PassView) (b : BookSeen) (caller : ℕ) (v w : PassView)
     → Rule callers turn homes views b
     → get_elem? views 0 ≡ some v → EachView (λ seat u. u.caller ≢ Some caller) views → caller < callers
-    → w.caller ≡ v.caller → w.turn ≡ v.turn → w.passes ≡ slice_set v.passes caller Back → w.looked ≡ false → IsWithin b w
+    → w.caller ≡ v.caller → w.turn ≡ v.turn → w.passes ≡ slice_set v.passes caller Back → v.back ≡ None → w.back ≡ Some caller
+    → w.seen ≡ v.seen → w.own ≡ of_caller caller (log_of b) → IsWithin b w
     → Rule callers turn homes (slice_set views 0 w) b
-takes_back callers turn homes views b caller v w r at unheld low same turned back unlooked within =
+takes_back callers turn homes views b caller v w r at unheld low same turned back looked unlooked seen own within =
     let is : r.root.view ≡ v = same_there views 0 r.root.view v r.root.at at in
     let nobody : v.caller ≡ None = ap (λ (x : PassView). x.caller) (sym is) ∙ r.root.nobody in
     let still : v.turn ≡ None = (r.within 0 v at).nobody nobody in
@@ -123,6 +132,19 @@ takes_back callers turn homes views b caller v w r at unheld low same turned bac
             let ne : other ≢ caller = λ one.
             let clash : Back ≡ NotMade = sym here ∙ ap (place_of w.passes) (sym one) ∙ unmade in absurd (cc) in
             r.root.not_made other (sym (others other ne) ∙ unmade);
-        all = λ looked _. let clash : false ≡ true = sym unlooked ∙ looked in absurd (cc);
+        known = λ other away. ⊎_elim
+            (λ (one : other ≡ caller). record {
+              got = λ _. ap (λ (n : ℕ). of_caller n (log_of b)) one ∙ sym own;
+              seen = λ ne. absurd (ne (unlooked ∙ ap (λ (n : ℕ). Some n) (sym one)));
+            })
+            (λ (ne : other ≢ caller).
+            let it : IsAllOf v other (of_caller other (log_of b)) = subst (λ (x : PassView). IsAllOf x other (of_caller other (log_of b))) is
+            (r.root.known other (λ out'. away (others other ne ∙ out'))) in
+            record {
+              got = λ is'. let both : Some caller ≡ Some other = sym unlooked ∙ is' in let one : caller ≡ other = cc in absurd (ne (sym one));
+              seen = λ _. it.seen (λ is'. no_some v.back other looked is') ∙ sym (ap (λ (xs : List SeenEntry). of_caller other xs) seen);
+            })
+            (same_or_other other caller);
+        all = λ none _. no_some w.back caller none unlooked;
       };
     }

@@ -1,5 +1,5 @@
 -- What the table asks of each step.
-use Rattle.std.proofs.Common.{true, ◌≡◌, ◌≢◌, ℕ, zero, suc, ◌+◌, ◌%◌, ◌^◌, ◌<◌, List, [], ◌∷◌, ◌++◌, refl, sym, ◌∙◌, ap, subst, ◌⊎◌, inl, inr, arith}
+use Rattle.std.proofs.Common.{◌≡◌, ◌≢◌, ℕ, zero, suc, ◌+◌, ◌%◌, ◌^◌, ◌<◌, List, [], ◌∷◌, ◌++◌, refl, sym, ◌∙◌, ap, subst, ◌⊎◌, inl, inr, arith}
 use Rattle.std.proofs.Common.{Option, Some, None, slice_set, slice_index, length, mod-eq_of_lt}
 use Rattle.std.specs.Prelude.{replicate}
 use Rattle.std.proofs.Common.{length-append, ◌≤◌}
@@ -16,8 +16,8 @@ use Rattle.desk_passes.specs.declared.seen.PassPlace.TheVariants.{NotMade, Out}
 use Rattle.desk_passes.specs.declared.seen.PassView.{PassView}
 use Rattle.desk_passes.specs.declared.seen.SeenEntry.{SeenEntry}
 use Rattle.desk_passes.specs.Seen.{log_of, of_caller, open_with, line_next, EachHasEntry}
-use Rattle.desk_passes.specs.Knowing.{IsFull, IsOwn, SeesAll}
-use Rattle.desk_passes.specs.Plays.{Seated, GoesOn, Looks, GetsTurn, TriesTurn, Counts, GivesTurn}
+use Rattle.desk_passes.specs.Knowing.{IsFull, IsOwn, SeesAll, IsAllOf}
+use Rattle.desk_passes.specs.Plays.{Seated, GoesOn, Looks, RootLooks, GetsTurn, TriesTurn, Counts, GivesTurn}
 use Rattle.desk_passes.specs.Rule.{EachIsBack, EachView, IsHome, IsOut, IsWithin, place_of, Rule, RuleHolds}
 use Rattle.desk_passes.specs.Steps.{spent, first_view, having_seen, with_turn, with_entry, without_turn, with_pass_out, new_pass, copied, informed}
 use Rattle.desk_passes.specs.Steps.{with_back, with_pass_back}
@@ -69,33 +69,43 @@ module _ (callers : ℕ) (s : State (Option BookSeen) PassView) (id : ℕ) (me :
         record { low = it.low; own = own ∙ it.own; take = take ∙ it.take };
   }
 
+  -- the rule holds once all is seen
+  looked : v.turn ≡ None → RuleHolds callers (stepped s 0 (slice_index s.words 0) id me.1 (having_seen b v) keeps)
+  looked still =
+      let w : PassView = having_seen b v in
+      record {
+        book = b;
+        turn = h.turn;
+        words = ap (λ (ws : List ℕ). slice_set ws 0 (slice_index ws 0)) h.words;
+        rule = rule_put callers h.turn s.homes s.views b id v w h.rule at record {
+          caller = refl;
+          passes = refl;
+          still = still;
+          stays = still;
+          within = record {
+            seen = begins_same (log_of b);
+            told = begins_none (log_of b);
+            mine = λ c is. let it : IsOwn b c v = within.mine c is in
+                record { low = it.low; own = it.own; take = it.take };
+            nobody = λ _. still;
+          };
+          known = λ c _. record { got = λ is. no_some w.back c refl is; seen = λ _. refl };
+          all = λ _ _ _. refl;
+        };
+      }
+
   pub looks : v.turn ≡ None → May callers s 0 (slice_index s.words 0) id me (Looks me (slice_index s.words 0))
   looks still =
-      let w : PassView = having_seen b v in (
-        w,
-        keeps,
-        tt,
-        record {
-          book = b;
-          turn = h.turn;
-          words = ap (λ (ws : List ℕ). slice_set ws 0 (slice_index ws 0)) h.words;
-          rule = rule_put callers h.turn s.homes s.views b id v w h.rule at record {
-            caller = refl;
-            passes = refl;
-            still = still;
-            stays = still;
-            within = record {
-              seen = begins_same (log_of b);
-              told = begins_none (log_of b);
-              mine = λ c is. let it : IsOwn b c v = within.mine c is in
-                  record { low = it.low; own = it.own; take = it.take };
-              nobody = λ _. still;
-            };
-            all = λ _ _ _. refl;
-          };
-        },
-        (b, refl, goes_on b v within, sees_all w refl refl refl refl),
-      )
+      let w : PassView = having_seen b v in
+      (w, keeps, tt, looked still, (b, refl, goes_on b v within, sees_all w refl refl refl refl))
+
+  pub root_looks : id ≡ 0 → v.turn ≡ None → May callers s 0 (slice_index s.words 0) id me (RootLooks me (slice_index s.words 0))
+  root_looks first still =
+      let w : PassView = having_seen b v in
+      let is : h.rule.root.view ≡ v = same_there s.views 0 h.rule.root.view v h.rule.root.at (subst (λ (k : ℕ). get_elem? s.views k ≡ some v) first at) in
+      let known : (caller : ℕ) → place_of v.passes caller ≢ Out → IsAllOf v caller (of_caller caller (log_of b)) =
+      subst (λ (u : PassView). (caller : ℕ) → place_of u.passes caller ≢ Out → IsAllOf u caller (of_caller caller (log_of b))) is h.rule.root.known in
+      (w, keeps, tt, looked still, (b, refl, goes_on b v within, sees_all w refl refl refl refl, known))
 
   -- the turn is free
   gets : (caller : ℕ) → v.caller ≡ Some caller → IsHome h.turn s.homes s.views b → May callers s 1 1 id me (λ after. GetsTurn me after)
@@ -164,7 +174,15 @@ module _ (callers : ℕ) (s : State (Option BookSeen) PassView) (id : ℕ) (me :
           words = ap (λ (ws : List ℕ). slice_set ws 0 next) h.words ∙ ap (λ (m : ℕ). m ∷ h.turn ∷ []) (is ∙ ap (λ (m : ℕ). m + 1) count_word ∙ sym all);
           rule = counts callers h.turn s.homes s.views b c id caller v h.rule held.0 held.1 at entry.2 more;
         },
-        (c, caller, entry.2, carried, refl, count_word ∙ sym before ∙ ap (λ (l : List SeenEntry). length l) (sym seen)),
+        (
+          c,
+          more.entry,
+          more.log ∙ ap (λ (l : List SeenEntry). l ++ more.entry ∷ []) (sym seen),
+          entry.2 ∙ ap (λ (m : ℕ). Some m) (sym more.mine),
+          carried,
+          ap (λ (m : ℕ). (with_entry c m v, me.1)) (sym more.mine),
+          count_word ∙ sym before ∙ ap (λ (l : List SeenEntry). length l) (sym seen),
+        ),
       )
 
   pub given : (caller : ℕ) (c : BookSeen) → v.caller ≡ Some caller → v.turn ≡ Some c → me.1 ≡ (0, Some c) ∷ []
@@ -253,6 +271,7 @@ joins_note callers s id other v w still nobody no_passes h at ne there =
       still = still;
       stays = still;
       within = informed_within b v w old within;
+      known = λ caller it. record { got = it.got; seen = it.seen };
       all = λ old looked back. old looked back;
     } in
     let later : other ≢ 0 = λ first.
@@ -269,10 +288,10 @@ joins_note callers s id other v w still nobody no_passes h at ne there =
     }
 
 pub joins_pass : (callers : ℕ) (s : State (Option BookSeen) PassView) (id other caller : ℕ) (v w : PassView) → id ≡ 0 → w.caller ≡ Some caller
-    → w.turn ≡ None → RuleHolds callers s
+    → w.turn ≡ None → v.back ≡ None → RuleHolds callers s
     → get_elem? s.views id ≡ some v → ¬ (other ≡ id) → get_elem? (slice_set s.views id (with_pass_back v w)) other ≡ some w
     → RuleHolds callers record { words = s.words; homes = s.homes; views = slice_set (slice_set s.views id (with_pass_back v w)) other spent }
-joins_pass callers s id other caller v w first mine still h at ne there =
+joins_pass callers s id other caller v w first mine still looked h at ne there =
     let b : BookSeen = h.book in
     let both : PassView = with_pass_back v w in
     let at' : get_elem? s.views 0 ≡ some v = subst (λ (k : ℕ). get_elem? s.views k ≡ some v) first at in
@@ -299,7 +318,7 @@ joins_pass callers s id other caller v w first mine still h at ne there =
       rule = subst (λ (vs : List PassView). Rule callers h.turn s.homes vs b) (sym swapped)
           (takes_back callers h.turn s.homes views b caller v both mid (set_else s.views other 0 spent (λ e. later (sym e)) ∙ at') unheld
           (subst (λ (n : ℕ). caller < n) h.rule.shared.count own.low)
-          refl refl (ap (with_back v.passes) mine) refl
+          refl refl (ap (with_back v.passes) mine) looked mine refl own.own
           record {
             seen = old.seen;
             told = within.seen;
@@ -344,6 +363,7 @@ opens callers full =
           count = length-replicate callers NotMade;
           out = each_one (λ seat v. (caller : ℕ) → v.caller ≡ Some caller → place_of x.passes caller ≡ Out) x (λ caller is. no_some x.caller caller refl is);
           not_made = λ caller _. (refl, ap (open_with (line_next b caller)) (no_take callers caller));
+          known = λ caller _. record { got = λ is. no_some x.back caller refl is; seen = λ _. refl };
           all = λ _ _. refl;
         };
       };
@@ -372,7 +392,7 @@ at_home : (callers turn : ℕ) (homes : List (Home (Option BookSeen))) (views : 
 at_home callers turn homes views b v r at back (inl home) = home
 at_home callers turn homes views b v r at back (inr out) = absurd (nobody_out callers turn homes views b v r at back out out.view.caller refl)
 
-pub closes : (callers : ℕ) (v : PassView) (id : ℕ) (words : List ℕ) (slots : List (Option BookSeen)) → id ≡ 0 → v.looked ≡ true → EachIsBack v
+pub closes : (callers : ℕ) (v : PassView) (id : ℕ) (words : List ℕ) (slots : List (Option BookSeen)) → id ≡ 0 → v.back ≡ None → EachIsBack v
     → Final (Seen (RuleHolds callers) id v) words slots
     → Closes callers v slots
 closes callers v id words slots first looked back final =
@@ -384,7 +404,7 @@ closes callers v id words slots first looked back final =
       book = h.book;
       slot = final.4 0 (Some h.book) (subst (λ (hs : List (Home (Option BookSeen))). get_elem? hs 0 ≡ some (some (Some h.book))) (sym home.slot) refl);
       count = h.rule.shared.count;
-      seen = (subst (λ (u : PassView). u.looked ≡ true → EachIsBack u → u.seen ≡ log_of h.book)
+      seen = (subst (λ (u : PassView). u.back ≡ None → EachIsBack u → u.seen ≡ log_of h.book)
           (same_there s.views 0 h.rule.root.view v h.rule.root.at at) h.rule.root.all) looked back;
       each = h.rule.shared.full.each;
       nobody = λ caller unmade. (subst (λ (u : PassView). place_of u.passes caller ≡ NotMade → of_caller caller (log_of h.book) ≡ [])

@@ -1,9 +1,10 @@
 -- What whoever shares a desk knows of its history.
-use Rattle.std.specs.Prelude.{◌≡◌, ℕ, ◌<◌, List, length, Some}
+use Rattle.std.specs.Prelude.{◌≡◌, ◌≢◌, ℕ, ◌<◌, List, length, Some}
 use Rattle.plan_io.specs.declared.lines.ScriptLine.{ScriptLine}
 use Rattle.desk_book.specs.Seen.{BookSeen}
 use Rattle.desk_book.specs.Kept.{IsBook, GoOn}
 use Rattle.desk_passes.specs.declared.seen.PassView.{PassView}
+use Rattle.desk_passes.specs.declared.seen.SeenEntry.{SeenEntry}
 use Rattle.desk_passes.specs.Seen.{lined, log_of, of_caller, open_take, EachHasEntry}
 
 -- the book's history is legal, each of its lines has its entry, and each entry's line stays whatever is sent later
@@ -27,3 +28,9 @@ pub record SeesAll (v : PassView) (b : BookSeen) : Type 0 where
 -- what is seen is a whole legal history, of which the caller's entries are its own calls, each once
 abbrev pub SeesHistory : PassView → Type 0
 SeesHistory v = (b : BookSeen) × SeesAll v b
+
+-- for all that the root knows, these are all entries of a caller whose pass isn't out: the own calls of the pass that it got back,
+-- until it has looked, else what it has seen of the caller
+pub record IsAllOf (v : PassView) (caller : ℕ) (entries : List SeenEntry) : Type 0 where
+  pub got : v.back ≡ Some caller → entries ≡ v.own
+  pub seen : v.back ≢ Some caller → entries ≡ of_caller caller v.seen

@@ -1,10 +1,13 @@
 -- What each step on a word tells whoever makes it.
-use Rattle.std.specs.Prelude.{◌≡◌, ◌≢◌, ℕ, [], ◌∷◌, length, Option, Some}
+use Rattle.std.specs.Prelude.{◌≡◌, ◌≢◌, ℕ, [], ◌∷◌, ◌++◌, length, Option, Some}
 use Rattle.atomic_table.specs.Table.{Me}
 use Rattle.desk_book.specs.Seen.{BookSeen}
+use Rattle.desk_passes.specs.declared.seen.PassPlace.TheVariants.{Out}
 use Rattle.desk_passes.specs.declared.seen.PassView.{PassView}
-use Rattle.desk_passes.specs.Seen.{log_of, BeginsWith}
-use Rattle.desk_passes.specs.Knowing.{SeesAll}
+use Rattle.desk_passes.specs.declared.seen.SeenEntry.{SeenEntry}
+use Rattle.desk_passes.specs.Seen.{log_of, of_caller, BeginsWith}
+use Rattle.desk_passes.specs.Knowing.{SeesAll, IsAllOf}
+use Rattle.desk_passes.specs.Rule.{place_of}
 use Rattle.desk_passes.specs.Steps.{having_seen, with_turn, with_entry, without_turn}
 
 -- a view, and the books that its seat has taken out of the slot
@@ -21,6 +24,12 @@ abbrev pub Looks : Seated → ℕ → Seated → Type 0
 Looks before word after =
     (b : BookSeen) × (after ≡ (having_seen b before.0, before.1)) × GoesOn before.0 b × SeesAll (having_seen b before.0) b
 
+-- the root looks so, and of a caller whose pass isn't out it knew all entries
+abbrev pub RootLooks : Seated → ℕ → Seated → Type 0
+RootLooks before word after =
+    (b : BookSeen) × (after ≡ (having_seen b before.0, before.1)) × GoesOn before.0 b × SeesAll (having_seen b before.0) b
+    × ((caller : ℕ) → place_of before.0.passes caller ≢ Out → IsAllOf before.0 caller (of_caller caller (log_of b)))
+
 -- the turn is taken, and the book with it, all of which is seen
 abbrev pub GetsTurn : Seated → Seated → Type 0
 GetsTurn before after =
@@ -30,11 +39,11 @@ GetsTurn before after =
 abbrev pub TriesTurn : Seated → ℕ → Seated → Type 0
 TriesTurn before word after = (word ≡ 0 → GetsTurn before after) × (word ≢ 0 → after ≡ before)
 
--- the entry that the book has more now is counted
+-- one entry of the view's caller, which the book has more now than was seen, is counted
 abbrev pub Counts : Seated → ℕ → Seated → Type 0
 Counts before word after =
-    (b : BookSeen) × (caller : ℕ) × (before.0.caller ≡ Some caller) × (before.1 ≡ (0, Some b) ∷ [])
-    × (after ≡ (with_entry b caller before.0, before.1)) × (word ≡ length before.0.seen)
+    (b : BookSeen) × (x : SeenEntry) × (log_of b ≡ before.0.seen ++ x ∷ []) × (before.0.caller ≡ Some x.entry.caller)
+    × (before.1 ≡ (0, Some b) ∷ []) × (after ≡ (with_entry b x.entry.caller before.0, before.1)) × (word ≡ length before.0.seen)
 
 -- the turn is given back, and the book with it
 abbrev pub GivesTurn : Seated → ℕ → Seated → Type 0

@@ -1,5 +1,5 @@
 -- The rule of a desk that callers share: what holds of its two words, of its slot and of all views between any two steps.
-use Rattle.std.specs.Prelude.{true, ◌≡◌, ◌≢◌, ℕ, ◌⊎◌, List, [], ◌∷◌, length, slice_index_or, Option, Some, None}
+use Rattle.std.specs.Prelude.{◌≡◌, ◌≢◌, ℕ, ◌⊎◌, List, [], ◌∷◌, length, slice_index_or, Option, Some, None}
 use Rattle.atomic_table.specs.Table.{State}
 use mathlib.Core.Option.{Option as Home, some, none}
 use lib.ListN.{get_elem?}
@@ -8,7 +8,7 @@ use Rattle.desk_passes.specs.declared.seen.PassPlace.{PassPlace}
 use Rattle.desk_passes.specs.declared.seen.PassPlace.TheVariants.{NotMade, Out, Back}
 use Rattle.desk_passes.specs.declared.seen.PassView.{PassView}
 use Rattle.desk_passes.specs.Seen.{log_of, of_caller, open_take, BeginsWith}
-use Rattle.desk_passes.specs.Knowing.{IsFull, IsOwn}
+use Rattle.desk_passes.specs.Knowing.{IsFull, IsOwn, IsAllOf}
 
 -- the fact holds of each view
 abbrev pub EachView : (ℕ → PassView → Type 0) → List PassView → Type 0
@@ -60,7 +60,7 @@ abbrev pub EachIsBack : PassView → Type 0
 EachIsBack v = (caller : ℕ) → place_of v.passes caller ≢ Out
 
 -- the first view is the root's, which knows where the passes of all callers are, and has seen all once each that was made is back;
--- whose pass was not made has no entry
+-- whose pass was not made has no entry, and of a caller whose pass isn't out the root knows all entries
 pub record IsRoot (callers : ℕ) (b : BookSeen) (views : List PassView) : Type 0 where
   pub view : PassView
   pub at : get_elem? views 0 ≡ some view
@@ -68,7 +68,8 @@ pub record IsRoot (callers : ℕ) (b : BookSeen) (views : List PassView) : Type 
   pub count : length view.passes ≡ callers
   pub out : EachView (λ seat v. (caller : ℕ) → v.caller ≡ Some caller → place_of view.passes caller ≡ Out) views
   pub not_made : (caller : ℕ) → place_of view.passes caller ≡ NotMade → (of_caller caller (log_of b) ≡ []) × (open_take b caller ≡ None)
-  pub all : view.looked ≡ true → EachIsBack view → view.seen ≡ log_of b
+  pub known : (caller : ℕ) → place_of view.passes caller ≢ Out → IsAllOf view caller (of_caller caller (log_of b))
+  pub all : view.back ≡ None → EachIsBack view → view.seen ≡ log_of b
 
 -- ---- all of it
 

@@ -1,5 +1,5 @@
 -- What a view becomes by each kind of step.
-use Rattle.std.specs.Prelude.{true, false, ℕ, [], replicate, slice_set, List, Option, Some, None}
+use Rattle.std.specs.Prelude.{ℕ, [], replicate, slice_set, List, Option, Some, None}
 use Rattle.desk_book.specs.Seen.{BookSeen}
 use Rattle.desk_passes.specs.declared.seen.PassPlace.{PassPlace}
 use Rattle.desk_passes.specs.declared.seen.PassPlace.TheVariants.{NotMade, Out, Back}
@@ -8,15 +8,15 @@ use Rattle.desk_passes.specs.Seen.{log_of, of_caller, open_take}
 
 -- nobody's, and nothing is known
 abbrev pub spent : PassView
-spent = record { caller = None; seen = []; told = []; own = []; take = None; turn = None; passes = []; looked = false }
+spent = record { caller = None; seen = []; told = []; own = []; take = None; turn = None; passes = []; back = None }
 
 -- the view of the root of a desk with so many callers
 abbrev pub first_view : ℕ → PassView
-first_view callers = record spent { passes = replicate callers NotMade; looked = true }
+first_view callers = record spent { passes = replicate callers NotMade }
 
 -- all of the book is seen
 abbrev pub having_seen : BookSeen → PassView → PassView
-having_seen b v = record v { seen = log_of b; told = []; looked = true }
+having_seen b v = record v { seen = log_of b; told = []; back = None }
 
 -- the turn is taken, where the book is so
 abbrev pub with_turn : BookSeen → PassView → PassView
@@ -51,6 +51,6 @@ abbrev pub with_back : List PassPlace → Option ℕ → List PassPlace
 with_back passes None = passes
 with_back passes (Some caller) = slice_set passes caller Back
 
--- a pass is given back to the root
+-- a pass is given back to the root, which is told what the pass has seen, and of its own calls
 abbrev pub with_pass_back : PassView → PassView → PassView
-with_pass_back v w = record v { told = w.seen; passes = with_back v.passes w.caller; looked = false }
+with_pass_back v w = record v { told = w.seen; own = w.own; passes = with_back v.passes w.caller; back = w.caller }

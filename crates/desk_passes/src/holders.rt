@@ -1,6 +1,6 @@
 // What a thread has of a shared desk.
 
-ghost use Rattle.std.specs.Prelude.{◌≡◌, true, [], Some, None};
+ghost use Rattle.std.specs.Prelude.{◌≡◌, [], Some, None};
 
 use crate::seen::PassView;
 use atomic_table::Seat;
@@ -16,7 +16,7 @@ pub struct Root {
     ghost no_slot: { inner.me.1 ≡ [] },
     ghost no_turn: { inner.me.0.turn ≡ None },
     ghost nothing_told: { inner.me.0.told ≡ [] },
-    ghost looked: { inner.me.0.looked ≡ true },
+    ghost looked: { inner.me.0.back ≡ None },
 }
 
 /// The right to make the calls of one caller. It can't be copied and may go to another thread; each caller gets one.

@@ -26,6 +26,15 @@ impl Play<Option<Book>, PassView> for Look {
     ghost then = { λ _. Looks };
 }
 
+/// A look by the root, which is told of callers too.
+pub(crate) struct LookAsRoot;
+
+impl Play<Option<Book>, PassView> for LookAsRoot {
+    ghost use Rattle.desk_passes.specs.Plays.{RootLooks};
+
+    ghost then = { λ _. RootLooks };
+}
+
 pub(crate) struct TryTurn;
 
 impl Play<Option<Book>, PassView> for TryTurn {

@@ -42,7 +42,7 @@ pub struct PassView {
     pub seen: LinkedList<SeenEntry>,
     /// What was seen by those from whom a note or a pass was taken over since.
     pub told: LinkedList<SeenEntry>,
-    /// The entries of the pass's own calls.
+    /// The entries of the pass's own calls; of a root, those of the pass that it got back last.
     pub own: LinkedList<SeenEntry>,
     /// What was taken for the caller's plan, until this is published.
     pub take: Option<OpenTake>,
@@ -50,6 +50,6 @@ pub struct PassView {
     pub turn: Option<Book>,
     /// Where the passes of all callers are; known to the root alone.
     pub passes: LinkedList<PassPlace>,
-    /// Whether the root has seen all that was there since it last got a pass back.
-    pub looked: bool,
+    /// Whose pass the root got back last, until it has seen all that was there then.
+    pub back: Option<u8>,
 }

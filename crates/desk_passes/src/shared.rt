@@ -1,8 +1,8 @@
 // A desk's passes and notes, and its end.
 
-ghost use Rattle.std.specs.Prelude.{◌≡◌, ◌<◌, ℕ, [], length, Some, None, IfOk};
+ghost use Rattle.std.specs.Prelude.{◌≡◌, ◌≢◌, ◌<◌, ℕ, [], length, Some, None, IfOk};
 ghost use Rattle.desk_book.specs.Seen.{empty_book};
-ghost use Rattle.desk_passes.specs.declared.seen.PassPlace.TheVariants.{NotMade};
+ghost use Rattle.desk_passes.specs.declared.seen.PassPlace.TheVariants.{NotMade, Out};
 ghost use Rattle.desk_passes.specs.Seen.{log_of, of_caller, BeginsWith, EachHasEntry};
 ghost use Rattle.desk_passes.specs.Knowing.{SeesHistory};
 ghost use Rattle.desk_passes.specs.Rule.{place_of, EachIsBack};
@@ -20,7 +20,7 @@ ghost use Rattle.desk_passes.specs.Calls.{
 
 use crate::desk::{COUNT, SharedDesk};
 use crate::holders::{Note, Pass, Root};
-use crate::rule::{Look, MakeNote, MakePass, Naming, TakeNote, TakePass};
+use crate::rule::{Look, LookAsRoot, MakeNote, MakePass, Naming, TakeNote, TakePass};
 use atomic_table::{Refused, Table};
 use desk_book::Book;
 use std::alloc::{AllocError, Global};
@@ -97,7 +97,8 @@ impl SharedDesk {
         self.table.shared.load::<Look>(&mut pass.inner, COUNT);
     }
 
-    /// Gives a pass back. The root has then seen what the pass has, and may have seen more.
+    /// Gives a pass back. The root has then seen what the pass has, and may have seen more: of the pass's caller no more than the
+    /// pass's own calls, and nothing more of another caller whose pass isn't out.
     pub fn back(&self, root: &mut Root, pass: Pass)
         requires root { IsRootOf self.now root.old }
         requires pass { IsPassOf self.now pass }
@@ -106,12 +107,15 @@ impl SharedDesk {
         ensures told { BeginsWith (root_view root.new).seen (view pass).seen }
         ensures back { (root_view root.new).passes ≡ with_back (root_view root.old).passes (view pass).caller }
         ensures knows { SeesHistory (root_view root.new) }
+        ensures own { (caller : ℕ) → (view pass).caller ≡ Some caller → of_caller caller (root_view root.new).seen ≡ (view pass).own }
+        ensures rest { (caller : ℕ) → place_of (root_view root.old).passes caller ≢ Out → (view pass).caller ≢ Some caller
+            → of_caller caller (root_view root.new).seen ≡ of_caller caller (root_view root.old).seen }
     {
         let Pass { inner, caller: _ } = pass;
         self.table
             .shared
             .join_seat::<TakePass>(&mut root.inner, inner);
-        self.table.shared.load::<Look>(&mut root.inner, COUNT);
+        self.table.shared.load::<LookAsRoot>(&mut root.inner, COUNT);
     }
 
     /// The book, once every pass was given back. Its history is what the root has seen, each line has its entry, and a caller who
