@@ -33,19 +33,32 @@ fn read_lines<S: Source>(
     }
 }
 
-/// How many lines a source has, and how they end: `e` at its end, `r` for a read fault, and `o` beyond a limit.
+/// How the lines of a source end.
+#[derive(Clone, Copy, Debug, PartialEq, Eq)]
+enum Ending {
+    /// With the source.
+    End,
+    /// At a read that failed.
+    ReadFault,
+    /// Beyond a limit.
+    InputOver,
+    /// They don't: there is one more.
+    Line,
+}
+
+/// How many lines a source has, and how they end.
 fn count_lines<S: Source>(
     alloc: Global,
     source: &mut S,
     most_bytes: u32,
     most_lines: u32,
-) -> Result<(usize, char), AllocError> {
+) -> Result<(usize, Ending), AllocError> {
     let (lines, ending) = read_lines(alloc, source, u64::from(most_bytes), u64::from(most_lines))?;
     let ending = match ending {
-        LineAnswer::Line(_) => 'l',
-        LineAnswer::End => 'e',
-        LineAnswer::ReadFault => 'r',
-        LineAnswer::InputOver => 'o',
+        LineAnswer::Line(_) => Ending::Line,
+        LineAnswer::End => Ending::End,
+        LineAnswer::ReadFault => Ending::ReadFault,
+        LineAnswer::InputOver => Ending::InputOver,
     };
     Ok((lines.len(), ending))
 }
@@ -61,14 +74,14 @@ fn text_source(alloc: Global, failing: u32) -> Result<Box<MemSource>, AllocError
 fn lines_end_at_a_fault_a_limit_or_the_end(rt: HostRuntime) -> Result<(), Fail> {
     // Two bytes come in a call, so call 2 comes after the second newline, and call 8 is at the end.
     for (failing, bytes, lines, want) in [
-        (9, 15, 4, (4, 'e')),
-        (0, 15, 4, (0, 'r')),
-        (2, 15, 4, (2, 'r')),
-        (8, 15, 4, (3, 'r')),
-        (9, 14, 4, (3, 'o')),
-        (9, 10, 4, (2, 'o')),
-        (9, 15, 3, (3, 'o')),
-        (9, 0, 4, (0, 'o')),
+        (9, 15, 4, (4, Ending::End)),
+        (0, 15, 4, (0, Ending::ReadFault)),
+        (2, 15, 4, (2, Ending::ReadFault)),
+        (8, 15, 4, (3, Ending::ReadFault)),
+        (9, 14, 4, (3, Ending::InputOver)),
+        (9, 10, 4, (2, Ending::InputOver)),
+        (9, 15, 3, (3, Ending::InputOver)),
+        (9, 0, 4, (0, Ending::InputOver)),
     ] {
         let mut source = text_source(rt.alloc(), failing)?;
         let found = count_lines(rt.alloc(), &mut *source, bytes, lines)?;
@@ -156,7 +169,7 @@ impl io::Write for Shaky {
 }
 
 /// How many lines come of two newlines, each by a call that is interrupted first.
-fn shaky_lines(alloc: Global) -> Result<(usize, char), AllocError> {
+fn shaky_lines(alloc: Global) -> Result<(usize, Ending), AllocError> {
     let mut source = StdSource::new(Shaky {
         byte: b'\n',
         calls: 0,
@@ -166,7 +179,7 @@ fn shaky_lines(alloc: Global) -> Result<(usize, char), AllocError> {
 
 #[test]
 fn the_adapters_try_again_and_count_errors(rt: HostRuntime) -> Result<(), Fail> {
-    assert_eq!(rt; shaky_lines(rt.alloc())?, (2, 'r'));
+    assert_eq!(rt; shaky_lines(rt.alloc())?, (2, Ending::ReadFault));
     let mut sink = StdSink::new(Shaky { byte: 0, calls: 0 });
     assert_eq!(rt; put(&mut sink, b"ab"), PutAnswer::Done);
     assert_eq!(rt; put(&mut sink, b"c"), PutAnswer::WriteFault);

@@ -15,6 +15,7 @@ pub struct Between {
 }
 
 impl Between {
+    /// Nothing has come yet.
     pub fn new() -> Between {
         Between {
             taken: AtomicU32::new(0),

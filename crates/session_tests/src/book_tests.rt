@@ -1,11 +1,11 @@
 //! Two callers of one book: what is answered while a Take is open, once a change came between it and its Publish, to what was
 //! found for another Take, and where none is open.
-use crate::script::{OPENING, PLAN, SUBMIT};
+use crate::script::{OPENING, PLAN, SETTINGS, SUBMIT, line_of};
 use desk_book::{Book, BookStep, PublishStep};
 use desk_events::entry_text;
 use lanes::solve_plan;
-use plan_base::{Settings, Solved, Taken};
-use plan_io::{ByteList, NoGate, ScriptLine};
+use plan_base::{Solved, Taken};
+use plan_io::NoGate;
 use std::alloc::{AllocError, Global};
 use std::test::Fail;
 use std::thread::Threads;
@@ -20,13 +20,6 @@ enum Act<'a> {
     /// What is found for the Take with this place, counted from 0, is published.
     Publish(usize),
 }
-
-/// What the desk is opened with.
-const SETTINGS: Settings = Settings {
-    lanes: 1,
-    rounds: 8,
-    workers: 1,
-};
 
 /// A text of its own.
 fn text_of(alloc: Global, text: &str) -> Result<Vec<u8>, AllocError> {
@@ -49,8 +42,7 @@ fn push(alloc: Global, book: &mut Book, caller: u8, line: &str) -> Result<(), Al
     if book.line(caller, 65_535).is_some() {
         return Ok(());
     }
-    let bytes = text_of(alloc, line)?;
-    book.push(caller, ScriptLine::Bytes(ByteList::from(bytes)))
+    book.push(caller, line_of(alloc, line)?)
 }
 
 /// Does the next line of a caller, where there is one, and says what was done: the text of the entry, or why there is none.

@@ -5,13 +5,11 @@ ghost use Rattle.desk_passes.specs.Calls.{IsPassOf, view};
 ghost use Rattle.session_tests.specs.Passes.{IsCallers, IsReady, MadeBoth};
 
 use crate::between::Between;
-use crate::script::{PLAN, SUBMIT};
-use crate::two_passes::{
-    Shared, call, close, line_of, opens, replies_so, reply_to, share, text_at,
-};
+use crate::script::{PLAN, SETTINGS, SUBMIT, line_of};
+use crate::two_passes::{Shared, call, close, opens, replies_so, reply_to, share, text_at};
 use desk_passes::{CallAnswer, Pass, SharedDesk};
 use lanes::solve_plan;
-use plan_base::{Settings, Solved, Taken};
+use plan_base::{Solved, Taken};
 use plan_io::NoGate;
 use std::alloc::{AllocError, Global};
 use std::process::Abort;
@@ -19,13 +17,6 @@ use std::sync::Wait;
 use std::sync::atomic::Ordering;
 use std::test::Fail;
 use std::thread::{self, Threads};
-
-/// What the desk is opened with.
-const SETTINGS: Settings = Settings {
-    lanes: 1,
-    rounds: 8,
-    workers: 1,
-};
 
 /// How many lines each thread calls that waits for nobody.
 const CALLS: u32 = 200;

@@ -3,10 +3,9 @@ ghost use Rattle.std.specs.Prelude.{◌≡◌, ℕ, ◌+◌, ◌<◌, length, If
 ghost use Rattle.desk_passes.specs.Calls.{IsPassOf, view};
 ghost use Rattle.session_tests.specs.Passes.{IsCallers, IsReady, MadeBoth};
 
-use crate::script::OPENING;
+use crate::script::{OPENING, line_of};
 use desk_book::Book;
 use desk_passes::{CallAnswer, Pass, Root, SharedDesk};
-use plan_io::{ByteList, ScriptLine};
 use std::alloc::{AllocError, Global};
 use std::process::Abort;
 use std::sync::Wait;
@@ -46,11 +45,6 @@ pub fn close(desk: SharedDesk, mut root: Root, zero: Pass, one: Pass) -> usize
     desk.back(&mut root, zero);
     desk.back(&mut root, one);
     desk.close(root).entries()
-}
-
-pub fn line_of(alloc: Global, text: &str) -> Result<ScriptLine, AllocError> {
-    let bytes = Vec::from_slice(alloc, text.as_bytes())?;
-    Ok(ScriptLine::Bytes(ByteList::from(bytes)))
 }
 
 /// Calls a line that takes nothing, and answers where its entry stands. So many lines were called before, or fewer.

@@ -59,7 +59,7 @@ fn export_in(replies: &[u8]) -> Option<&str> {
         return None;
     }
     let (before, last) = text.strip_suffix("\n")?.rsplit_once('\n')?;
-    if before.lines().count() != 212 {
+    if before.lines().count() != LINES as usize + 1 {
         return None;
     }
     Some(last)
