@@ -26,7 +26,7 @@ pub use nets::{cost_of, price_of};
 pub use quotas::known_quota;
 pub use rebate::rebate_of;
 pub use sight::{Sight, find_views, stretch_in_sight};
-pub use starts::starts_of;
+pub use starts::{has_telescope, starts_of};
 pub use stretches::{Observation, Stretch};
 pub use table::{Start, fill_table};
 pub use verdict::check;

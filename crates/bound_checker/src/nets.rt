@@ -21,7 +21,8 @@ pub(crate) struct Nets<'a> {
     pub quota_price: u32,
 }
 
-/// A number that a loop changes.
+/// A number that a loop changes. As a field a proof sees it as the number that it is, where it would see a variable of the loop as a
+/// word.
 #[derive(Clone, Copy)]
 pub(crate) struct Sum {
     /// What it is so far.

@@ -84,7 +84,7 @@ fn list_request(
 }
 
 /// Whether a telescope is in a list.
-fn has_telescope(telescopes: &[TelescopeNo], telescope: TelescopeNo) -> bool
+pub fn has_telescope(telescopes: &[TelescopeNo], telescope: TelescopeNo) -> bool
     ensures { IsTrue result ↔ Contains telescopes.now telescope }
 {
     telescopes.contains(&telescope)

@@ -16,7 +16,7 @@ pub struct Start {
     pub after: usize,
 }
 
-/// The greatest number so far.
+/// The greatest number so far, as a field for the same reason as a sum is.
 #[derive(Clone, Copy)]
 struct Greatest {
     value: i64,

@@ -152,26 +152,26 @@ pub(crate) fn changes(command: &Command) -> u64
 fn is_registering(command: &Command) -> bool
     ensures { result ≡ is_registering command.now }
 {
-    match command {
+    matches!(
+        command,
         Command::Instrument { .. }
-        | Command::Telescope { .. }
-        | Command::Night { .. }
-        | Command::Visibility { .. }
-        | Command::Close { .. }
-        | Command::Reopen { .. }
-        | Command::Grant { .. } => true,
-        _ => false,
-    }
+            | Command::Telescope { .. }
+            | Command::Night { .. }
+            | Command::Visibility { .. }
+            | Command::Close { .. }
+            | Command::Reopen { .. }
+            | Command::Grant { .. }
+    )
 }
 
 // Whether a command only shows what there is.
 fn is_showing(command: &Command) -> bool
     ensures { result ≡ is_showing command.now }
 {
-    match command {
-        Command::Export | Command::Balances | Command::Show { .. } => true,
-        _ => false,
-    }
+    matches!(
+        command,
+        Command::Export | Command::Balances | Command::Show { .. }
+    )
 }
 
 // What an instrument type takes beside exposures, of at most a day each.

@@ -52,7 +52,7 @@ impl Desk {
         let snapshot = self.snapshot(alloc, version)?;
         match check(alloc, &snapshot, claim)? {
             Verdict::Yes { .. } => Ok(self.publish_told(alloc, snapshot, claim)?),
-            Verdict::No(reason) => Err(Refusal::Rejected { reason }.into()),
+            Verdict::No(reason) => Err(reason.into()),
         }
     }
 

@@ -3,7 +3,7 @@
 ghost use Rattle.std.specs.Prelude.{◌≡◌, ◌<◌, ◌≤◌, [], Some, None, IfOk, OnOk, length, map};
 ghost use Rattle.plan_base.specs.Limits.{most_version};
 ghost use Rattle.plan_base.specs.Snapshot.{IsSnapshot};
-ghost use Rattle.site_model.specs.Names.{number_of};
+ghost use Rattle.site_model.specs.Names.{number_of, numbered};
 ghost use Rattle.desk_runs.specs.declared.group.Group.{Group};
 ghost use Rattle.desk_core.specs.declared.desk.Submitted.{Submitted};
 ghost use Rattle.desk_core.specs.Desk.{seen};
@@ -114,8 +114,7 @@ impl Desk {
     {
         let mut proposals = IndexSet::new(alloc);
         for number in listed {
-            let proposal = &self.submission(*number).document.proposal;
-            proposals.insert(proposal.clone()?)?;
+            add_name(&mut proposals, &self.submission(*number).document.proposal)?;
         }
         Ok(proposals)
     }
@@ -183,6 +182,16 @@ impl Desk {
             Some(quota) => Ok(ListOf::from_vec(repeated(alloc, quota, count)?)),
         }
     }
+}
+
+// Adds a name, of which a copy is made only where it is new.
+fn add_name(names: &mut IndexSet<Name>, name: &Name) -> Result<(), AllocError>
+    ensures { OnOk result (names.new.keys ≡ numbered names.old.keys name.now) }
+{
+    if names.get_index_of(name).is_none() {
+        names.insert(name.clone()?)?;
+    }
+    Ok(())
 }
 
 // The place of a name.

@@ -16,8 +16,8 @@ use site_model::SiteFault;
 impl From<JsonFault> for CommandFault {
     ghost from_gives = { λ member fault. fault ≡ of_member member };
 
-    fn from(member: JsonFault) -> CommandFault {
-        CommandFault::Refused(match member {
+    fn from(fault: JsonFault) -> CommandFault {
+        CommandFault::Refused(match fault {
             JsonFault::NotJson => Refusal::NotJson,
             JsonFault::NotObject => Refusal::NotObject,
             JsonFault::Missing { member } => Refusal::Missing { member },
@@ -33,8 +33,8 @@ impl From<JsonFault> for CommandFault {
 impl From<GroupFault> for CommandFault {
     ghost from_gives = { λ group fault. fault ≡ of_group group };
 
-    fn from(group: GroupFault) -> CommandFault {
-        CommandFault::Refused(match group {
+    fn from(fault: GroupFault) -> CommandFault {
+        CommandFault::Refused(match fault {
             GroupFault::Json(member) => return CommandFault::from(member),
             GroupFault::BadShape { operator, count } => Refusal::BadShape {
                 count: u64::from(count),
@@ -80,8 +80,8 @@ impl From<site_model::FullOf> for FullOf {
 impl From<SiteFault> for CommandFault {
     ghost from_gives = { λ network fault. fault ≡ of_network network };
 
-    fn from(network: SiteFault) -> CommandFault {
-        CommandFault::Refused(match network {
+    fn from(fault: SiteFault) -> CommandFault {
+        CommandFault::Refused(match fault {
             SiteFault::NoSuchTelescope => Refusal::NoSuchTelescope,
             SiteFault::NoSuchSite => Refusal::NoSuchSite,
             SiteFault::Repeated => Refusal::Repeated,
@@ -108,8 +108,8 @@ impl From<allocations::FullOf> for FullOf {
 impl From<LedgerFault> for CommandFault {
     ghost from_gives = { λ accounts fault. fault ≡ of_accounts accounts };
 
-    fn from(accounts: LedgerFault) -> CommandFault {
-        CommandFault::Refused(match accounts {
+    fn from(fault: LedgerFault) -> CommandFault {
+        CommandFault::Refused(match fault {
             LedgerFault::Full { limit, what } => Refusal::Full {
                 limit,
                 what: FullOf::from(what),

@@ -27,7 +27,7 @@ fn work_all<S: Sending + Send + Sync, R: Threads + Wait + Sync, G: Gate>(
     thread::for_each_mut(
         rt,
         &mut callers,
-        8,
+        CALLERS.len(),
         &|_, caller: &mut u8| {
             // What a thread leaves for want of memory is done, or told, by `finish`.
             let _ = work(rt, alloc, desk, *caller, gate);

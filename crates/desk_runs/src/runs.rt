@@ -36,11 +36,11 @@ pub struct Runs {
     len: u32,
     moment: Sec,
     groups: Vec<Group>,
-    // for each request the place of its group
+    /// For each request the place of its group.
     owners: Vec<usize>,
-    // the numbers of the open groups, rising
+    /// The numbers of the open groups, rising.
     opened: Vec<GroupNo>,
-    // how many requests are pending
+    /// How many requests are pending.
     pending: usize,
     kept: ListOf<Observation>,
     running: ListOf<Observation>,
@@ -230,6 +230,7 @@ impl Runs {
         requires { is_placed self.now.running number ≡ true }
         ensures { group_with self.now.groups number ≡ Some result.now }
     {
+        // The call recalls, for the proof, that the state is sound.
         let _ = self.now();
         match self.group_with(number) {
             Some(group) => group,
@@ -244,6 +245,7 @@ impl Runs {
         ensures withdrawn { IfOk result (λ change. changed self.now change ≡ withdrawn number self.now) }
         ensures can { IfOk result (λ change. CanChange self.now change) }
     {
+        // The call recalls, for the proof, that the state is sound.
         let _ = self.now();
         let group = self.known(number);
         let after = canceled(self.alloc, group)?;

@@ -11,7 +11,7 @@ ghost use Rattle.explain.specs.Choice.{IsRebateWith};
 use bound_checker::{cost_of, known_group, known_quota, price_of, rebate_of, request_of};
 use plan_base::{Op, Prices, QuotaPrices, RequestNo, Snapshot};
 
-/// A sum that grows.
+/// A sum that grows. As a field a proof sees it as the number that it is, where it would see a variable of the loop as a word.
 #[derive(Clone, Copy)]
 struct Sum {
     value: i64,

@@ -26,10 +26,10 @@ impl From<DocFault> for AskFault {
 
     ghost from_gives = { λ document fault. fault ≡ ask_of_document document };
 
-    fn from(document: DocFault) -> AskFault {
-        match document {
+    fn from(fault: DocFault) -> AskFault {
+        match fault {
             DocFault::NoMemory => AskFault::NoMemory,
-            _ => AskFault::Document(document),
+            _ => AskFault::Document(fault),
         }
     }
 }
@@ -41,8 +41,8 @@ impl From<JsonFault> for AskFault {
 
     ghost from_gives = { λ member fault. fault ≡ ask_of_document (fault_of_json member) };
 
-    fn from(member: JsonFault) -> AskFault {
-        AskFault::from(DocFault::from(member))
+    fn from(fault: JsonFault) -> AskFault {
+        AskFault::from(DocFault::from(fault))
     }
 }
 
@@ -52,10 +52,10 @@ impl From<ForestFault> for AskFault {
 
     ghost from_gives = { λ trees fault. fault ≡ ask_of_forest trees };
 
-    fn from(trees: ForestFault) -> AskFault {
-        match trees {
+    fn from(fault: ForestFault) -> AskFault {
+        match fault {
             ForestFault::NoMemory => AskFault::NoMemory,
-            _ => AskFault::Forest(trees),
+            _ => AskFault::Forest(fault),
         }
     }
 }

@@ -24,7 +24,7 @@ use bound_checker::{check, rebate_of};
 use plan_base::{Claim, Prices, QuotaPrices, Snapshot, bound_limit};
 use std::alloc::{AllocError, Global};
 
-/// A sum that grows.
+/// A sum that grows. As a field a proof sees it as the number that it is, where it would see a variable of the loop as a word.
 #[derive(Clone, Copy)]
 struct Sum {
     value: i64,

@@ -75,10 +75,8 @@ fn judge_forest(
     ensures fault { IfErr result (λ e. e ≢ asked.NoMemory → (bytes : _) → document_of bytes ≡ Ok (members_of doc.now) → IsForestRefused bytes e) }
 {
     forest.recall_sound();
-    match read_end(alloc, doc) {
-        Ok(claim) => Ok(check_forest(alloc, snapshot, forest, &claim)?),
-        Err(fault) => Err(AskFault::from(fault)),
-    }
+    let claim = read_end(alloc, doc)?;
+    Ok(check_forest(alloc, snapshot, forest, &claim)?)
 }
 
 /// The verdict on the claim that the bytes have.

@@ -5,7 +5,7 @@ ghost use Rattle.plan_base.specs.NetPrices.{IsNetInRange, positive, positive_sum
 
 use plan_base::larger;
 
-/// A sum that grows.
+/// A sum that grows. As a field a proof sees it as the number that it is, where it would see a variable of the loop as a word.
 #[derive(Clone, Copy)]
 struct Sum {
     value: i64,

@@ -1,7 +1,7 @@
 // Tables of what the placements of a plan take up.
 
 ghost use Rattle.std.specs.Prelude.{◌≡◌, ℕ, ◌+◌, ◌≤◌, ◌<◌, ◌^◌, ◌&&◌, ◌↔◌, nat_le, nat_lt, not, false};
-ghost use Rattle.std.specs.Prelude.{[], length, replicate, cond, slice_index_or, slice_range, Some, IsTrue, IfOk};
+ghost use Rattle.std.specs.Prelude.{[], length, cond, slice_index_or, slice_range, Some, IsTrue, IfOk};
 ghost use Rattle.std.specs.List.{list_all};
 ghost use Rattle.plan_base.specs.declared.parts.Op.TheVariants.{OneOf};
 ghost use Rattle.groups.specs.Tables.{AreTables, IsInTables, HasRoom, IsLeftOut, IsTakenUp, TellsMore, towards};
@@ -41,10 +41,10 @@ impl Tables {
         let parts = snapshot.parts();
         let slots = parts.telescopes.len() * parts.slices as usize;
         Ok(Tables {
-            occupied: no_flags(alloc, slots)?,
-            placed: no_flags(alloc, snapshot.request_count())?,
-            members: no_counts(alloc, parts.groups.len())?,
-            seconds: no_seconds(alloc, parts.quotas.len())?,
+            occupied: vec![in alloc; false; slots]?,
+            placed: vec![in alloc; false; snapshot.request_count()]?,
+            members: vec![in alloc; 0u32; parts.groups.len()]?,
+            seconds: vec![in alloc; 0u64; parts.quotas.len()]?,
         })
     }
 
@@ -96,24 +96,6 @@ impl Tables {
         self.members[footprint.group] -= 1;
         subtract_seconds(&mut self.seconds, footprint.quota, footprint.seconds);
     }
-}
-
-fn no_flags(alloc: Global, count: usize) -> Result<Vec<bool>, AllocError>
-    ensures { IfOk result (λ v. v.items ≡ replicate count false) }
-{
-    vec![in alloc; false; count]
-}
-
-fn no_counts(alloc: Global, count: usize) -> Result<Vec<u32>, AllocError>
-    ensures { IfOk result (λ v. v.items ≡ replicate count 0) }
-{
-    vec![in alloc; 0; count]
-}
-
-fn no_seconds(alloc: Global, count: usize) -> Result<Vec<u64>, AllocError>
-    ensures { IfOk result (λ v. v.items ≡ replicate count 0) }
-{
-    vec![in alloc; 0; count]
 }
 
 /// Whether at most one request of such a group may be placed.

@@ -60,7 +60,7 @@ fn first_greatest(prices: &[i64]) -> usize
     first
 }
 
-/// A sum that grows.
+/// A sum that grows. As a field a proof sees it as the number that it is, where it would see a variable of the loop as a word.
 #[derive(Clone, Copy)]
 struct Sum {
     value: i128,

@@ -27,6 +27,7 @@ fn list_wholes(rows: &RowList, block: usize, found: &mut Vec<Start>) -> Result<(
     requires { 4 * block + 4 ≤ length rows.now }
     ensures { OnOk result (All (IsWholeIn rows.now block) found.new.items) }
 {
+    // The call recalls, for the proof, what every list of rows keeps.
     let _ = rows.len();
     found.clear();
     for start in rows.row(4 * block) {
@@ -37,13 +38,14 @@ fn list_wholes(rows: &RowList, block: usize, found: &mut Vec<Start>) -> Result<(
     Ok(())
 }
 
-/// Whether a start at a block's first slice, or a later one of the same, is there at the other slices too, and ends
+/// Whether a start at a block's first slice stands at the block's other slices too, each time as many slices later, and ends
 /// after the block.
 fn is_whole(rows: &RowList, block: usize, start: Start) -> bool
     requires block { 4 * block + 4 ≤ length rows.now }
     requires start { Contains (row rows.now (4 * block)) start }
     ensures { result ≡ true → IsWholeIn rows.now block start }
 {
+    // The call recalls, for the proof, what every list of rows keeps.
     let _ = rows.len();
     let first = 4 * block;
     if usize::from(start.after) < first + 4 {
@@ -123,15 +125,5 @@ fn is_later(start: Start, other: Start, slices: u32) -> bool
 fn place_in(row: &[Start], place: u16) -> usize
     ensures { result ≤ length row.now }
 {
-    let mut from = 0;
-    let mut to = row.len();
-    while from < to {
-        let middle = from + (to - from) / 2;
-        if row[middle].place < place {
-            from = middle + 1;
-        } else {
-            to = middle;
-        }
-    }
-    from
+    row.partition_point(|start| start.place < place)
 }

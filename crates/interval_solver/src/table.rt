@@ -113,6 +113,7 @@ fn fill_slice<const L: usize>(
     ensures filled { AreFilledFrom L rows.now prices.now table.new slice }
     ensures later { (k : ℕ) → slice < k → slice_index_or table.new k [] ≡ slice_index_or table.old k [] }
 {
+    // The contract alone needs the rows.
     let _ = rows;
     let least = larger(table[slice + 1], rest);
     let best = row_best(single, prices, table, least);

@@ -1,6 +1,6 @@
 // Starts, and how often each request is among them.
 
-ghost use Rattle.std.specs.Prelude.{◌≡◌, ◌<◌, ◌^◌, [], ◌∷◌, ◌++◌, length, map, replicate, HoldsAt, IfOk};
+ghost use Rattle.std.specs.Prelude.{◌≡◌, ◌<◌, ◌^◌, [], ◌∷◌, ◌++◌, length, map, HoldsAt, IfOk};
 ghost use Rattle.plan_base.specs.Requests.{listed, place_of, IsKnown};
 ghost use Rattle.plan_base.specs.Round.{uses_of};
 ghost use Rattle.interval_solver.specs.Uses.{IsTally};
@@ -53,7 +53,7 @@ impl<'a> Uses<'a> {
             snapshot,
             starts: Vec::with_capacity(alloc, room)?,
             places: Vec::with_capacity(alloc, room)?,
-            counts: no_counts(alloc, snapshot.request_count())?,
+            counts: vec![in alloc; 0u32; snapshot.request_count()]?,
         })
     }
 
@@ -101,12 +101,6 @@ impl<'a> Uses<'a> {
         self.snapshot.recall_valid();
         self.counts[place]
     }
-}
-
-fn no_counts(alloc: Global, count: usize) -> Result<Vec<u32>, AllocError>
-    ensures { IfOk result (λ counts. counts.items ≡ replicate count 0) }
-{
-    vec![in alloc; 0; count]
 }
 
 /// Counts each of the places once less.

@@ -1,6 +1,6 @@
 // Where a request may start.
 
-ghost use Rattle.std.specs.Prelude.{◌≡◌, ℕ, ◌+◌, ◌<◌, ◌≤◌, ◌↔◌, ◌++◌, length, replicate, All, Contains, IfOk, OnOk, IsTrue};
+ghost use Rattle.std.specs.Prelude.{◌≡◌, ◌+◌, ◌<◌, ◌≤◌, ◌++◌, length, replicate, All, IfOk, OnOk};
 ghost use Rattle.plan_base.specs.Limits.{most_slices, most_first};
 ghost use Rattle.plan_base.specs.Requests.{listed, IsKnown};
 ghost use Rattle.plan_base.specs.Verdict.{IsPriceInRange};
@@ -9,7 +9,7 @@ ghost use Rattle.bound_checker.specs.Sights.{IsClear};
 ghost use Rattle.bound_checker.specs.Listings.{CanStart};
 ghost use Rattle.openings.specs.Openings.{IsOfferOf, IsFlagged, IsOpenRow, AreOpenings};
 
-use bound_checker::{Offer, Sight, find_views, offer_of, stretch_in_sight};
+use bound_checker::{Offer, Sight, find_views, has_telescope, offer_of, stretch_in_sight};
 use plan_base::{ListOf, Parts, Prices, RequestNo, Snapshot, TelescopeNo};
 use std::alloc::{AllocError, Global};
 
@@ -50,7 +50,7 @@ pub fn openings_of(
     ensures request { IfOk result (λ openings. openings.request ≡ request) }
 {
     let offer = offer_at(snapshot, prices, request);
-    let mut rows = Vec::new(alloc);
+    let mut rows = Vec::with_capacity(alloc, snapshot.parts().telescopes.len())?;
     let mut views = Vec::new(alloc);
     for telescope in 0..snapshot.parts().telescopes.len() {
         snapshot.recall_valid();
@@ -113,13 +113,6 @@ fn row_of(
     flags_of(alloc, parts, &sight, &offer)
 }
 
-/// Whether a telescope is in a list.
-fn has_telescope(telescopes: &[TelescopeNo], telescope: TelescopeNo) -> bool
-    ensures { IsTrue result ↔ Contains telescopes.now telescope }
-{
-    telescopes.contains(&telescope)
-}
-
 /// For each slice of the horizon whether an offer in sight may start there. Fails only for want of memory.
 fn flags_of(
     alloc: Global,
@@ -135,7 +128,7 @@ fn flags_of(
 {
     let first = u64::from(parts.first.0);
     let stop = (first + u64::from(parts.slices) + 1).saturating_sub(offer.size);
-    let mut flags = Vec::new(alloc);
+    let mut flags = Vec::with_capacity(alloc, parts.slices as usize)?;
     let mut slice = first;
     while slice < stop {
         let stretch = stretch_in_sight(sight, offer.observation, slice);

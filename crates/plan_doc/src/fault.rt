@@ -25,10 +25,10 @@ impl From<JsonFault> for DocFault {
 
     ghost from_gives = { λ member fault. fault ≡ fault_of_json member };
 
-    fn from(member: JsonFault) -> DocFault {
-        match member {
+    fn from(fault: JsonFault) -> DocFault {
+        match fault {
             JsonFault::NoMemory => DocFault::NoMemory,
-            _ => DocFault::Json(member),
+            _ => DocFault::Json(fault),
         }
     }
 }
@@ -39,10 +39,10 @@ impl From<SnapshotFault> for DocFault {
 
     ghost from_gives = { λ parts fault. fault ≡ fault_of_snapshot parts };
 
-    fn from(parts: SnapshotFault) -> DocFault {
-        match parts {
+    fn from(fault: SnapshotFault) -> DocFault {
+        match fault {
             SnapshotFault::NoMemory => DocFault::NoMemory,
-            _ => DocFault::Snapshot(parts),
+            _ => DocFault::Snapshot(fault),
         }
     }
 }

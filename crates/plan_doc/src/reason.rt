@@ -25,7 +25,7 @@ pub struct ReasonFields {
     pub index: Option<u32>,
     /// The most seconds that a quota allows.
     pub most: Option<u64>,
-    /// The number of a quota.
+    /// The place of a quota in the snapshot's list, from 0.
     pub quota: Option<u32>,
     /// The seconds that the plan takes of it.
     pub seconds: Option<u64>,

@@ -25,9 +25,13 @@ fn find_newline(bytes: &[u8], from: usize) -> usize
 /// Bytes in memory, taken from the front and added at the back. What was searched for a newline isn't searched
 /// again, and a byte is moved to the front at most once for each line before it.
 pub(crate) struct Held {
+    /// What was added and not moved away yet, with what was passed of it.
     bytes: Vec<u8>,
+    /// Where what is left is moved to, in turns with `bytes`.
     spare: Vec<u8>,
+    /// Where what is left begins.
     start: usize,
+    /// Up to where there is no newline in what is left.
     scanned: usize,
 }
 
@@ -108,9 +112,7 @@ impl Held {
         ensures { self.new.bytes ≡ drop (count + 1) self.old.bytes }
     {
         self.start = self.start + count + 1;
-        if self.scanned < self.start {
-            self.scanned = self.start;
-        }
+        self.scanned = self.scanned.max(self.start);
     }
 
     /// Drops all.

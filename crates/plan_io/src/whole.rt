@@ -58,11 +58,7 @@ fn read_size(allowed: u64) -> usize
     ensures room { result ≤ 65536 }
     ensures within { result ≤ allowed + 1 }
 {
-    if allowed < ROOM as u64 {
-        allowed as usize + 1
-    } else {
-        ROOM
-    }
+    allowed.saturating_add(1).min(ROOM as u64) as usize
 }
 
 /// Reads a source to its end, where it gives at most `most_bytes` bytes. It reads by blocks, and takes at most one byte

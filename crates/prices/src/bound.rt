@@ -4,7 +4,7 @@ ghost use Rattle.std.specs.Prelude.{◌≡◌, ℤ, pos, ◌+ℤ◌, ◌≤ℤ�
 ghost use Rattle.plan_base.specs.Limits.{bound_limit};
 ghost use Rattle.plan_base.specs.Sums.{total};
 
-/// A sum that grows.
+/// A sum that grows. As a field a proof sees it as the number that it is, where it would see a variable of the loop as a word.
 #[derive(Clone, Copy)]
 struct Sum {
     value: i64,

@@ -24,10 +24,10 @@ impl From<SnapshotFault> for RapidFault {
 
     ghost from_gives = { λ parts fault. fault ≡ fault_of_snapshot parts };
 
-    fn from(parts: SnapshotFault) -> RapidFault {
-        match parts {
+    fn from(fault: SnapshotFault) -> RapidFault {
+        match fault {
             SnapshotFault::NoMemory => RapidFault::NoMemory,
-            _ => RapidFault::Snapshot(parts),
+            _ => RapidFault::Snapshot(fault),
         }
     }
 }

@@ -71,8 +71,7 @@ fn with_refusal(text: Vec<u8>, fault: RapidFault) -> Result<Answer, AllocError>
 {
     match fault {
         RapidFault::NoMemory => Err(AllocError),
-        RapidFault::NotSingle { .. } => with_line(text, fault),
-        RapidFault::Snapshot(_) => with_line(text, fault),
+        RapidFault::NotSingle { .. } | RapidFault::Snapshot(_) => with_line(text, fault),
     }
 }
 

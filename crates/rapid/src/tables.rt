@@ -29,7 +29,7 @@ pub(crate) struct Extension<'a> {
     pub request: &'a RequestPart,
 }
 
-/// A sum that grows.
+/// A sum that grows. As a field a proof sees it as the number that it is, where it would see a variable of the loop as a word.
 #[derive(Clone, Copy)]
 struct Sum {
     value: i64,

@@ -8,7 +8,7 @@ ghost use Rattle.plan_base.specs.FeasibleSoFar.{IsFeasibleSoFar};
 ghost use Rattle.plan_base.specs.Saturated.{HasNonePlaced};
 ghost use Rattle.repair.specs.Apart.{IsPossibleRun, HasNoApart, IsFirstApart};
 
-use crate::marks::{clear_marks, first_clear, no_marks, write_marks};
+use crate::marks::{clear_marks, first_clear, write_marks};
 use groups::{PlanBuild, Slots};
 use plan_base::{Placement, RequestNo, SliceNo, Snapshot};
 use snapshot_starts::Run;
@@ -55,7 +55,7 @@ impl<'a> Draft<'a> {
         Ok(Draft {
             snapshot,
             build: PlanBuild::new(alloc, snapshot)?,
-            marks: no_marks(alloc, slots)?,
+            marks: vec![in alloc; 0u16; slots]?,
         })
     }
 

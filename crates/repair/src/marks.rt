@@ -1,17 +1,8 @@
 // Marks at the slots that a plan occupies. The mark of a slot is the slot after the last of the placement that occupies
 // it, so a search goes past a placement in one step; a free slot has the mark 0.
 
-ghost use Rattle.std.specs.Prelude.{◌≡◌, ℕ, ◌+◌, ◌≤◌, ◌<◌, ◌&&◌, nat_le, nat_lt, length, replicate, cond, slice_index_or, IfOk, MatchOption};
+ghost use Rattle.std.specs.Prelude.{◌≡◌, ℕ, ◌+◌, ◌≤◌, ◌<◌, ◌&&◌, nat_le, nat_lt, length, cond, slice_index_or, MatchOption};
 ghost use Rattle.repair.specs.Marks.{IsMarkWithin, IsClear, IsFirstClear, AreSkips};
-
-use std::alloc::{AllocError, Global};
-
-/// So many slots, all of them free. Fails only for want of memory.
-pub(crate) fn no_marks(alloc: Global, count: usize) -> Result<Vec<u16>, AllocError>
-    ensures { IfOk result (λ marks. marks.items ≡ replicate count 0) }
-{
-    vec![in alloc; 0; count]
-}
 
 /// The mark of one of the slots from `from` to the one before `to`, the last that has one, or 0 where all are free.
 fn mark_within(marks: &[u16], from: usize, to: usize) -> u16
@@ -64,7 +55,5 @@ pub(crate) fn clear_marks(marks: &mut Vec<u16>)
     ensures count { length marks.new.items ≡ length marks.old.items }
     ensures clear { (i : ℕ) → slice_index_or marks.new.items i 0 ≡ 0 }
 {
-    for slot in 0..marks.len() {
-        marks[slot] = 0;
-    }
+    marks.as_mut_slice().fill(0);
 }

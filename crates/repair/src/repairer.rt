@@ -80,8 +80,8 @@ impl<'a> Repairer<'a> {
             trials: Trials::new(alloc, snapshot, starts)?,
             offers: Offers::new(alloc, snapshot)?,
             draft: Draft::new(alloc, snapshot)?,
-            firsts: no_firsts(alloc, count)?,
-            noted: no_ranks(alloc, count)?,
+            firsts: vec![in alloc; None; count]?,
+            noted: vec![in alloc; None; count]?,
             ranked: Vec::with_capacity(alloc, count)?,
         })
     }
@@ -122,16 +122,4 @@ impl<'a> Repairer<'a> {
     {
         self.draft.placed()
     }
-}
-
-fn no_firsts(alloc: Global, count: usize) -> Result<Vec<Option<Placement>>, AllocError>
-    ensures { IfOk result (λ firsts. length firsts.items ≡ count) }
-{
-    vec![in alloc; None; count]
-}
-
-fn no_ranks(alloc: Global, count: usize) -> Result<Vec<Option<Ranked>>, AllocError>
-    ensures { IfOk result (λ ranks. length ranks.items ≡ count) }
-{
-    vec![in alloc; None; count]
 }

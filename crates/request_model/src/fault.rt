@@ -31,10 +31,10 @@ impl From<JsonFault> for GroupFault {
 
     ghost from_gives = { λ member fault. fault ≡ fault_of member };
 
-    fn from(member: JsonFault) -> GroupFault {
-        match member {
+    fn from(fault: JsonFault) -> GroupFault {
+        match fault {
             JsonFault::NoMemory => GroupFault::NoMemory,
-            _ => GroupFault::Json(member),
+            _ => GroupFault::Json(fault),
         }
     }
 }

@@ -26,10 +26,7 @@ pub(crate) struct Summary {
 fn more(count: u64, by: usize) -> Result<u64, AllocError>
     ensures { IfOk result (λ sum. sum ≡ count + by) }
 {
-    match count.checked_add(by as u64) {
-        Some(sum) => Ok(sum),
-        None => Err(AllocError),
-    }
+    count.checked_add(by as u64).ok_or(AllocError)
 }
 
 /// The summary of no line.

@@ -120,7 +120,7 @@ fn call_scripts<R: Threads + Wait + Sync, G: Gate>(
     thread::for_each_mut(
         rt,
         passes,
-        8,
+        usize::from(CALLERS),
         &|_, pass: &mut Pass|
             requires { (caller : ℕ) × IsFresh desk.now caller pass.old }
             ensures desk { IsPassOf desk.entry.now pass.new }

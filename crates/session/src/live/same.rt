@@ -22,6 +22,7 @@ fn is_same_script(a: &Book, b: &Book, caller: u8) -> bool
     requires b { caller < length b.now.scripts }
     ensures { IsTrue result → script_of a.now.scripts caller ≡ script_of b.now.scripts caller }
 {
+    // At the place after the most lines that a script may have, both have none.
     for index in 0..MOST_LINES + 1 {
         match (a.line(caller, index), b.line(caller, index)) {
             (None, None) => return true,

@@ -5,17 +5,17 @@ use Rattle.group_trees.specs.Forests.{IsForest}
 use Rattle.group_trees.specs.Built.{trees_of}
 use Rattle.group_trees.proofs.run.judge_forest.Goals as goal
 
-pub returns-in_ok-check_forest-in-Ok-clause-verdict : goal.returns-in_ok-check_forest-in-Ok-clause-verdict
-returns-in_ok-check_forest-in-Ok-clause-verdict c = λ bytes document. record {
+pub returns-clause-verdict : goal.returns-clause-verdict
+returns-clause-verdict c = λ bytes document. record {
   snapshot = c.args.snapshot.now;
   trees = trees_of c.args.forest.now;
-  claim = c.in-Ok.claim;
+  claim = c.in_ok-claim.claim;
   asked = record {
     members = members_of c.args.doc.now;
     opening = record { document = document; opened = c.requires.opening };
     forest = subst (λ (p : Parts). IsForest p (trees_of c.args.forest.now)) c.requires.snapshot c.recall_sound.ensures;
-    claimed = c.in-Ok.ensures.value;
+    claimed = c.in_ok-claim.ensures.value;
   };
-  is_verdict = c.in_ok-check_forest-in-Ok.ensures.verdict;
-  bounding = c.in_ok-check_forest-in-Ok.ensures.bound;
+  is_verdict = c.in_ok-check_forest.ensures.verdict;
+  bounding = c.in_ok-check_forest.ensures.bound;
 }

@@ -12,9 +12,9 @@ loop-slice-init c =
       from = omega arith;
       within = omega arith;
       flags = subst (λ (n : ℕ). IsFlaggedTo (λ i. CanStart c.args.parts.now c.args.sight.now c.args.offer.now (c.args.parts.now.first.0 + i)) n
-          c.new-flags.result.items) (sym none)
+          c.in_ok-flags.flags.items) (sym none)
           (subst (IsFlaggedTo (λ i. CanStart c.args.parts.now c.args.sight.now c.args.offer.now (c.args.parts.now.first.0 + i)) 0)
-          (sym c.new-flags.ensures.items)
+          (sym c.in_ok-flags.ensures.items)
           (flags_start (λ i. CanStart c.args.parts.now c.args.sight.now c.args.offer.now (c.args.parts.now.first.0 + i))));
     }
 

@@ -24,6 +24,5 @@ loop-number-preserved c =
     submission_is d _ next.group c.submission.result.now (ap (both_at d) next.number ∙ next.numbered.at) c.submission.ensures in
     folded_more (λ names p. numbered names p.0.document.proposal) [] (listed_groups d) c.loop-number.number-index next.group next.in_range next.stands
     c.loop-number.proposals.keys
-    c.insert.new.self.keys c.loop-number.invariant
-    (c.in_ok-insert.ensures.keys ∙ ap (numbered c.loop-number.proposals.keys)
-    (c.in_ok-clone.ensures.cases ∙ ap (λ (w : Submitted). w.document.proposal) submitted))
+    c.add_name.new.names.keys c.loop-number.invariant
+    (c.in_ok-add_name.ensures ∙ ap (λ (w : Submitted). numbered c.loop-number.proposals.keys w.document.proposal) submitted)

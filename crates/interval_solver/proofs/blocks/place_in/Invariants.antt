@@ -1,8 +1,0 @@
-use Rattle.std.proofs.Common.{◌-◌, ◌≤◌, length}
-use Rattle.interval_solver.proofs.blocks.place_in.Given as goal
-
-abbrev pub invariant-loop-from : goal.invariant-loop-from
-invariant-loop-from l = record { order : l.from ≤ l.to; within : l.to ≤ length l.row }
-
-abbrev pub decreases-loop-from : goal.decreases-loop-from
-decreases-loop-from l = l.to - l.from
