@@ -2,7 +2,7 @@
 use Rattle.std.specs.Prelude.{◌≡◌, ℕ, ◌+◌, ◌*◌, ◌^◌, ◌<◌, ◌≤◌, true, IsTrue, List, ◌++◌, length, All, IfSome, Option, Some, None, sum_by, if◌then◌else◌, nat_lt}
 use Rattle.std.specs.List.{AllZip, zip}
 use Rattle.std.specs.Option.{option_map_or}
-use Rattle.plan_base.specs.Limits.{most_version}
+use Rattle.plan_base.specs.Limits.{most_version, least_len, most_len, most_slices, most_quota, most_value, most_seconds}
 use Rattle.plan_base.specs.Snapshot.{most_requests}
 use Rattle.plan_base.specs.Verdict.{IsCertified}
 use Rattle.plan_json.specs.Moment.{last_moment}
@@ -30,13 +30,13 @@ use Rattle.desk_core.specs.Seconds.{end_of_time}
 
 -- what a desk is opened with is in the ranges of its line
 pub record IsOpenedWith (o : Opening) : Type 0 where
-  pub slice : IsBetween 60 3600 o.slice
-  pub horizon : IsBetween 1 1440 o.horizon
+  pub slice : IsBetween least_len most_len o.slice
+  pub horizon : IsBetween 1 most_slices o.horizon
   pub semester : IsWindow o.semester
   pub lanes : IsBetween 1 8 o.settings.lanes
   pub rounds : IsBetween 1 256 o.settings.rounds
   pub workers : IsBetween 1 8 o.settings.workers
-  pub quota : IfSome o.quota (IsBetween 1 100000000)
+  pub quota : IfSome o.quota (IsBetween 1 most_quota)
 
 -- ---- groups
 
@@ -46,14 +46,14 @@ pub record IsWanted (targets : ℕ) (q : Wanted) : Type 0 where
   pub type : IsText q.instrument
   pub least : q.threshold ≤ 100
   pub lost : q.fade ≤ 1000
-  pub worth : IsBetween 1 288000000 q.value
+  pub worth : IsBetween 1 most_value q.value
   pub times : AreWindows q.windows
   pub few : length q.targets ≤ 16
   pub known : All (λ t. t.0 < targets) q.targets
 
 -- a request lasts a second to a day
 abbrev pub LastsADay : Request → Type 0
-LastsADay q = IsBetween 1 86400 q.seconds
+LastsADay q = IsBetween 1 most_seconds q.seconds
 
 -- a group as it was submitted, and how far it has come: the same requests, of as many as its kind may have
 pub record IsAlong (targets : ℕ) (w : Submitted) (g : Group) : Type 0 where

@@ -2,6 +2,7 @@
 use Rattle.std.specs.Prelude.{◌≡◌, ℕ, ◌≤◌, false, List, length, map, All}
 use Rattle.std.specs.List.{zip}
 use Rattle.plan_base.specs.Snapshot.{most_requests}
+use Rattle.plan_base.specs.Limits.{most_seconds}
 use Rattle.plan_base.specs.declared.number.Sec.{Sec}
 use Rattle.plan_json.specs.Ranges.{IsBetween}
 use Rattle.request_model.specs.Ranges.{IsRequest, AreWindows}
@@ -21,7 +22,7 @@ use Rattle.desk_core.specs.Submitting.{op_of, asks_of, targets_with, wanted_of}
 -- a request that is made is in the ranges, and not all its windows are past
 pub record IsMade (now : Sec) (m : MadeSeen) : Type 0 where
   pub asked : IsRequest m.asked
-  pub seconds : IsBetween 1 86400 m.seconds
+  pub seconds : IsBetween 1 most_seconds m.seconds
   pub windows : AreWindows m.windows
   pub late : is_past now m.windows ≡ false
 

@@ -11,6 +11,7 @@ use Rattle.desk_runs.specs.declared.group.Group.{Group}
 use Rattle.desk_runs.specs.declared.group.Request.{Request}
 use Rattle.plan_base.specs.declared.state.RequestState.TheVariants.{WindowExpired, Canceled}
 use Rattle.plan_base.specs.States.{is_in, is_window_expired}
+use Rattle.plan_base.specs.Limits.{most_seconds}
 use Rattle.desk_runs.specs.Numbers.{is_request, has_request, group_with, is_placed}
 use Rattle.desk_runs.specs.Clock.{at_moment, settle, started, beginning, ending, requests_in, became_in}
 use Rattle.desk_runs.specs.Reports.{reported}
@@ -78,7 +79,7 @@ charged number used w q d =
 -- what a report that completes a request may charge: no group is refunded, the account has a grant, and what is held of it is
 -- less then by at least what is charged
 pub record CanCharge (d : DeskSeen) (number : RequestNo) (used : ℕ) (key : Key) : Type 0 where
-  pub short : used ≤ 86400
+  pub short : used ≤ most_seconds
   pub none : All (λ p. is_refunded p.1.0 p.1.1 ≡ false) (groups_along d (reported number true d.progress))
   pub granted : IsTrue (has_grant d.books.entries key)
   pub less : used + held_of (with_progress (reported number true d.progress) d).books.holds key ≤ held_of d.books.holds key

@@ -1,6 +1,6 @@
 -- The commands: for each the members after `do`, in the order in which they are read, with their kinds and ranges.
 use Rattle.std.specs.Prelude.{is_some, if◌then◌else◌, Result, Ok}
-use Rattle.plan_base.specs.Limits.{most_version, least_len, most_len, most_slices}
+use Rattle.plan_base.specs.Limits.{most_version, least_len, most_len, most_slices, most_quota, most_seconds}
 use Rattle.serde_json.specs.Data.{Members}
 use Rattle.plan_base.specs.declared.number.GroupNo.{GroupNo}
 use Rattle.plan_json.specs.declared.member.Member.TheVariants as member
@@ -33,7 +33,7 @@ open_of ms =
     member_of (number_in 1 8) ms member.Lanes >>= λ lanes.
     member_of (number_in 1 256) ms member.Rounds >>= λ rounds.
     member_of (number_in 1 8) ms member.Workers >>= λ workers.
-    if_there (number_in 1 100000000) ms member.Quota >>= λ quota.
+    if_there (number_in 1 most_quota) ms member.Quota >>= λ quota.
     Ok (command.Open now slice horizon semester lanes rounds workers quota)
 
 -- `type`, and in milliseconds `front_ms`, `config_ms`, `readout_ms`, `change_ms`
@@ -141,7 +141,7 @@ abbrev pub report_of : Members → Result Command JsonFault
 report_of ms =
     member_of (number_in 0 4294967295) ms member.Request >>= λ request.
     member_of (number_in 0 100) ms member.Percent >>= λ percent.
-    member_of (number_in 0 86400) ms member.Used >>= λ used.
+    member_of (number_in 0 most_seconds) ms member.Used >>= λ used.
     Ok (command.Report (record { 0 = request }) percent used)
 
 -- `version`, `claim`

@@ -1,6 +1,6 @@
 -- The ranges of what is read: each command's texts, numbers, spans and counts.
 use Rattle.std.specs.Prelude.{◌≡◌, ℕ, ◌≤◌, List, [], length, All, Option, IfSome, ⊤}
-use Rattle.plan_base.specs.Limits.{most_version, least_len, most_len, most_slices}
+use Rattle.plan_base.specs.Limits.{most_version, least_len, most_len, most_slices, most_quota, most_seconds}
 use Rattle.plan_base.specs.declared.claim.Claim.{Claim}
 use Rattle.plan_base.specs.declared.number.Sec.{Sec}
 use Rattle.plan_base.specs.declared.span.Span.{Span}
@@ -25,7 +25,7 @@ pub record IsOpening (now : Sec) (slice horizon : ℕ) (semester : Span) (lanes 
   pub sequences : IsBetween 1 8 lanes
   pub turns : IsBetween 1 256 rounds
   pub threads : IsBetween 1 8 workers
-  pub share : IfSome quota (IsBetween 1 100000000)
+  pub share : IfSome quota (IsBetween 1 most_quota)
 
 -- the name has 1 to 128 bytes, and each of the four overheads is at most 86,400,000 milliseconds, which is a day
 pub record IsInstrument (name : List ℕ) (front config readout change : ℕ) : Type 0 where
@@ -96,7 +96,7 @@ pub record IsGrant (key : Key) (seconds : ℕ) : Type 0 where
 -- at most 100 percent were taken, in at most 86,400 seconds
 pub record IsReport (percent used : ℕ) : Type 0 where
   pub part : percent ≤ 100
-  pub time : used ≤ 86400
+  pub time : used ≤ most_seconds
 
 -- a version that a desk may have, and a claim that a document allows
 pub record IsPublication (version : ℕ) (claim : Claim) : Type 0 where

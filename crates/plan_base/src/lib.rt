@@ -34,7 +34,7 @@ pub use greatest::{
 };
 pub use laws::{
     bound_limit, bound_of_parts, empty_is_feasible, filled_is_saturated, planned_is_saturated,
-    table_has_bests, value_limit, weak_duality, worth_between,
+    round_limit, table_has_bests, value_limit, weak_duality, worth_between,
 };
 pub use list::{ListOf, repeated};
 pub use listing::listing_of;

@@ -10,7 +10,7 @@ use Rattle.plan_base.specs.declared.parts.Sky.{Sky}
 use Rattle.plan_base.specs.declared.parts.RequestPart.{RequestPart}
 use Rattle.plan_base.specs.declared.parts.GroupPart.{GroupPart}
 use Rattle.plan_base.specs.declared.parts.Parts.{Parts}
-use Rattle.plan_base.specs.Limits.{most_moment, most_seconds, most_value, most_slices, most_version, most_first}
+use Rattle.plan_base.specs.Limits.{most_moment, most_seconds, most_value, most_slices, most_version, most_first, least_len, most_len}
 use Rattle.plan_json.specs.Ranges.{IsBetween}
 use Rattle.plan_doc.specs.Claim.{highest_price}
 use Rattle.plan_doc.specs.Snapshot.{most_items}
@@ -78,7 +78,7 @@ pub record IsGroup (x : GroupPart) : Type 0 where
 -- the parts of a snapshot whose numbers and counts a document allows
 pub record AreParts (s : Parts) : Type 0 where
   pub version : s.version ≤ most_version
-  pub len : IsBetween 60 3600 s.len
+  pub len : IsBetween least_len most_len s.len
   pub first : s.first.0 ≤ most_first
   pub slices : IsBetween 1 most_slices s.slices
   pub telescopes : AreUpTo most_items IsTelescope s.telescopes

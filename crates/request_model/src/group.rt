@@ -1,7 +1,10 @@
 // The request group.
 
+ghost use Rattle.std.specs.Prelude.{◌≡◌, IfOk};
+
 use crate::request::RequestDoc;
 use plan_base::{ListOf, Name, Op};
+use std::alloc::AllocError;
 
 /// How an observation is scheduled, the portal's `observation_type`.
 #[derive(Clone, Copy)]
@@ -31,6 +34,15 @@ pub struct GroupDoc {
     pub priority: u8,
     /// 1 for `SINGLE`, 2 to 32 for the other operators.
     pub requests: ListOf<RequestDoc>,
+}
+
+impl GroupDoc {
+    /// The same group once more. Fails only for want of memory.
+    pub fn copy(&self) -> Result<GroupDoc, AllocError>
+        ensures { IfOk result (λ copy. copy ≡ self.now) }
+    {
+        self.clone()
+    }
 }
 
 impl Drop for GroupDoc {

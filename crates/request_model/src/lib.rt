@@ -1,7 +1,6 @@
 // Request groups as documents: what a group asks for, as it was submitted.
 #![tactic(auto)]
 
-mod copies;
 mod fault;
 mod group;
 mod laws;

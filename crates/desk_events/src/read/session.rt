@@ -8,15 +8,24 @@ ghost use Rattle.plan_json.specs.declared.member.Member.TheVariants.{Quota};
 ghost use Rattle.desk_events.specs.Commands.{open_of, clock_of, report_of};
 
 use crate::command::Command;
-use plan_base::{LEAST_LEN, MOST_LEN, MOST_SECONDS, MOST_SLICES, RequestNo};
+use plan_base::{LEAST_LEN, MOST_LEN, MOST_QUOTA, MOST_SECONDS, MOST_SLICES, RequestNo};
 use plan_json::{Doc, JsonFault, Member};
+
+/// The most lanes of a plan.
+const MOST_LANES: u32 = 8;
+
+/// The most rounds of prices of a lane.
+const MOST_ROUNDS: u32 = 256;
+
+/// The most workers that seek a plan.
+const MOST_WORKERS: u32 = 8;
 
 /// The most seconds of one proposal in a plan, where it is given.
 fn read_quota(doc: &Doc) -> Result<Option<u64>, JsonFault>
     ensures { result ≡ if_there (number_in 1 100000000) (members_of doc.now) Quota }
 {
     if doc.has(Member::Quota) {
-        let seconds = doc.number(Member::Quota, 1, 100_000_000)?;
+        let seconds = doc.number(Member::Quota, 1, MOST_QUOTA as u32)?;
         Ok(Some(u64::from(seconds)))
     } else {
         Ok(None)
@@ -31,9 +40,9 @@ pub(crate) fn read_open(doc: &Doc) -> Result<Command, JsonFault>
     let slice = doc.number(Member::Slice, LEAST_LEN, MOST_LEN)?;
     let horizon = doc.number(Member::Horizon, 1, MOST_SLICES)?;
     let semester = doc.span(Member::Semester)?;
-    let lanes = doc.number(Member::Lanes, 1, 8)?;
-    let rounds = doc.number(Member::Rounds, 1, 256)?;
-    let workers = doc.number(Member::Workers, 1, 8)?;
+    let lanes = doc.number(Member::Lanes, 1, MOST_LANES)?;
+    let rounds = doc.number(Member::Rounds, 1, MOST_ROUNDS)?;
+    let workers = doc.number(Member::Workers, 1, MOST_WORKERS)?;
     let quota = read_quota(doc)?;
     Ok(Command::Open {
         now,

@@ -65,8 +65,5 @@ pub(crate) fn read_verb(alloc: Global, doc: &Doc) -> Result<Verb, CommandFault>
     ensures fault { IfErr result (λ e. e ≢ NoMemory → verb_of (members_of doc.now) ≡ Err e) }
 {
     let word = doc.text(alloc, Member::Do)?;
-    match verb_named(word.text()) {
-        Some(verb) => Ok(verb),
-        None => Err(CommandFault::Refused(Refusal::UnknownCommand)),
-    }
+    verb_named(word.text()).ok_or(CommandFault::Refused(Refusal::UnknownCommand))
 }
