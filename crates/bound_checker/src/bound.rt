@@ -8,9 +8,9 @@ ghost use Rattle.plan_base.specs.Verdict.{IsPriceInRange};
 ghost use Rattle.bound_checker.specs.Summed.{IsSummed, IsPartSum};
 
 use crate::best::best_of;
-use crate::nets::{Sum, price_at};
+use crate::nets::price_at;
 use crate::rebate::rebate_of;
-use plan_base::{Prices, QuotaPrices, Snapshot, TelescopeNo};
+use plan_base::{Prices, QuotaPrices, Snapshot, Sum, TelescopeNo};
 use std::alloc::{AllocError, Global};
 
 /// The Lagrangian dual bound: the sum of the bests of all telescopes, the rebates of all groups, and the quotas at

@@ -8,7 +8,7 @@ ghost use Rattle.plan_base.specs.Verdict.{IsPriceInRange};
 ghost use Rattle.plan_base.specs.NetPrices.{IsNetInRange, positive, positive_sum, price_sum, IsGreatestPrice};
 ghost use Rattle.bound_checker.specs.Nets.{IsNets, net_list, price_of};
 
-use plan_base::{Prices, QuotaPrices, RequestPart, Snapshot, larger};
+use plan_base::{Prices, QuotaPrices, RequestPart, Snapshot, Sum, larger};
 
 /// The requests of a group with their prices, and the price of a second of the group's quota.
 #[derive(Clone, Copy)]
@@ -19,14 +19,6 @@ pub(crate) struct Nets<'a> {
     pub prices: &'a [i64],
     /// 0 to 200,000, and 0 where the group counts towards no quota.
     pub quota_price: u32,
-}
-
-/// A number that a loop changes. As a field a proof sees it as the number that it is, where it would see a variable of the loop as a
-/// word.
-#[derive(Clone, Copy)]
-pub(crate) struct Sum {
-    /// What it is so far.
-    pub value: i64,
 }
 
 /// The net prices of the group at a place.

@@ -2,7 +2,7 @@
 use Rattle.std.specs.Prelude.{◌≡◌, ℕ, ◌+◌, ◌*◌, ◌^◌, ◌<◌, ◌≤◌, true, IsTrue, List, ◌++◌, length, All, IfSome, Option, Some, None, sum_by, if◌then◌else◌, nat_lt}
 use Rattle.std.specs.List.{AllZip, zip}
 use Rattle.std.specs.Option.{option_map_or}
-use Rattle.plan_base.specs.Limits.{most_version, least_len, most_len, most_slices, most_quota, most_value, most_seconds}
+use Rattle.plan_base.specs.Limits.{most_version, least_len, most_len, most_slices, most_quota, most_value, most_seconds, most_lanes, most_rounds, most_workers}
 use Rattle.plan_base.specs.Snapshot.{most_requests}
 use Rattle.plan_base.specs.Verdict.{IsCertified}
 use Rattle.plan_json.specs.Moment.{last_moment}
@@ -33,9 +33,9 @@ pub record IsOpenedWith (o : Opening) : Type 0 where
   pub slice : IsBetween least_len most_len o.slice
   pub horizon : IsBetween 1 most_slices o.horizon
   pub semester : IsWindow o.semester
-  pub lanes : IsBetween 1 8 o.settings.lanes
-  pub rounds : IsBetween 1 256 o.settings.rounds
-  pub workers : IsBetween 1 8 o.settings.workers
+  pub lanes : IsBetween 1 most_lanes o.settings.lanes
+  pub rounds : IsBetween 1 most_rounds o.settings.rounds
+  pub workers : IsBetween 1 most_workers o.settings.workers
   pub quota : IfSome o.quota (IsBetween 1 most_quota)
 
 -- ---- groups

@@ -3,6 +3,7 @@ use Rattle.std.specs.Prelude.{min, true, false, ℕ, nat_lt, Bool, not, ◌&&◌
 use Rattle.std.specs.List.{list_any}
 use Rattle.std.specs.Option.{option_or}
 use Rattle.std.proofs.Math.Nat.{min-le_right}
+use Rattle.plan_base.specs.Limits.{most_ms}
 use Rattle.plan_base.specs.declared.span.Span.{Span}
 use Rattle.interval_set.specs.Spans.{has}
 use Rattle.site_model.specs.declared.changes.Change.{Change}
@@ -36,7 +37,7 @@ with_network network d = record d { network = network }
 
 -- a number of milliseconds, at most a day, as those of commands are
 abbrev pub within_a_day : ℕ → ℕ
-within_a_day n = min n 86400000
+within_a_day n = min n most_ms
 
 -- what an instrument type takes beside exposures
 abbrev pub times : ℕ → ℕ → ℕ → ℕ → InstrumentTimes
@@ -45,10 +46,10 @@ times front config readout change = record {
   config_ms = within_a_day config;
   readout_ms = within_a_day readout;
   change_ms = within_a_day change;
-  front = min-le_right front 86400000;
-  config = min-le_right config 86400000;
-  readout = min-le_right readout 86400000;
-  change = min-le_right change 86400000;
+  front = min-le_right front most_ms;
+  config = min-le_right config most_ms;
+  readout = min-le_right readout most_ms;
+  change = min-le_right change most_ms;
 }
 
 -- `instrument`: repeated, or full; else it is registered

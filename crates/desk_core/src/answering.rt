@@ -1,7 +1,7 @@
 // Which method each line calls.
 
 ghost use Rattle.std.specs.Prelude.{◌≡◌, ◌≢◌, ◌≤◌, ◌<◌, true, false, ℕ, IfOk, length};
-ghost use Rattle.plan_base.specs.Limits.{most_version};
+ghost use Rattle.plan_base.specs.Limits.{most_version, most_ms};
 ghost use Rattle.desk_events.specs.declared.command.Command.TheVariants.{Plan};
 ghost use Rattle.desk_events.specs.Ranges.{IsCommand};
 ghost use Rattle.desk_core.specs.Desk.{seen};
@@ -176,10 +176,10 @@ fn is_showing(command: &Command) -> bool
 
 // What an instrument type takes beside exposures, of at most a day each.
 fn times_of(front_ms: u32, config_ms: u32, readout_ms: u32, change_ms: u32) -> InstrumentTimes
-    requires front { front_ms ≤ 86400000 }
-    requires config { config_ms ≤ 86400000 }
-    requires readout { readout_ms ≤ 86400000 }
-    requires change { change_ms ≤ 86400000 }
+    requires front { front_ms ≤ most_ms }
+    requires config { config_ms ≤ most_ms }
+    requires readout { readout_ms ≤ most_ms }
+    requires change { change_ms ≤ most_ms }
     ensures { result ≡ times front_ms config_ms readout_ms change_ms }
 {
     InstrumentTimes {

@@ -1,6 +1,6 @@
 -- The commands: for each the members after `do`, in the order in which they are read, with their kinds and ranges.
 use Rattle.std.specs.Prelude.{is_some, if◌then◌else◌, Result, Ok}
-use Rattle.plan_base.specs.Limits.{most_version, least_len, most_len, most_slices, most_quota, most_seconds}
+use Rattle.plan_base.specs.Limits.{most_version, least_len, most_len, most_slices, most_quota, most_seconds, most_lanes, most_rounds, most_workers, most_ms}
 use Rattle.serde_json.specs.Data.{Members}
 use Rattle.plan_base.specs.declared.number.GroupNo.{GroupNo}
 use Rattle.plan_json.specs.declared.member.Member.TheVariants as member
@@ -30,9 +30,9 @@ open_of ms =
     member_of (number_in least_len most_len) ms member.Slice >>= λ slice.
     member_of (number_in 1 most_slices) ms member.Horizon >>= λ horizon.
     member_of span_in ms member.Semester >>= λ semester.
-    member_of (number_in 1 8) ms member.Lanes >>= λ lanes.
-    member_of (number_in 1 256) ms member.Rounds >>= λ rounds.
-    member_of (number_in 1 8) ms member.Workers >>= λ workers.
+    member_of (number_in 1 most_lanes) ms member.Lanes >>= λ lanes.
+    member_of (number_in 1 most_rounds) ms member.Rounds >>= λ rounds.
+    member_of (number_in 1 most_workers) ms member.Workers >>= λ workers.
     if_there (number_in 1 most_quota) ms member.Quota >>= λ quota.
     Ok (command.Open now slice horizon semester lanes rounds workers quota)
 
@@ -40,10 +40,10 @@ open_of ms =
 abbrev pub instrument_of : Members → Result Command JsonFault
 instrument_of ms =
     member_of text_in ms member.TypeName >>= λ name.
-    member_of (number_in 0 86400000) ms member.FrontMs >>= λ front.
-    member_of (number_in 0 86400000) ms member.ConfigMs >>= λ config.
-    member_of (number_in 0 86400000) ms member.ReadoutMs >>= λ readout.
-    member_of (number_in 0 86400000) ms member.ChangeMs >>= λ change.
+    member_of (number_in 0 most_ms) ms member.FrontMs >>= λ front.
+    member_of (number_in 0 most_ms) ms member.ConfigMs >>= λ config.
+    member_of (number_in 0 most_ms) ms member.ReadoutMs >>= λ readout.
+    member_of (number_in 0 most_ms) ms member.ChangeMs >>= λ change.
     Ok (command.Instrument name front config readout change)
 
 -- `site`, `enclosure`, `telescope`, `class`, `instruments`, a list of 1 to 16 texts

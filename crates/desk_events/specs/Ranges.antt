@@ -1,6 +1,6 @@
 -- The ranges of what is read: each command's texts, numbers, spans and counts.
 use Rattle.std.specs.Prelude.{◌≡◌, ℕ, ◌≤◌, List, [], length, All, Option, IfSome, ⊤}
-use Rattle.plan_base.specs.Limits.{most_version, least_len, most_len, most_slices, most_quota, most_seconds}
+use Rattle.plan_base.specs.Limits.{most_version, least_len, most_len, most_slices, most_quota, most_seconds, most_lanes, most_rounds, most_workers, most_ms}
 use Rattle.plan_base.specs.declared.claim.Claim.{Claim}
 use Rattle.plan_base.specs.declared.number.Sec.{Sec}
 use Rattle.plan_base.specs.declared.span.Span.{Span}
@@ -22,18 +22,18 @@ pub record IsOpening (now : Sec) (slice horizon : ℕ) (semester : Span) (lanes 
   pub length_of_slice : IsBetween least_len most_len slice
   pub slices : IsBetween 1 most_slices horizon
   pub season : IsWindow semester
-  pub sequences : IsBetween 1 8 lanes
-  pub turns : IsBetween 1 256 rounds
-  pub threads : IsBetween 1 8 workers
+  pub sequences : IsBetween 1 most_lanes lanes
+  pub turns : IsBetween 1 most_rounds rounds
+  pub threads : IsBetween 1 most_workers workers
   pub share : IfSome quota (IsBetween 1 most_quota)
 
 -- the name has 1 to 128 bytes, and each of the four overheads is at most 86,400,000 milliseconds, which is a day
 pub record IsInstrument (name : List ℕ) (front config readout change : ℕ) : Type 0 where
   pub type : IsText name
-  pub first : front ≤ 86400000
-  pub each_configuration : config ≤ 86400000
-  pub each_exposure : readout ≤ 86400000
-  pub each_length : change ≤ 86400000
+  pub first : front ≤ most_ms
+  pub each_configuration : config ≤ most_ms
+  pub each_exposure : readout ≤ most_ms
+  pub each_length : change ≤ most_ms
 
 -- the texts have 1 to 128 bytes each, and the telescope carries 1 to 16 instrument types, which may repeat
 pub record IsTelescope (site enclosure telescope class : List ℕ) (instruments : List (List ℕ)) : Type 0 where

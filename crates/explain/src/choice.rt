@@ -9,13 +9,7 @@ ghost use Rattle.plan_base.specs.Verdict.{IsPriceInRange};
 ghost use Rattle.explain.specs.Choice.{IsRebateWith};
 
 use bound_checker::{cost_of, known_group, known_quota, price_of, rebate_of, request_of};
-use plan_base::{Op, Prices, QuotaPrices, RequestNo, Snapshot};
-
-/// A sum that grows. As a field a proof sees it as the number that it is, where it would see a variable of the loop as a word.
-#[derive(Clone, Copy)]
-struct Sum {
-    value: i64,
-}
+use plan_base::{Op, Prices, QuotaPrices, RequestNo, Snapshot, Sum};
 
 /// The greatest sum of net prices over the choices that the kind of a request's group allows and that have the request.
 pub(crate) fn rebate_with(

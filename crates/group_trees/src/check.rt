@@ -21,14 +21,8 @@ use crate::standing::first_not_allowed;
 use crate::turned::{Turned, turn};
 use crate::verdict::{ForestReason, ForestVerdict};
 use bound_checker::{check, rebate_of};
-use plan_base::{Claim, Prices, QuotaPrices, Snapshot, bound_limit};
+use plan_base::{Claim, Prices, QuotaPrices, Snapshot, Sum, bound_limit};
 use std::alloc::{AllocError, Global};
-
-/// A sum that grows. As a field a proof sees it as the number that it is, where it would see a variable of the loop as a word.
-#[derive(Clone, Copy)]
-struct Sum {
-    value: i64,
-}
 
 /// Whether a claim is certified for a forest: Yes with its value and bound, or No with the first reason against it, in the
 /// order in which [`ForestReason`] lists them, each tested over the whole claim before the next. Where it is Yes, no plan

@@ -13,7 +13,7 @@ ghost use Rattle.group_trees.specs.Built.{snapshot_of, trees_of};
 use crate::forest::Forest;
 use crate::guesses::Guesses;
 use crate::tree::Tree;
-use plan_base::{Prices, RequestNo, Snapshot, larger};
+use plan_base::{Prices, RequestNo, Snapshot, Sum, larger};
 
 /// The greatest sums of prices over the choices of a node.
 #[derive(Clone, Copy)]
@@ -22,12 +22,6 @@ struct Greatest {
     any: i64,
     /// Over those that aren't empty.
     some: i64,
-}
-
-/// One of them.
-#[derive(Clone, Copy)]
-struct Sum {
-    value: i64,
 }
 
 /// The greatest sum of prices over all choices that the tree at a place allows: it is never negative. There is one price

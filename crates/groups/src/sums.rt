@@ -3,13 +3,7 @@
 ghost use Rattle.std.specs.Prelude.{◌≡◌, ◌≤◌, length, All};
 ghost use Rattle.plan_base.specs.NetPrices.{IsNetInRange, positive, positive_sum, price_sum, IsGreatestPrice};
 
-use plan_base::larger;
-
-/// A sum that grows. As a field a proof sees it as the number that it is, where it would see a variable of the loop as a word.
-#[derive(Clone, Copy)]
-struct Sum {
-    value: i64,
-}
+use plan_base::{Sum, larger};
 
 /// The sum of at most 256 prices.
 pub(crate) fn price_sum(prices: &[i64]) -> i64

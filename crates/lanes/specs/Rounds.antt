@@ -2,7 +2,7 @@
 use Rattle.std.specs.Prelude.{◌≡◌, ℕ, ◌≤◌, ◌<◌, ℤ, pos, List, length, map, slice_index_or, slice_set, All}
 use Rattle.plan_base.specs.declared.parts.Parts.{Parts}
 use Rattle.plan_base.specs.declared.claim.Placement.{Placement}
-use Rattle.plan_base.specs.Limits.{most_quota_price}
+use Rattle.plan_base.specs.Limits.{most_quota_price, most_lanes, most_rounds}
 use Rattle.plan_base.specs.Sums.{AreParts}
 use Rattle.plan_base.specs.Requests.{listed}
 use Rattle.plan_base.specs.Starts.{value_of_plan}
@@ -24,8 +24,8 @@ pub record LaneSeen : Type 0 where
 
 -- the prices of the lane's next round, one for each request and each quota, each in its range
 pub record IsLane (s : Parts) (l : LanePrices) : Type 0 where
-  pub lane : l.lane < 8
-  pub made : l.made ≤ 256
+  pub lane : l.lane < most_lanes
+  pub made : l.made ≤ most_rounds
   pub is_round : IsRoundPrices s l.lane l.made l.prices.0 l.quota_prices.0
   pub count : length l.prices.0 ≡ length (listed s)
   pub quota_count : length l.quota_prices.0 ≡ length s.quotas

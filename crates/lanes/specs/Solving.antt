@@ -1,5 +1,6 @@
 -- What solving a snapshot does: workers that have yet to work, those that have, and what is put together of them.
 use Rattle.std.specs.Prelude.{◌≡◌, ℕ, ◌+◌, ◌≤◌, ◌<◌, List, []}
+use Rattle.plan_base.specs.Limits.{most_lanes, most_rounds, most_workers}
 use Rattle.plan_base.specs.declared.parts.Parts.{Parts}
 use Rattle.plan_base.specs.declared.claim.Placement.{Placement}
 use Rattle.plan_base.specs.declared.claim.Settings.{Settings}
@@ -14,11 +15,11 @@ use Rattle.lanes.specs.Working.{IsWorking, IsDone}
 -- 1 to 8 lanes, 1 to 256 rounds and 1 to 8 workers
 pub record IsInRange (settings : Settings) : Type 0 where
   pub some_lanes : 1 ≤ settings.lanes
-  pub few_lanes : settings.lanes ≤ 8
+  pub few_lanes : settings.lanes ≤ most_lanes
   pub some_rounds : 1 ≤ settings.rounds
-  pub few_rounds : settings.rounds ≤ 256
+  pub few_rounds : settings.rounds ≤ most_rounds
   pub some_workers : 1 ≤ settings.workers
-  pub few_workers : settings.workers ≤ 8
+  pub few_workers : settings.workers ≤ most_workers
 
 -- the seat has given no bound, no value above the most, and claimed nothing
 pub record IsUnused (most : ℕ) (v : SeatView) : Type 0 where

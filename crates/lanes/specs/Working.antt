@@ -1,5 +1,6 @@
 -- What a worker keeps.
 use Rattle.std.specs.Prelude.{◌≡◌, ◌≢◌, ℕ, ◌+◌, ◌≤◌, ◌<◌, ◌⊎◌, true, List, [], ◌∷◌, length, map, take, slice_index_or, All, Contains, HoldsAt}
+use Rattle.plan_base.specs.Limits.{most_lanes, most_rounds}
 use Rattle.plan_base.specs.declared.claim.Settings.{Settings}
 use Rattle.board.specs.declared.seat.SeatView.{SeatView}
 use Rattle.plan_base.specs.Snapshot.{IsOrderly}
@@ -16,8 +17,8 @@ use Rattle.lanes.specs.InStep.{IsInStep}
 -- a worker of a snapshot has room for L lanes, of which it takes its share, and a seat of its own
 pub record IsEquipped (L : ℕ) (w : Worker L) : Type 0 where
   pub orderly : IsOrderly w.steps.snapshot
-  pub rounds : w.settings.rounds ≤ 256
-  pub lanes : w.settings.lanes ≤ 8
+  pub rounds : w.settings.rounds ≤ most_rounds
+  pub lanes : w.settings.lanes ≤ most_lanes
   pub prices_count : length w.steps.lanes ≡ L
   pub founds_count : length w.lanes.items ≡ L
   pub some : 1 ≤ w.share

@@ -37,6 +37,14 @@ most_quota = 100000000
 abbrev pub most_seconds : ℕ
 most_seconds = 86400
 
+-- the longest exposure and the greatest overhead, in milliseconds
+abbrev pub most_ms : ℕ
+most_ms = 86400000
+
+-- the greatest period and jitter of a cadence, in seconds
+abbrev pub most_period : ℕ
+most_period = 15552000
+
 -- the greatest value of a request
 abbrev pub most_value : ℕ
 most_value = 288000000
@@ -48,6 +56,18 @@ most_moment = 10 ^ 12
 -- the most slices of a horizon
 abbrev pub most_slices : ℕ
 most_slices = 1440
+
+-- the most lanes of rounds of prices that a plan is sought in
+abbrev pub most_lanes : ℕ
+most_lanes = 8
+
+-- the most rounds of a lane
+abbrev pub most_rounds : ℕ
+most_rounds = 256
+
+-- the most workers that seek a plan
+abbrev pub most_workers : ℕ
+most_workers = 8
 
 -- the most possible starts of a snapshot that is planned
 abbrev pub most_starts : ℕ

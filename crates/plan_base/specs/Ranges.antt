@@ -27,6 +27,6 @@ has_all_moments s =
     && list_all (λ y. list_all has_moments y.spans) s.skies
     && list_all (λ q. list_all has_moments q.windows) (all_requests s.groups)
 
--- all numbers are in their ranges
+-- the numbers of the horizon, of all requests and of all spans are in their ranges
 abbrev pub is_in_ranges : Parts → Bool
 is_in_ranges s = has_horizon s && list_all has_ranges (all_requests s.groups) && has_all_moments s

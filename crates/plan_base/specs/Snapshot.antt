@@ -37,7 +37,8 @@ IsMoment x = x ≤ most_moment
 abbrev pub all_spans : Parts → List Span
 all_spans s = flat_map (λ t. t.usable) s.telescopes ++ flat_map (λ y. y.spans) s.skies ++ flat_map (λ x. x.request.windows) (listed s)
 
--- the numbers lie where a document may put them
+-- the version, the numbers of the horizon, the seconds and values of requests and the moments of all spans lie where a document
+-- may put them; of fades and quotas the faults speak
 pub record IsInRanges (s : Parts) : Type 0 where
   pub version : s.version ≤ most_version
   pub len_least : least_len ≤ s.len

@@ -56,7 +56,8 @@ impl Drop for Claim {
 /// How a plan is sought.
 #[derive(Clone, Copy, PartialEq, Eq)]
 pub struct Settings {
-    /// How many sequences of rounds are run, 1 to 8, each with smaller steps than the one before it.
+    /// How many sequences of rounds are run, 1 to 8. The steps of each are half of those of the one before it, and at
+    /// least 1.
     pub lanes: u32,
     /// How many rounds a lane has, 1 to 256.
     pub rounds: u32,

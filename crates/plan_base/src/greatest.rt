@@ -24,6 +24,12 @@ pub const MOST_QUOTA: u64 = 100_000_000;
 /// The longest observation, in seconds: a day.
 pub const MOST_SECONDS: u32 = 86_400;
 
+/// The longest exposure and the greatest overhead, in milliseconds: a day.
+pub const MOST_MS: u32 = 86_400_000;
+
+/// The greatest period and jitter of a cadence, in seconds: 180 days.
+pub const MOST_PERIOD: u32 = 15_552_000;
+
 /// The greatest value of a request.
 pub const MOST_VALUE: u32 = 288_000_000;
 
@@ -32,6 +38,15 @@ pub const MOST_MOMENT: u64 = 1_000_000_000_000;
 
 /// The most slices of a horizon.
 pub const MOST_SLICES: u32 = 1_440;
+
+/// The most lanes of rounds of prices that a plan is sought in.
+pub const MOST_LANES: u32 = 8;
+
+/// The most rounds of a lane.
+pub const MOST_ROUNDS: u32 = 256;
+
+/// The most workers that seek a plan.
+pub const MOST_WORKERS: u32 = 8;
 
 /// The most requests of a snapshot, and the most groups and quotas.
 pub const MOST_REQUESTS: usize = 1_024;

@@ -22,6 +22,7 @@ mod snapshot;
 mod solved;
 mod span;
 mod state;
+mod sum;
 mod taken;
 mod unique;
 mod verdict;
@@ -29,8 +30,9 @@ mod verdict;
 pub use claim::{Claim, Placement, Prices, QuotaPrices, Settings};
 pub use fault::{Counted, SnapshotFault};
 pub use greatest::{
-    LEAST_LEN, MOST_FIRST, MOST_LEN, MOST_MOMENT, MOST_PRICE, MOST_QUOTA, MOST_QUOTA_PRICE,
-    MOST_REQUESTS, MOST_SECONDS, MOST_SLICES, MOST_STARTS, MOST_VALUE, MOST_VERSION,
+    LEAST_LEN, MOST_FIRST, MOST_LANES, MOST_LEN, MOST_MOMENT, MOST_MS, MOST_PERIOD, MOST_PRICE,
+    MOST_QUOTA, MOST_QUOTA_PRICE, MOST_REQUESTS, MOST_ROUNDS, MOST_SECONDS, MOST_SLICES,
+    MOST_STARTS, MOST_VALUE, MOST_VERSION, MOST_WORKERS,
 };
 pub use laws::{
     bound_limit, bound_of_parts, empty_is_feasible, filled_is_saturated, planned_is_saturated,
@@ -48,6 +50,7 @@ pub use snapshot::Snapshot;
 pub use solved::Solved;
 pub use span::Span;
 pub use state::RequestState;
+pub use sum::Sum;
 pub use taken::{Outcome, Taken};
 pub use unique::{
     one_best, one_bound, one_canonical_use, one_filled_plan, one_rebate, one_repaired_plan,

@@ -14,8 +14,9 @@ use crate::parts::{GroupPart, Parts, RequestPart, Sky, TelescopePart};
 use crate::span::Span;
 
 impl Parts {
-    /// Whether all numbers are in the ranges that a document allows them, as [`crate::Snapshot::build`] wants them:
-    /// those that the fields name, and the moments of all spans 0 to 10^12.
+    /// Whether the version, the numbers of the horizon, and the seconds and the value of each request are in the ranges
+    /// that their fields name, and the moments of all spans from 0 to 10^12, as [`crate::Snapshot::build`] wants them. Fades
+    /// and quotas may be any: `build` refuses those that are too great.
     pub fn is_in_ranges(&self) -> bool
         ensures { IsTrue result ↔ IsInRanges self.now }
     {

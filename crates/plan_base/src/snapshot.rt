@@ -41,8 +41,8 @@ impl Model for Snapshot {
 }
 
 impl Snapshot {
-    /// The snapshot of these parts. The numbers are in the ranges that a document allows them; of what else may be
-    /// wrong, the first thing is the error, in the order of [`SnapshotFault`], each tested over all parts before the
+    /// The snapshot of these parts, whose numbers are in the ranges that [`Parts::is_in_ranges`] asks for. Of what else may
+    /// be wrong, the first thing is the error, in the order of [`SnapshotFault`], each tested over all parts before the
     /// next.
     pub fn build(alloc: Global, parts: Parts) -> Result<Snapshot, SnapshotFault>
         requires { IsInRanges parts }

@@ -11,7 +11,7 @@ pub enum RequestState {
     Pending,
     /// `COMPLETED`: it was observed well enough.
     Completed,
-    /// `WINDOW_EXPIRED`: all its windows have passed.
+    /// `WINDOW_EXPIRED`: its windows have passed, or those of another member of its `AND`.
     WindowExpired,
     /// `CANCELED`: it was withdrawn, or another member of its `ONEOF` was completed.
     Canceled,

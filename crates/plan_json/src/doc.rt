@@ -1,6 +1,6 @@
 // Documents: JSON objects, whose members are read one at a time.
 
-ghost use Rattle.std.specs.Prelude.{◌≡◌, ◌≢◌, ◌<◌, ◌≤◌, length, is_some, option_map, ok_or, IfOk, IfErr, Ok, Err};
+ghost use Rattle.std.specs.Prelude.{◌≡◌, ◌≢◌, ◌<◌, ◌≤◌, length, is_some, option_map, ok_or, IfOk, IfErr, IfSome, Ok, Err};
 ghost use Rattle.serde_json.specs.Find.{get_member};
 ghost use Rattle.serde_json.specs.View.{view, members_view};
 ghost use Rattle.plan_json.specs.declared.fault.JsonFault.TheVariants.{NoMemory, Missing};
@@ -57,8 +57,9 @@ fn read(alloc: Global, bytes: &[u8]) -> Result<Value, JsonFault>
     }
 }
 
-/// The object that the bytes are. Fails with [`JsonFault::NotJson`] where they aren't the UTF-8 of one JSON text, with
-/// [`JsonFault::NotObject`] where the text isn't an object, and for want of memory.
+/// The object that the bytes are. Fails with [`JsonFault::NotJson`] where they aren't the UTF-8 of one JSON text as the
+/// crate `serde_json` reads it, with at most 127 levels and no number that is too great for a float; with
+/// [`JsonFault::NotObject`] where the text isn't an object; and for want of memory, but not where there are no bytes.
 pub fn parse_object(alloc: Global, bytes: &[u8]) -> Result<Doc<'static>, JsonFault>
     ensures value { IfOk result (λ doc. document_of bytes.now ≡ Ok (members_of doc)) }
     ensures fault { IfErr result (λ e. e ≢ NoMemory → document_of bytes.now ≡ Err e) }
@@ -160,8 +161,33 @@ impl<'a> Doc<'a> {
         }
     }
 
-    /// The text of 1 to 128 bytes. Fails with [`JsonFault::Missing`]; [`JsonFault::WrongKind`], no text;
-    /// [`JsonFault::OutOfRange`], an empty or a longer one; and for want of memory.
+    /// The number from `least` to `most`, where the member is there. Fails as [`Doc::whole`], but not with
+    /// [`JsonFault::Missing`].
+    pub fn optional_number(
+        &self,
+        member: Member,
+        least: u32,
+        most: u32,
+    ) -> Result<Option<u32>, JsonFault>
+        ensures value { result ≡ if_there (number_in least most) (members_of self.now) member }
+        ensures small { IfOk result (λ found. IfSome found (λ number. number ≤ most)) }
+    {
+        match self.value(member) {
+            Some(value) => Ok(Some(value::number_in(value, member, least, most)?)),
+            None => Ok(None),
+        }
+    }
+
+    /// The text of 1 to 128 bytes, read in place. Fails with [`JsonFault::Missing`]; [`JsonFault::WrongKind`], no text;
+    /// [`JsonFault::OutOfRange`], an empty or a longer one.
+    pub fn word(&self, member: Member) -> Result<&str, JsonFault>
+        ensures { result_map (λ word. word.now) result
+            ≡ member_of text_in (members_of self.now) member }
+    {
+        value::word_in(self.required(member)?, member)
+    }
+
+    /// The text of 1 to 128 bytes. Fails as [`Doc::word`], and for want of memory.
     pub fn text(&self, alloc: Global, member: Member) -> Result<Name, JsonFault>
         ensures value { IfOk result (λ name. member_of text_in (members_of self.now) member ≡ Ok name) }
         ensures fault { IfErr result

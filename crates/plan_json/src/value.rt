@@ -22,6 +22,9 @@ use std::alloc::Global;
 /// The last second of the year 9999.
 const LAST_MOMENT: i64 = 253_402_300_799;
 
+/// The most bytes of a text.
+const MOST_TEXT: usize = 128;
+
 /// The whole number from `least` to `most`.
 pub(crate) fn whole_in(
     value: &Value,
@@ -58,18 +61,26 @@ pub(crate) fn number_in(
     Ok(whole as u32)
 }
 
+/// The text of 1 to 128 bytes, in place.
+pub(crate) fn word_in(value: &Value, member: Member) -> Result<&str, JsonFault>
+    ensures { result_map (λ word. word.now) result ≡ text_in member (view value.now) }
+{
+    let Some(word) = value.as_str() else {
+        return Err(JsonFault::WrongKind { member });
+    };
+    if word.is_empty() || word.len() > MOST_TEXT {
+        return Err(JsonFault::OutOfRange { member });
+    }
+    Ok(word)
+}
+
 /// The text of 1 to 128 bytes.
 pub(crate) fn text_in(alloc: Global, value: &Value, member: Member) -> Result<Name, JsonFault>
     ensures value { IfOk result (λ name. text_in member (view value.now) ≡ Ok name) }
     ensures fault { IfErr result (λ e. e ≢ NoMemory → text_in member (view value.now) ≡ Err e) }
 {
-    let Some(text) = value.as_str() else {
-        return Err(JsonFault::WrongKind { member });
-    };
-    if text.is_empty() {
-        return Err(JsonFault::OutOfRange { member });
-    }
-    Name::new(alloc, text)?.ok_or(JsonFault::OutOfRange { member })
+    let word = word_in(value, member)?;
+    Name::new(alloc, word)?.ok_or(JsonFault::OutOfRange { member })
 }
 
 /// The moment.

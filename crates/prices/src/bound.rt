@@ -4,11 +4,7 @@ ghost use Rattle.std.specs.Prelude.{◌≡◌, ℤ, pos, ◌+ℤ◌, ◌≤ℤ�
 ghost use Rattle.plan_base.specs.Limits.{bound_limit};
 ghost use Rattle.plan_base.specs.Sums.{total};
 
-/// A sum that grows. As a field a proof sees it as the number that it is, where it would see a variable of the loop as a word.
-#[derive(Clone, Copy)]
-struct Sum {
-    value: i64,
-}
+use plan_base::Sum;
 
 /// The Lagrangian dual bound of prices: the sum of the bests of the telescopes, the rebates of the groups at net prices
 /// and the quotas times their prices. None of these is negative, and the sum is at most 10^17.

@@ -11,7 +11,7 @@ ghost use Rattle.rapid.specs.Tables.{IsTableOf, AreTables, IsPriceable, AreMoreP
 use crate::raising::raises;
 use bound_checker::{fill_table, starts_of};
 use openings::{Openings, openings_of};
-use plan_base::{Claim, ListOf, Prices, RequestPart, Snapshot, TelescopeNo, repeated};
+use plan_base::{Claim, ListOf, Prices, RequestPart, Snapshot, Sum, TelescopeNo, repeated};
 use std::alloc::{AllocError, Global};
 
 /// A snapshot with one more request than the one before.
@@ -27,12 +27,6 @@ pub(crate) struct Extension<'a> {
     pub snapshot: &'a Snapshot,
     /// The request.
     pub request: &'a RequestPart,
-}
-
-/// A sum that grows. As a field a proof sees it as the number that it is, where it would see a variable of the loop as a word.
-#[derive(Clone, Copy)]
-struct Sum {
-    value: i64,
 }
 
 /// What a telescope gives at prices from each slice of the horizon on, and 0 for the slice after it. Fails only for want of

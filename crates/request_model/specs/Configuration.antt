@@ -1,6 +1,7 @@
 -- What is taken of one target, and of which instrument type all configurations of a request are.
 use Rattle.std.specs.Prelude.{ℕ, List, [], ◌∷◌, map, Bool, bytes_eq, if◌then◌else◌, Result, Ok, Err}
 use Rattle.std.specs.List.{list_all}
+use Rattle.plan_base.specs.Limits.{most_ms}
 use Rattle.serde_json.specs.Data.{Data, Members}
 use Rattle.plan_json.specs.declared.member.Member.TheVariants.{Name, InstrumentType, Target, InstrumentConfigs, ExposureTimeMs, ExposureCount, Configurations}
 use Rattle.plan_json.specs.declared.fault.JsonFault.{JsonFault}
@@ -19,7 +20,7 @@ use Rattle.request_model.specs.Fault.{in_group}
 -- `exposure_time_ms`, `exposure_count`
 abbrev pub exposure_of : Members → Result Exposure JsonFault
 exposure_of ms =
-    member_of (number_in 1 86400000) ms ExposureTimeMs >>= λ time.
+    member_of (number_in 1 most_ms) ms ExposureTimeMs >>= λ time.
     member_of (number_in 1 10000) ms ExposureCount >>= λ number.
     Ok (record { ms = time; count = number })
 

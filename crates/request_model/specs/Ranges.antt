@@ -1,5 +1,6 @@
 -- Which groups have a document: their texts, numbers and counts are in the ranges in which they are read.
 use Rattle.std.specs.Prelude.{◌≡◌, ◌<◌, ◌≤◌, List, length, All, IfSome, true}
+use Rattle.plan_base.specs.Limits.{most_ms, most_period}
 use Rattle.plan_base.specs.declared.span.Span.{Span}
 use Rattle.plan_json.specs.Moment.{last_moment}
 use Rattle.plan_json.specs.Ranges.{IsBetween, IsText}
@@ -15,7 +16,7 @@ use Rattle.request_model.specs.Group.{is_shape}
 
 -- 1 to 10,000 exposures of 1 to 86,400,000 milliseconds each
 pub record IsExposure (e : Exposure) : Type 0 where
-  pub time : IsBetween 1 86400000 e.ms
+  pub time : IsBetween 1 most_ms e.ms
   pub number : IsBetween 1 10000 e.count
 
 -- the target's name has 1 to 128 bytes, and there are 1 to 16 lengths of exposures, each in its ranges
@@ -40,8 +41,8 @@ pub record IsLocation (l : Location) : Type 0 where
 pub record IsCadence (c : Cadence) : Type 0 where
   pub first : c.start.0 ≤ last_moment
   pub last : c.end.0 ≤ last_moment
-  pub apart : c.period ≤ 15552000
-  pub round : c.jitter ≤ 15552000
+  pub apart : c.period ≤ most_period
+  pub round : c.jitter ≤ most_period
 
 -- the window has a second
 pub record IsWindow (w : Span) : Type 0 where

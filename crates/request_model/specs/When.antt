@@ -1,5 +1,6 @@
 -- When a request may be observed.
 use Rattle.std.specs.Prelude.{ℕ, List, is_some, nat_lt, if◌then◌else◌, Result, Ok, Err}
+use Rattle.plan_base.specs.Limits.{most_period}
 use Rattle.serde_json.specs.Data.{Data, Members}
 use Rattle.plan_base.specs.declared.span.Span.{Span}
 use Rattle.plan_json.specs.declared.member.Member.TheVariants as member
@@ -21,8 +22,8 @@ abbrev pub cadence_of : Members → Result Cadence JsonFault
 cadence_of ms =
     member_of moment_in ms member.Start >>= λ first.
     member_of moment_in ms member.End >>= λ last.
-    member_of (number_in 0 15552000) ms member.Period >>= λ apart.
-    member_of (number_in 0 15552000) ms member.Jitter >>= λ round.
+    member_of (number_in 0 most_period) ms member.Period >>= λ apart.
+    member_of (number_in 0 most_period) ms member.Jitter >>= λ round.
     Ok (record { start = first; end = last; period = apart; jitter = round })
 
 -- a window of the request at place `index`: `start`, `end`, of which the first comes before the second

@@ -91,7 +91,7 @@ request_at r times fade =
 abbrev pub request_data : RequestDoc → Data
 request_data r = request_at r r.when (above_0 r.fade)
 
--- the word that `observation_type` has for each way of scheduling
+-- the word that `observation_type` has for each account
 abbrev pub kind_name : ObsKind → List ℕ
 kind_name Normal = codes "NORMAL"
 kind_name TimeCritical = codes "TIME_CRITICAL"

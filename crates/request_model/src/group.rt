@@ -6,14 +6,14 @@ use crate::request::RequestDoc;
 use plan_base::{ListOf, Name, Op};
 use std::alloc::AllocError;
 
-/// How an observation is scheduled, the portal's `observation_type`.
+/// On which of its proposal's accounts a group is charged, the portal's `observation_type`. Plans don't heed it.
 #[derive(Clone, Copy)]
 pub enum ObsKind {
-    /// `NORMAL`: whenever it fits best.
+    /// `NORMAL`: on the account `standard`.
     Normal,
-    /// `TIME_CRITICAL`: it has to be taken at its time.
+    /// `TIME_CRITICAL`: on the account `time_critical`.
     TimeCritical,
-    /// `RAPID_RESPONSE`: as soon as it can be.
+    /// `RAPID_RESPONSE`: on the account `rapid_response`.
     RapidResponse,
 }
 
@@ -26,7 +26,7 @@ pub struct GroupDoc {
     pub proposal: Name,
     /// How the requests belong together.
     pub op: Op,
-    /// How it is to be scheduled, which says what account is charged.
+    /// Which of the proposal's accounts it is charged on.
     pub kind: ObsKind,
     /// The intra-proposal priority in thousandths, 500 to 2,000, of which 1,000 is neutral.
     pub ipp: u16,

@@ -40,7 +40,8 @@ pub struct Cadence {
     pub end: Sec,
     /// The seconds from one centre to the next, 0 to 15,552,000; 0 makes the cadence a bad one.
     pub period: u64,
-    /// The seconds that the window round a centre has, 0 to 15,552,000, half of them before the centre.
+    /// The seconds that the window round a centre has, 0 to 15,552,000, half of them, rounded down, before
+    /// the centre.
     pub jitter: u64,
 }
 

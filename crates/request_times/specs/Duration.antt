@@ -1,5 +1,5 @@
 -- How long a request takes on an instrument.
-use Rattle.plan_base.specs.Limits.{most_seconds}
+use Rattle.plan_base.specs.Limits.{most_seconds, most_ms}
 use Rattle.std.specs.Prelude.{ℕ, ◌+◌, ◌*◌, ◌≤◌, nat_le, List, sum_by, Result, Ok, Err, if◌then◌else◌}
 use Rattle.std.specs.Int.{div_ceil}
 use Rattle.request_model.specs.declared.request.Exposure.{Exposure}
@@ -33,7 +33,7 @@ duration instrument configurations =
 
 -- the overheads are a day at most
 pub record IsOverhead (instrument : Instrument) : Type 0 where
-  pub front : instrument.front_ms ≤ 86400000
-  pub config : instrument.config_ms ≤ 86400000
-  pub readout : instrument.readout_ms ≤ 86400000
-  pub change : instrument.change_ms ≤ 86400000
+  pub front : instrument.front_ms ≤ most_ms
+  pub config : instrument.config_ms ≤ most_ms
+  pub readout : instrument.readout_ms ≤ most_ms
+  pub change : instrument.change_ms ≤ most_ms

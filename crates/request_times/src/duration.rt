@@ -10,8 +10,8 @@ use plan_base::MOST_SECONDS;
 use request_model::{ConfigDoc, Exposure, RequestDoc, TimeFault};
 
 /// How many seconds the request takes on its instrument: the front padding and, for each configuration, its padding
-/// and its exposures with their readouts and changes. The milliseconds of all of it are rounded up once. Fails with
-/// [`TimeFault::TooLong`] where that is more than a day, and with nothing else.
+/// and its exposures with their readouts and changes: 1 to 86,400. The milliseconds of all of it are rounded up once. Fails
+/// with [`TimeFault::TooLong`] where that is more than a day, and with nothing else.
 pub fn seconds_of(request: &RequestDoc, instrument: Instrument) -> Result<u32, TimeFault>
     requires overhead { IsOverhead instrument }
     requires range { AreConfigurations request.now.configurations }

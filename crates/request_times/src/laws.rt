@@ -8,7 +8,7 @@ pub fn windows_are_sound()
     ensures { WindowsAreSound }
 {}
 
-/// The centres that are counted are those below the end.
+/// Where the period isn't 0, the centres that are counted are those below the end.
 pub fn centres_are_counted()
     ensures { CentresAreCounted }
 {}

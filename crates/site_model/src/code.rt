@@ -1,6 +1,7 @@
 // What names a telescope, and what an instrument takes.
 
 ghost use Rattle.std.specs.Prelude.{◌≤◌};
+ghost use Rattle.plan_base.specs.Limits.{most_ms};
 
 use plan_base::Name;
 
@@ -53,8 +54,8 @@ pub struct InstrumentTimes {
     pub readout_ms: u32,
     /// Once for each instrument configuration, however many exposures it has.
     pub change_ms: u32,
-    ghost front: { front_ms ≤ 86400000 },
-    ghost config: { config_ms ≤ 86400000 },
-    ghost readout: { readout_ms ≤ 86400000 },
-    ghost change: { change_ms ≤ 86400000 },
+    ghost front: { front_ms ≤ most_ms },
+    ghost config: { config_ms ≤ most_ms },
+    ghost readout: { readout_ms ≤ most_ms },
+    ghost change: { change_ms ≤ most_ms },
 }

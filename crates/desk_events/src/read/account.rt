@@ -27,13 +27,12 @@ fn account_named(word: &str) -> Option<Account>
     }
 }
 
-fn read_account(alloc: Global, doc: &Doc) -> Result<Account, JsonFault>
-    ensures value { IfOk result (λ account. account_of (members_of doc.now) ≡ Ok account) }
-    ensures fault { IfErr result (λ e. e ≢ NoMemory → account_of (members_of doc.now) ≡ Err e) }
+fn read_account(doc: &Doc) -> Result<Account, JsonFault>
+    ensures { result ≡ account_of (members_of doc.now) }
 {
     let member = Member::Account;
-    let word = doc.text(alloc, member)?;
-    account_named(word.text()).ok_or(JsonFault::OutOfRange { member })
+    let word = doc.word(member)?;
+    account_named(word).ok_or(JsonFault::OutOfRange { member })
 }
 
 /// The empty name.
@@ -64,7 +63,7 @@ fn read_key(alloc: Global, doc: &Doc) -> Result<Key, JsonFault>
     ensures fault { IfErr result (λ e. e ≢ NoMemory → key_of (members_of doc.now) ≡ Err e) }
 {
     let proposal = doc.text(alloc, Member::Proposal)?;
-    let account = read_account(alloc, doc)?;
+    let account = read_account(doc)?;
     let instrument = read_instrument(alloc, account, doc)?;
     Ok(Key {
         proposal,

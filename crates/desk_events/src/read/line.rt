@@ -51,7 +51,7 @@ fn read_object(alloc: Global, doc: &Doc) -> Result<Command, CommandFault>
     ensures value { IfOk result (λ command. command_in (members_of doc.now) ≡ Ok command) }
     ensures fault { IfErr result (λ e. e ≢ NoMemory → command_in (members_of doc.now) ≡ Err e) }
 {
-    let verb = read_verb(alloc, doc)?;
+    let verb = read_verb(doc)?;
     read_members(alloc, verb, doc)
 }
 

@@ -9,12 +9,9 @@ ghost use Rattle.plan_json.specs.Text.{text_in};
 ghost use Rattle.desk_events.specs.Commands.{instrument_of, telescope_of, night_of, visibility_of};
 
 use crate::command::Command;
-use plan_base::{ListOf, Name};
+use plan_base::{ListOf, MOST_MS, Name};
 use plan_json::{Doc, DocList, JsonFault, Member};
 use std::alloc::Global;
-
-/// The longest overhead in milliseconds: a day.
-const MOST_MS: u32 = 86_400_000;
 
 /// The most instrument types of a telescope.
 const MOST_INSTRUMENTS: u32 = 16;

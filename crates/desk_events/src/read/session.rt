@@ -1,6 +1,7 @@
 // The commands that open the desk, move its clock and report to it.
 
 ghost use Rattle.std.specs.Prelude.{◌≡◌};
+ghost use Rattle.plan_base.specs.Limits.{most_quota};
 ghost use Rattle.plan_json.specs.Object.{if_there};
 ghost use Rattle.plan_json.specs.Shown.{members_of};
 ghost use Rattle.plan_json.specs.Whole.{number_in};
@@ -8,28 +9,18 @@ ghost use Rattle.plan_json.specs.declared.member.Member.TheVariants.{Quota};
 ghost use Rattle.desk_events.specs.Commands.{open_of, clock_of, report_of};
 
 use crate::command::Command;
-use plan_base::{LEAST_LEN, MOST_LEN, MOST_QUOTA, MOST_SECONDS, MOST_SLICES, RequestNo};
+use plan_base::{
+    LEAST_LEN, MOST_LANES, MOST_LEN, MOST_QUOTA, MOST_ROUNDS, MOST_SECONDS, MOST_SLICES,
+    MOST_WORKERS, RequestNo,
+};
 use plan_json::{Doc, JsonFault, Member};
-
-/// The most lanes of a plan.
-const MOST_LANES: u32 = 8;
-
-/// The most rounds of prices of a lane.
-const MOST_ROUNDS: u32 = 256;
-
-/// The most workers that seek a plan.
-const MOST_WORKERS: u32 = 8;
 
 /// The most seconds of one proposal in a plan, where it is given.
 fn read_quota(doc: &Doc) -> Result<Option<u64>, JsonFault>
-    ensures { result ≡ if_there (number_in 1 100000000) (members_of doc.now) Quota }
+    ensures { result ≡ if_there (number_in 1 most_quota) (members_of doc.now) Quota }
 {
-    if doc.has(Member::Quota) {
-        let seconds = doc.number(Member::Quota, 1, MOST_QUOTA as u32)?;
-        Ok(Some(u64::from(seconds)))
-    } else {
-        Ok(None)
-    }
+    let seconds = doc.optional_number(Member::Quota, 1, MOST_QUOTA as u32)?;
+    Ok(seconds.map(u64::from))
 }
 
 /// An `open` line.

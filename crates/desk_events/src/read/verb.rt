@@ -1,14 +1,12 @@
 // The words of commands.
 
-ghost use Rattle.std.specs.Prelude.{◌≡◌, ◌≢◌, IfOk, IfErr, Ok, Err};
+ghost use Rattle.std.specs.Prelude.{◌≡◌};
 ghost use Rattle.plan_json.specs.Shown.{members_of};
-ghost use Rattle.desk_events.specs.declared.fault.CommandFault.TheVariants.{NoMemory};
 ghost use Rattle.desk_events.specs.Line.{verb_named, verb_of};
 
 use crate::fault::CommandFault;
 use crate::refusal::Refusal;
 use plan_json::{Doc, Member};
-use std::alloc::Global;
 
 /// Which command a line is.
 #[derive(Clone, Copy)]
@@ -60,10 +58,9 @@ fn verb_named(word: &str) -> Option<Verb>
 }
 
 /// The command that the member `do` names.
-pub(crate) fn read_verb(alloc: Global, doc: &Doc) -> Result<Verb, CommandFault>
-    ensures value { IfOk result (λ verb. verb_of (members_of doc.now) ≡ Ok verb) }
-    ensures fault { IfErr result (λ e. e ≢ NoMemory → verb_of (members_of doc.now) ≡ Err e) }
+pub(crate) fn read_verb(doc: &Doc) -> Result<Verb, CommandFault>
+    ensures { result ≡ verb_of (members_of doc.now) }
 {
-    let word = doc.text(alloc, Member::Do)?;
-    verb_named(word.text()).ok_or(CommandFault::Refused(Refusal::UnknownCommand))
+    let word = doc.word(Member::Do)?;
+    verb_named(word).ok_or(CommandFault::Refused(Refusal::UnknownCommand))
 }

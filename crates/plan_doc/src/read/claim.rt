@@ -3,7 +3,7 @@
 ghost use Rattle.std.specs.Prelude.{◌≡◌, ◌≢◌, ◌^◌, IfOk, IfErr, Ok, Err};
 ghost use Rattle.plan_json.specs.declared.fault.JsonFault.TheVariants.{NoMemory};
 ghost use Rattle.plan_json.specs.declared.member.Member.TheVariants as key;
-ghost use Rattle.plan_json.specs.Object.{member_of, if_there};
+ghost use Rattle.plan_json.specs.Object.{member_of};
 ghost use Rattle.plan_json.specs.Shown.{members_of};
 ghost use Rattle.plan_json.specs.Whole.{number_in};
 ghost use Rattle.plan_doc.specs.Claim.{placement_in, price_in, quota_price_in, quota_prices_of, claim_of};
@@ -13,6 +13,9 @@ use crate::read::number::number_at;
 use plan_base::{Claim, ListOf, Placement, Prices, QuotaPrices, RequestNo, SliceNo, TelescopeNo};
 use plan_json::{Doc, DocList, JsonFault, Member};
 use std::alloc::Global;
+
+/// The format of a claim with prices of quotas.
+const FORMAT: u32 = 2;
 
 /// The most placements of a claim, and the most prices.
 const MOST_LISTED: u32 = 4_096;
@@ -74,17 +77,6 @@ impl Element<u32> for SecondPrices {
     }
 }
 
-/// The format, if one is named, which is 2.
-fn read_format(doc: &Doc) -> Result<Option<u32>, JsonFault>
-    ensures { result ≡ if_there (number_in 2 2) (members_of doc.now) key.Format }
-{
-    if doc.has(Member::Format) {
-        Ok(Some(doc.number(Member::Format, 2, 2)?))
-    } else {
-        Ok(None)
-    }
-}
-
 /// The quota prices of a claim of that format.
 fn read_quota_prices(
     alloc: Global,
@@ -139,7 +131,7 @@ pub fn read_claim(alloc: Global, doc: &Doc) -> Result<Claim, JsonFault>
     ensures value { IfOk result (λ claim. claim_of (members_of doc.now) ≡ Ok claim) }
     ensures fault { IfErr result (λ e. e ≢ NoMemory → claim_of (members_of doc.now) ≡ Err e) }
 {
-    let format = read_format(doc)?;
+    let format = doc.optional_number(Member::Format, FORMAT, FORMAT)?;
     let placements = read_list(alloc, &Placements, doc, Member::Placements, 0, MOST_LISTED)?;
     let prices = read_list(alloc, &RequestPrices, doc, Member::Prices, 0, MOST_LISTED)?;
     let quota_prices = read_quota_prices(alloc, doc, format)?;

@@ -88,11 +88,9 @@ impl Element<RequestPart> for Requests {
 fn read_quota(doc: &Doc) -> Result<Option<u16>, JsonFault>
     ensures { result ≡ if_there (number_in 0 65535) (members_of doc.now) key.Quota }
 {
-    if doc.has(Member::Quota) {
-        let place = doc.number(Member::Quota, 0, HIGHEST_NUMBER)?;
-        Ok(Some(place as u16))
-    } else {
-        Ok(None)
+    match doc.optional_number(Member::Quota, 0, HIGHEST_NUMBER)? {
+        Some(place) => Ok(Some(place as u16)),
+        None => Ok(None),
     }
 }
 

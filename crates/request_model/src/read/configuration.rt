@@ -10,12 +10,9 @@ ghost use Rattle.request_model.specs.declared.fault.GroupFault.TheVariants.{NoMe
 
 use crate::fault::GroupFault;
 use crate::request::{ConfigDoc, Exposure};
-use plan_base::{ListOf, Name};
+use plan_base::{ListOf, MOST_MS, Name};
 use plan_json::{Doc, DocList, JsonFault, Member};
 use std::alloc::{AllocError, Global};
-
-/// The longest exposure, in milliseconds: a day.
-const MOST_MS: u32 = 86_400_000;
 
 /// The most exposures of one length.
 const MOST_EXPOSURES: u32 = 10_000;

@@ -1,7 +1,6 @@
 // Request groups.
 
 ghost use Rattle.std.specs.Prelude.{◌≡◌, ◌≢◌, ◌≤◌, IfOk, IfErr, Ok, Err};
-ghost use Rattle.plan_json.specs.declared.fault.JsonFault.TheVariants as json;
 ghost use Rattle.plan_json.specs.Shown.{members_of};
 ghost use Rattle.request_model.specs.declared.fault.GroupFault.TheVariants.{NoMemory};
 ghost use Rattle.request_model.specs.Ranges.{IsGroup};
@@ -15,8 +14,8 @@ use plan_base::{ListOf, Op};
 use plan_json::{Doc, JsonFault, Member};
 use std::alloc::Global;
 
-/// The most requests that are counted.
-const MOST_REQUESTS: u32 = 1024;
+/// The most elements that a list of requests may have for its shape to be looked at.
+const MOST_COUNTED: u32 = 1024;
 
 /// The intra-proposal priority where the document doesn't say: neutral.
 const IPP: u32 = 1000;
@@ -35,13 +34,12 @@ fn kind_named(name: &str) -> Option<ObsKind>
     }
 }
 
-fn read_kind(alloc: Global, doc: &Doc) -> Result<ObsKind, JsonFault>
-    ensures value { IfOk result (λ kind. kind_of (members_of doc.now) ≡ Ok kind) }
-    ensures fault { IfErr result (λ e. e ≢ json.NoMemory → kind_of (members_of doc.now) ≡ Err e) }
+fn read_kind(doc: &Doc) -> Result<ObsKind, JsonFault>
+    ensures { result ≡ kind_of (members_of doc.now) }
 {
     let member = Member::ObservationType;
-    let name = doc.text(alloc, member)?;
-    kind_named(name.text()).ok_or(JsonFault::OutOfRange { member })
+    let word = doc.word(member)?;
+    kind_named(word).ok_or(JsonFault::OutOfRange { member })
 }
 
 /// The intra-proposal priority in thousandths. The portal's own `ipp_value` has a fraction and isn't read: where it
@@ -75,7 +73,7 @@ fn read_shaped(alloc: Global, doc: &Doc, operator: Op) -> Result<ListOf<RequestD
     ensures fault { IfErr result
         (λ e. e ≢ NoMemory → requests_of operator (members_of doc.now) ≡ Err e) }
 {
-    let list = doc.list(Member::Requests, 0, MOST_REQUESTS)?;
+    let list = doc.list(Member::Requests, 0, MOST_COUNTED)?;
     let count = list.count();
     if !is_shape(operator, count) {
         return Err(GroupFault::BadShape { operator, count });
@@ -90,7 +88,7 @@ fn read_members(alloc: Global, doc: &Doc) -> Result<GroupDoc, GroupFault>
     let name = doc.text(alloc, Member::Name)?;
     let proposal = doc.text(alloc, Member::Proposal)?;
     let op = doc.operator(Member::Operator)?;
-    let kind = read_kind(alloc, doc)?;
+    let kind = read_kind(doc)?;
     let ipp = read_ipp(doc)?;
     let priority = doc.number_or(Member::Priority, 1, 100, PRIORITY)?;
     let requests = read_shaped(alloc, doc, op)?;
