@@ -113,8 +113,9 @@ impl Ledger {
         self.store.account(index)
     }
 
-    /// Holds seconds for a group, and charges it `ipp` seconds of its proposal's ipp account where they are above 0. The
-    /// refusal is `NoSuchProposal` where no account of the proposal has a grant; otherwise the first one of the holds, in
+    /// Holds seconds for a group that holds none, and charges it `ipp` seconds of its proposal's ipp account where they are
+    /// above 0. There is at least one hold, in rising order of the accounts, which are of one proposal and not its ipp
+    /// account. The refusal is `NoSuchProposal` where no account of the proposal has a grant; otherwise the first one of the holds, in
     /// their order, and then of the ipp account: `NoSuchAllocation` where the account has no grant, `NotEnoughTime` where
     /// more is needed than is available.
     pub fn hold(&mut self, group: GroupNo, holds: &[Hold], ipp: u64) -> Result<(), LedgerFault>
@@ -130,7 +131,7 @@ impl Ledger {
     }
 
     /// Ends what the group `old` holds, refunds its ipp charge where that stands, and then does what `hold` does for
-    /// `group`, or nothing. The refusals are those of `hold` over the seconds so freed.
+    /// `group`, on its conditions, or nothing. The refusals are those of `hold` over the seconds so freed.
     pub fn replace(
         &mut self,
         old: GroupNo,
@@ -159,7 +160,8 @@ impl Ledger {
         self.store.reserve(entries as usize)
     }
 
-    /// Charges an account seconds that a request has used. It takes no memory.
+    /// Charges an account, which has a grant, seconds that a request has used, at most what is available. It takes no memory,
+    /// but one entry of the room that was made.
     pub fn charge(&mut self, key: &Key, seconds: u64, group: GroupNo, request: RequestNo)
         requires granted { IsTrue (has_grant self.old.books.entries key.now) }
         requires available { seconds ≤ available_of self.old.books key.now }
@@ -196,7 +198,8 @@ impl Ledger {
         }
     }
 
-    /// Gives back the ipp charge of a group, which stands and wasn't refunded. It takes no memory.
+    /// Gives back the ipp charge of a group, which stands and wasn't refunded. It takes no memory, but one entry of the room
+    /// that was made.
     pub fn refund(&mut self, key: &Key, seconds: u64, group: GroupNo)
         requires stands { ipp_of group self.old.books.holds ≡ Some record { key = key.now; seconds = seconds } }
         requires spare { 0 < self.old.spare }

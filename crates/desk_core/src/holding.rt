@@ -172,7 +172,7 @@ fn seconds_of_holds(holds: &[Hold]) -> u64
     holds.iter().map(|hold| hold.seconds).sum()
 }
 
-/// What a group of at most 2,000 thousandths is charged for what it holds, of its proposal's ipp account.
+/// What a group of this intra-proposal priority, in thousandths, is charged for what it holds, of its proposal's ipp account.
 pub(crate) fn ipp_charge(ipp: u16, holds: &[Hold]) -> u64
     requires { seconds_of_holds holds.now ≤ 10 ^ 12 }
     ensures { result ≡ ipp_charge ipp holds.now }

@@ -24,8 +24,9 @@ use site_model::Network;
 use std::alloc::{AllocError, Global};
 use std::marker::Model;
 
-/// The state of a desk. What a command costs doesn't grow with the lines before it; one that changes groups or time goes over
-/// all open groups and the observations that wait, at most 1,024 of each.
+/// The state of a desk. What a command costs is bounded by what is registered, open and published, all of which has limits,
+/// and not by how many lines there were; one that changes groups or time goes over all open groups and the observations that
+/// wait, at most 1,024 of each.
 pub struct State {
     version: u64,
     desk: Option<Desk>,

@@ -26,7 +26,7 @@ pub enum FullOf {
 }
 
 /// Why a line is refused, each with the number that its entry has. An `index` is the place of a request or an
-/// instrument type in its list, from 0.
+/// instrument type in its list, from 0, and 0 where there is no list.
 #[derive(Clone, Copy)]
 pub enum Refusal {
     /// 1: the line isn't the UTF-8 of one JSON text.

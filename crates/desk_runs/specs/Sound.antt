@@ -34,7 +34,7 @@ IsOneOfOnce groups observations = All (λ g. is_oneof g.op ≡ true → placed_i
 abbrev pub IsObservedAtMostOnce : List Observation → Type 0
 IsObservedAtMostOnce observations = AllPairs (λ a b. a.request.0 ≢ b.request.0) observations
 
--- running observations are of pending requests
+-- the observations are of pending requests
 abbrev pub AllPending : List Group → List Observation → Type 0
 AllPending groups observations = All (λ o. is_pending_at groups o.request ≡ true) observations
 

@@ -71,7 +71,7 @@ impl Request {
         self.state.is_pending() && !is_placed(running, self.number)
     }
 
-    /// Whether it is waiting and its last window has ended.
+    /// Whether it is waiting and the greatest end of its windows is now or before.
     pub(crate) fn is_past(&self, running: &[Observation], now: Sec) -> bool
         ensures { result ≡ is_past running.now now self.now }
     {

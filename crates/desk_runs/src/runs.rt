@@ -301,8 +301,8 @@ impl Runs {
         })
     }
 
-    /// Adds a group of so many requests, all pending, whose windows end after now. It gets the next number, and so do its
-    /// requests. Fails only for want of memory, and then changes nothing.
+    /// Adds a group of so many requests, all pending, each with a window that ends after now. It gets the next number, and
+    /// so do its requests. Fails only for want of memory, and then changes nothing.
     pub fn add(&mut self, op: Op, asks: &[Ask]) -> Result<GroupNo, AllocError>
         requires some { 1 ≤ length asks.now }
         requires late { All (λ a. self.old.moment.0 < a.last.0) asks.now }
@@ -343,7 +343,8 @@ impl Runs {
         self.pending -= count;
     }
 
-    /// Publishes observations in the place of those that haven't started. It takes no memory.
+    /// Publishes observations in the place of those that haven't started. They are of pending requests, none of them has begun,
+    /// and of a `ONEOF` there is at most one, with those that run. It takes no memory.
     pub fn publish(&mut self, observations: ListOf<Observation>)
         requires { CanPublish observations self.old }
         ensures { self.new ≡ with_kept observations self.old }

@@ -5,7 +5,7 @@ ghost use Rattle.interval_set.specs.Steps.{IsCommon};
 
 use plan_base::{Sec, Span};
 
-/// The seconds that both spans have.
+/// The seconds that both spans have. Where they have none in common, it doesn't end after it begins.
 pub fn common(one: Span, other: Span) -> Span
     ensures { IsCommon one other result }
 {

@@ -165,7 +165,7 @@ impl Spans {
         begun > 0 && span.to <= self.items[begun - 1].to
     }
 
-    /// The least second of the span that is in the set.
+    /// The least second of the span that is in the set; none where none is.
     pub fn first_in(&self, span: Span) -> Option<Sec>
         ensures { MatchOption result (HasNone self.now span) (λ x. IsFirstIn self.now span x.0) }
     {

@@ -7,7 +7,8 @@ use thiserror::Error;
 /// Why a document, or a member of it, isn't what was asked for.
 #[derive(Clone, Copy, Debug, PartialEq, Eq, Error)]
 pub enum JsonFault {
-    /// The bytes aren't the UTF-8 of one JSON text (RFC 8259), as the crate `serde_json` reads it.
+    /// The bytes aren't the UTF-8 of one JSON text (RFC 8259) as the crate `serde_json` reads it, with at most 127 levels and no
+    /// number that is too great for a float.
     #[error("not JSON")]
     NotJson,
     /// The text isn't an object.
