@@ -1,7 +1,7 @@
 -- Where bytes are cut into lines.
 use Rattle.std.proofs.Common.{◌≡◌, ◌≢◌, ℕ, zero, suc, ◌+◌, ◌-◌, ◌≤◌, ◌<◌, List, [], ◌∷◌, ◌++◌, length, take, drop, get_or, refl, sym, ◌∙◌, ap, subst}
 use Rattle.std.proofs.Common.{arith, append_assoc, append-nil, length-append, Bool, true, false, cond, nat_eq, nat_le, nat_lt, IsTrue, ◌↔◌, inl, inr}
-use Rattle.std.proofs.Common.{length-drop, length-take, get_or-drop, get_or-take}
+use Rattle.std.proofs.Common.{length-drop, length-take, get_or-drop, get_or-take, take-append-drop}
 use Rattle.std.proofs.lemmas.List.{drop_more}
 use Rattle.std.proofs.lemmas.Bool.{cond-false, ne_eqb, le-leb, true≢false}
 use Rattle.std.proofs.lemmas.Bool.Decides.{leb_tells}
@@ -47,6 +47,25 @@ lines_long p (b ∷ bs) h =
 pub after_more : (p r : List ℕ) → NoNewline p → after_newline (p ++ r) ≡ after_newline r
 after_more [] r h = refl
 after_more (b ∷ bs) r h = cond-false (nat_eq b 10) _ _ (ne_eqb b 10 h.0) ∙ after_more bs r h.1
+
+-- what is dropped with the first newline leaves what stands after it
+pub after_first : (bytes : List ℕ) (n : ℕ) → EndsAt bytes n → after_newline bytes ≡ drop (n + 1) bytes
+after_first bytes n ends =
+    let parts : bytes ≡ take n bytes ++ 10 ∷ drop (n + 1) bytes = sym (take-append-drop n bytes) ∙ ap (λ (ys : List ℕ). take n bytes ++ ys) ends.newline in
+    ap after_newline parts ∙ after_more (take n bytes) (10 ∷ drop (n + 1) bytes) ends.clear
+
+after_less : (bs : List ℕ) (most : ℕ) → 0 < most → length bs ≤ most → length (after_newline bs) < most
+after_less [] most some small = some
+after_less (b ∷ bs) most some small =
+    elim (nat_eq b 10) as (λ t. length (cond t bs (after_newline bs)) < most) [
+      | true ↦ omega (arith, small)
+      | false ↦ after_less bs most some (omega (arith, small))
+    ]
+
+-- after bytes with no newline, less than what was added stands after one
+pub after_added : (held block : List ℕ) (most : ℕ) → NoNewline held → 0 < most → length block ≤ most → length (after_newline (held ++ block)) < most
+after_added held block most clear some small =
+    subst (λ (xs : List ℕ). length xs < most) (sym (after_more held block clear)) (after_less block most some small)
 
 -- no index holds one
 pub no_newline : (xs : List ℕ) → ((k : ℕ) → k < length xs → get_or xs k 0 ≢ 10) → NoNewline xs

@@ -16,7 +16,7 @@ use Rattle.plan_io.specs.Newline.{NoNewline, EndsAt}
 use Rattle.plan_io.specs.LinesOf.{lines_left}
 use Rattle.plan_io.specs.LinesSeen.{LinesSeen, IsFresh, IsWithin, HasLine}
 use Rattle.plan_io.specs.Next.{line_at, Advances, EndsIn, ReadsOn, ReadsOver, BeginsTooMany, IsCut, IsTurn, IsLast, IsNext, IsNextCause, IsLine}
-use Rattle.plan_io.proofs.Cuts.{no_place}
+use Rattle.plan_io.proofs.Cuts.{no_place, after_first}
 use Rattle.plan_io.proofs.Readings.{cuts_first, cuts_long, cuts_same, cuts_on, last_piece, advances_on, reads_then, reads_more}
 
 -- a line that has begun may be answered
@@ -38,6 +38,8 @@ cut_some s h n l within ends held is =
       may_answer s within begun,
       refl,
       refl,
+      (n, ends),
+      held ∙ sym (after_first s.held n ends),
     )
 
 pub cut_long : (s : LinesSeen) (h : List ℕ) → IsWithin s → NoNewline s.held → (s.long ≡ false → 1048576 < length s.held) → h ≡ []

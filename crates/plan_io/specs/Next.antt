@@ -9,8 +9,8 @@ use Rattle.plan_io.specs.declared.lines.LineAnswer.TheVariants.{Line, End, ReadF
 use Rattle.plan_io.specs.declared.lines.Turn.{Turn}
 use Rattle.plan_io.specs.declared.lines.Turn.TheVariants as turn
 use Rattle.plan_io.specs.LinesSeen.{LinesSeen, IsFresh, IsWithin}
-use Rattle.plan_io.specs.LinesOf.{line_of, lines_left}
-use Rattle.plan_io.specs.Newline.{NoNewline}
+use Rattle.plan_io.specs.LinesOf.{line_of, lines_left, after_newline}
+use Rattle.plan_io.specs.Newline.{NoNewline, HasNewline}
 use Rattle.plan_io.specs.Source.{Rose}
 
 -- what the first bytes that are held count as
@@ -98,13 +98,15 @@ abbrev pub IsLine : LineAnswer → Type 0
 IsLine (Line line) = Unit {0}
 IsLine _ = ⊥
 
--- the first line of the bytes that are held was cut off, or there is no newline in them
+-- the first line of the bytes that are held was cut off, and what stands after its newline is held still; or there is no newline
+-- in them
 abbrev pub IsCut : LinesSeen → LinesSeen → Option ScriptLine → Type 0
 IsCut old new None =
     Advances old [] [] new × NoNewline new.held × IsWithin new × (new.failed ≡ old.failed) × (new.ended ≡ old.ended)
     × NoNewline old.held
 IsCut old new (Some line) =
     Advances old [] (line ∷ []) new × (new.answered ≤ new.most_lines) × (new.failed ≡ old.failed) × (new.ended ≡ old.ended)
+    × HasNewline old.held × (new.held ≡ after_newline old.held)
 
 -- one turn of reading: a block was added, or the end, or nothing, or more came than is allowed
 abbrev pub IsTurn : LinesSeen → Option (List ℕ) → LinesSeen → Option (List ℕ) → Turn → Type 0

@@ -1,8 +1,9 @@
 //! Reading a source line by line.
-ghost use Rattle.std.specs.Prelude.{◌≡◌, ◌<◌, ◌≤◌, ◌↔◌, ◌^◌, [], length, max, true, false, IfOk, IsOkAnd, OnErr, IsTrue};
+ghost use Rattle.std.specs.Prelude.{◌≡◌, ◌<◌, ◌≤◌, ◌↔◌, ◌^◌, ◌+◌, ◌-◌, [], length, max, true, false, IfOk, IsOkAnd, OnErr, IsTrue};
 ghost use Rattle.std.specs.Io.KnownBytes.{IsAtEnd};
 ghost use Rattle.plan_io.specs.Newline.{NoNewline};
 ghost use Rattle.plan_io.specs.LinesSeen.{IsFresh, IsWithin, HasLine};
+ghost use Rattle.plan_io.specs.LinesOf.{after_newline};
 ghost use Rattle.plan_io.specs.Next.{line_at, ReadsOn, IsCut, IsTurn, IsTurnCause, IsLast, IsNext, IsNextCause, IsLine};
 
 use super::byte_list::ByteList;
@@ -47,9 +48,10 @@ enum Turn {
 
 /// A reader of lines, with limits on the bytes that it takes and on the lines that it answers.
 ///
-/// It reads by blocks, and asks for a byte beyond the limit only where no whole line is left. After `End`,
-/// `ReadFault` or `InputOver` it answers the same in every later call, and reads no more. Where memory is
-/// wanting no byte is lost, and the call may be made again.
+/// It reads by blocks of 65,536 bytes, only while no whole line is at hand, so that it holds less than a block beyond a
+/// line that it read. It asks for a byte beyond a limit only where no whole line is left. After `End`, `ReadFault` or
+/// `InputOver` it answers the same in every later call, and reads no more. Where memory is wanting no byte is lost, and
+/// the call may be made again.
 pub struct Lines {
     alloc: Global,
     /// What was taken of the source and not answered yet.
@@ -195,6 +197,21 @@ impl Lines {
         }
     }
 
+    /// How many bytes a read asks for: none beyond those that are allowed, but one where none is, or where a byte more
+    /// begins a line too many.
+    fn read_size(&self) -> usize
+        requires { IsWithin self.now }
+        ensures some { 0 < result }
+        ensures room { result ≤ 65536 }
+        ensures within { result ≤ max 1 (self.now.most_bytes - self.now.taken) }
+        ensures one { self.now.answered ≡ self.now.most_lines → result ≡ 1 }
+    {
+        if self.answered == self.most_lines {
+            return 1;
+        }
+        (self.most_bytes - self.taken).clamp(1, ROOM as u64) as usize
+    }
+
     /// Reads once.
     fn read_more<S: Source>(&mut self, source: &mut S) -> Result<Turn, AllocError>
         requires within { IsWithin self.old }
@@ -203,11 +220,15 @@ impl Lines {
         requires clear { NoNewline self.old.held }
         ensures turn { IfOk result (λ turn. IsTurn self.old (S.left source.old) self.new (S.left source.new) turn) }
         ensures cause { IfOk result (λ turn. IsTurnCause (S.faults source.old) (S.faults source.new) turn) }
+        ensures ahead { IfOk result (λ turn. turn ≡ Turn.More → length (after_newline self.new.held) < 65536) }
+        ensures more { IfOk result (λ turn. turn ≡ Turn.More → self.new.answered < self.new.most_lines) }
+        ensures one { self.old.answered ≡ self.old.most_lines → self.new.taken ≤ self.old.taken + 1 }
         ensures err { OnErr result ((self.new ≡ self.old) × (source.new ≡ source.old)) }
     {
-        self.held.make_room(ROOM)?;
+        let size = self.read_size();
         let allowed = self.most_bytes - self.taken;
-        match read_block(source, self.room.as_mut_slice(), read_size(allowed)) {
+        self.held.make_room(ROOM)?;
+        match read_block(source, self.room.as_mut_slice(), size) {
             ReadAnswer::Got(count) => {
                 if count == 0 {
                     self.ended = true;
@@ -255,6 +276,12 @@ impl Lines {
         ensures next { IfOk result (λ answer. IsNext self.old (S.left source.old) self.new (S.left source.new) answer) }
         ensures cause { IfOk result (λ answer. IsNextCause self.old (S.faults source.old) (S.faults source.new) answer) }
         ensures at_hand { HasLine self.old → (source.new ≡ source.old) × IfOk result IsLine }
+
+        // A line is answered once its block was read, not once all is read. Of lines that are too many, one byte is taken.
+        ensures ahead { ¬ HasLine self.old → IfOk result (λ answer. IsLine answer → length self.new.held < 65536) }
+        ensures one { self.old.answered ≡ self.old.most_lines → self.new.taken ≤ self.old.taken + 1 }
+
+        // What was answered once as the last is answered ever after.
         ensures stays_failed { self.old.failed ≡ true → (source.new ≡ source.old)
             × IsOkAnd result (λ answer. (answer ≡ LineAnswer.ReadFault) × (self.new ≡ self.old)) }
         ensures stays_ended { self.old.ended ≡ true → IsFresh self.old → (source.new ≡ source.old)
@@ -292,6 +319,8 @@ impl Lines {
         requires clear { NoNewline self.old.held }
         ensures next { IfOk result (λ answer. IsNext self.old (S.left source.old) self.new (S.left source.new) answer) }
         ensures cause { IfOk result (λ answer. IsNextCause self.old (S.faults source.old) (S.faults source.new) answer) }
+        ensures ahead { IfOk result (λ answer. IsLine answer → length self.new.held < 65536) }
+        ensures one { self.old.answered ≡ self.old.most_lines → self.new.taken ≤ self.old.taken + 1 }
         ensures err { OnErr result (ReadsOn self.old (S.left source.old) [] self.new (S.left source.new)) }
         ensures err_state { OnErr result ((self.new.failed ≡ false) × IsWithin self.new
             × (self.new.ended ≡ true → IsAtEnd (S.left source.new))) }
@@ -310,13 +339,4 @@ impl Lines {
             }
         }
     }
-}
-
-/// How many bytes a read asks for where so many are allowed: none beyond them, but one where none is allowed.
-fn read_size(allowed: u64) -> usize
-    ensures some { 0 < result }
-    ensures room { result ≤ 65536 }
-    ensures within { result ≤ max 1 allowed }
-{
-    allowed.clamp(1, ROOM as u64) as usize
 }

@@ -47,6 +47,16 @@ loop-self-preserved g c =
       failed = cut.3 ∙ more.3;
       ended = cut.4 ∙ more.4;
       later = omega (arith, was.later, later);
+      unread = λ e. absurd (
+          omega (
+            arith,
+            c.in_ok-read_more.ensures.more c.in-More.is,
+            e,
+            more.0.2.answered,
+            was.reads.2.answered,
+            more.0.2.most_lines,
+            was.reads.2.most_lines,
+          ));
     }
 
 pub returns-in-Over-clause-next : goal.returns-in-Over-clause-next

@@ -12,6 +12,7 @@ invariant-loop-self g l = record {
   failed : l.self.failed ≡ false;
   ended : l.self.ended ≡ false;
   later : g.S.Source.faults l.initial.source ≤ g.S.Source.faults l.source;
+  unread : l.initial.self.answered ≡ l.initial.self.most_lines → l.self.taken ≡ l.initial.self.taken;
 }
 
 abbrev pub decreases-loop-self : goal.decreases-loop-self
