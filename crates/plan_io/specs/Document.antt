@@ -27,15 +27,15 @@ abbrev pub IsWritten : (List ℕ → List ℕ → Said → Type 0) → List ℕ 
 IsWritten IsAnswer input held held' said = (text : List ℕ) × IsAnswer input text said × Adds held held' text
 
 -- less than an answer was written
-abbrev pub IsCut : (List ℕ → List ℕ → Said → Type 0) → List ℕ → Option (List ℕ) → Option (List ℕ) → Type 0
-IsCut IsAnswer input held held' = (text : List ℕ) × (said : Said) × IsAnswer input text said × Puts held held' Failed text
+abbrev pub IsCutShort : (List ℕ → List ℕ → Said → Type 0) → List ℕ → Option (List ℕ) → Option (List ℕ) → Type 0
+IsCutShort IsAnswer input held held' = (text : List ℕ) × (said : Said) × IsAnswer input text said × Puts held held' Failed text
 
 -- what is written of these bytes at each status of a run that read them all
 abbrev pub IsAnswered : (List ℕ → List ℕ → Said → Type 0) → List ℕ → Option (List ℕ) → Option (List ℕ) → Status → Type 0
 IsAnswered IsAnswer input held held' Done = IsWritten IsAnswer input held held' said.Yes
 IsAnswered IsAnswer input held held' No = IsWritten IsAnswer input held held' said.No
 IsAnswered IsAnswer input held held' NoDocument = IsWritten IsAnswer input held held' said.NoDocument
-IsAnswered IsAnswer input held held' WriteFault = IsCut IsAnswer input held held'
+IsAnswered IsAnswer input held held' WriteFault = IsCutShort IsAnswer input held held'
 IsAnswered IsAnswer input held held' NoMemory = Adds held held' []
 IsAnswered IsAnswer input held held' Words = ⊥
 IsAnswered IsAnswer input held held' ReadFault = ⊥

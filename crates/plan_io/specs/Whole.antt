@@ -27,14 +27,14 @@ abbrev pub StopsReading : Option (List ℕ) → Option (List ℕ) → ℕ → �
 StopsReading old new most before now = ((taken : List ℕ) × Consumes old new taken × (length taken ≤ most)) × (before ≤ now)
 
 -- one turn of reading: at most so many bytes came and were added, or the end, or nothing
-abbrev pub IsTurn : Option (List ℕ) → Option (List ℕ) → ℕ → List ℕ → List ℕ → Turn → Type 0
-IsTurn old new most before after turn.More =
+abbrev pub IsWholeTurn : Option (List ℕ) → Option (List ℕ) → ℕ → List ℕ → List ℕ → Turn → Type 0
+IsWholeTurn old new most before after turn.More =
     (taken : List ℕ) × Consumes old new taken × (0 < length taken) × (length taken ≤ most) × (after ≡ before ++ taken)
-IsTurn old new most before after turn.End = Keeps old new × IsAtEnd new × (after ≡ before)
-IsTurn old new most before after turn.Failed = Keeps old new × (after ≡ before)
+IsWholeTurn old new most before after turn.End = Keeps old new × IsAtEnd new × (after ≡ before)
+IsWholeTurn old new most before after turn.Failed = Keeps old new × (after ≡ before)
 
 -- the count never falls, and a turn failed only where it rose
-abbrev pub IsTurnCause : ℕ → ℕ → Turn → Type 0
-IsTurnCause before now turn.More = before ≤ now
-IsTurnCause before now turn.End = before ≤ now
-IsTurnCause before now turn.Failed = Rose before now
+abbrev pub IsWholeTurnCause : ℕ → ℕ → Turn → Type 0
+IsWholeTurnCause before now turn.More = before ≤ now
+IsWholeTurnCause before now turn.End = before ≤ now
+IsWholeTurnCause before now turn.Failed = Rose before now

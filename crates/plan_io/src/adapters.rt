@@ -32,8 +32,8 @@ impl<I: Read> Source for StdSource<I> {
 
     ghost faults = { read_errors };
 
-    /// A call that was interrupted, as by a signal, is made again, as std's own loops do, and counts as no fault. Where a
-    /// reader is interrupted without end, so is this call.
+    /// A call that was interrupted, as by a signal, is made again, as std's own loops do, and counts as no fault. A
+    /// reader that is interrupted 2^64 - 1 times in a row has failed.
     fn read(&mut self, room: &mut [u8]) -> ReadAnswer
         ensures bytes { Reads (I.remaining (reader_of self.old)) (I.remaining (reader_of self.new)) (length room.old) result room.new }
         ensures cause { IsReadCause (read_errors self.old) (read_errors self.new) result }
@@ -77,8 +77,8 @@ impl<O: Write> Sink for StdSink<O> {
 
     ghost faults = { write_errors };
 
-    /// A call that was interrupted, as by a signal, is made again, as std's own loops do, and counts as no fault. Where a
-    /// writer is interrupted without end, so is this call.
+    /// A call that was interrupted, as by a signal, is made again, as std's own loops do, and counts as no fault. A
+    /// writer that is interrupted 2^64 - 1 times in a row has failed.
     fn write(&mut self, piece: &[u8]) -> WriteAnswer
         ensures bytes { Writes None None result piece.now }
         ensures cause { IsWriteCause (write_errors self.old) (write_errors self.new) result piece.now }

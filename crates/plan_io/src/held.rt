@@ -22,8 +22,8 @@ fn find_newline(bytes: &[u8], from: usize) -> usize
     }
 }
 
-/// Bytes in memory, taken from the front and added at the back. What was searched for a newline isn't searched
-/// again, and a byte is moved to the front at most once for each line before it.
+/// Bytes in memory, taken from the front and added at the back. `newline` doesn't search again what it searched before,
+/// and a byte is moved to the front at most once for each line before it.
 pub(crate) struct Held {
     /// What was added and not moved away yet, with what was passed of it.
     bytes: Vec<u8>,
@@ -90,7 +90,7 @@ impl Held {
         Some(at - self.start)
     }
 
-    /// Whether there is a newline.
+    /// Whether there is a newline. It searches what `newline` hasn't searched, up to the first, and keeps nothing of it.
     pub(crate) fn has_newline(&self) -> bool
         ensures { IsTrue result ↔ HasNewline self.now.bytes }
     {

@@ -102,7 +102,8 @@ impl Model for Lines {
 }
 
 impl Lines {
-    /// A reader that takes at most `most_bytes` bytes and answers at most `most_lines` lines.
+    /// A reader that takes at most `most_bytes` bytes, and one more to see that there are more, and answers at most
+    /// `most_lines` lines. Fails only for want of memory.
     pub fn new(alloc: Global, most_bytes: u64, most_lines: u64) -> Result<Self, AllocError>
         requires bytes { most_bytes < 2 ^ 32 }
         requires lines { most_lines < 2 ^ 32 }
@@ -145,7 +146,7 @@ impl Lines {
         self.taken <= self.most_bytes && (self.answered < self.most_lines || self.is_fresh())
     }
 
-    /// Whether `next` would answer a line without reading: a whole line is at hand, within the limits.
+    /// Whether a whole line is at hand, within the limits. Then `next` answers one without reading, or finds no memory for it.
     pub fn has_line(&self) -> bool
         ensures { IsTrue result ↔ HasLine self.now }
     {
@@ -271,7 +272,7 @@ impl Lines {
     }
 
     /// The next line of `source`, which is the same in every call of this reader. Where a whole line is at hand, or
-    /// an earlier call answered that there is none more, it isn't read.
+    /// an earlier call answered that there is none more, it isn't read. Fails only for want of memory.
     pub fn next<S: Source>(&mut self, source: &mut S) -> Result<LineAnswer, AllocError>
         ensures next { IfOk result (λ answer. IsNext self.old (S.left source.old) self.new (S.left source.new) answer) }
         ensures cause { IfOk result (λ answer. IsNextCause self.old (S.faults source.old) (S.faults source.new) answer) }

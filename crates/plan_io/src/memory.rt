@@ -107,7 +107,7 @@ impl Model for MemSink {
 }
 
 impl MemSink {
-    /// A sink with room for `room` bytes. It takes memory for them now, and none later.
+    /// A sink with room for `room` bytes. It takes memory for them now, and none later. Fails only for want of memory.
     pub fn new(
         alloc: Global,
         most: usize,

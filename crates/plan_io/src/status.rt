@@ -5,7 +5,7 @@ ghost use Rattle.plan_io.specs.Exit.{status_number};
 /// How a run ended. The number of a status is the program's exit status.
 #[derive(Clone, Copy, PartialEq, Eq)]
 pub enum Status {
-    /// Everything was written, and the input was read to its end.
+    /// Everything was written, and the input was read to its end; a workload reads none.
     Done = 0,
     /// The words aren't a defined list; nothing was read or written.
     Words = 1,

@@ -79,7 +79,7 @@ impl Model for SteadySink {
 }
 
 impl SteadySink {
-    /// A sink that keeps at most `room` bytes. It takes memory for them now, and none later.
+    /// A sink that keeps at most `room` bytes. It takes memory for them now, and none later. Fails only for want of memory.
     pub fn new(alloc: Global, room: usize) -> Result<Self, AllocError>
         ensures { IfOk result (λ sink. sink ≡ record { bytes = []; room = room; over = false }) }
     {

@@ -1,6 +1,6 @@
 //! Reading a source to its end.
 ghost use Rattle.std.specs.Prelude.{◌+◌, ◌^◌, ◌<◌, ◌≤◌, length, IfOk, OnErr};
-ghost use Rattle.plan_io.specs.Whole.{IsTurn, IsTurnCause, ReadsWhole, IsWholeCause, StopsReading};
+ghost use Rattle.plan_io.specs.Whole.{IsWholeTurn, IsWholeTurnCause, ReadsWhole, IsWholeCause, StopsReading};
 
 use super::byte_list::ByteList;
 use super::room::{ROOM, read_block, read_room};
@@ -35,8 +35,8 @@ fn read_more<S: Source>(
     requires some { 0 < size }
     requires room { size ≤ length room.old }
     ensures turn { IfOk result (λ turn.
-        IsTurn (S.left source.old) (S.left source.new) size bytes.old.items bytes.new.items turn) }
-    ensures cause { IfOk result (λ turn. IsTurnCause (S.faults source.old) (S.faults source.new) turn) }
+        IsWholeTurn (S.left source.old) (S.left source.new) size bytes.old.items bytes.new.items turn) }
+    ensures cause { IfOk result (λ turn. IsWholeTurnCause (S.faults source.old) (S.faults source.new) turn) }
     ensures err { OnErr result
         (StopsReading (S.left source.old) (S.left source.new) size (S.faults source.old) (S.faults source.new)) }
 {
@@ -62,7 +62,7 @@ fn read_size(allowed: u64) -> usize
 }
 
 /// Reads a source to its end, where it gives at most `most_bytes` bytes. It reads by blocks, and takes at most one byte
-/// more than that, with the answer `InputOver`. Where memory is wanting, the bytes that were taken are lost.
+/// more than that, with the answer `InputOver`. Fails only for want of memory, and then the bytes that were taken are lost.
 pub fn read_whole<S: Source>(
     alloc: Global,
     source: &mut S,
