@@ -1,5 +1,6 @@
 pub mod Numbers
 pub mod InRange
+pub mod WritableClaim
 pub mod BackClaim
 pub mod BackSnapshot
 pub mod Inverse

@@ -11,7 +11,7 @@ use Rattle.plan_json.specs.Adds.{text_of, IsFrontOf, Adds, AddsItems}
 use Rattle.plan_json.specs.Exact.{IsWritten, AreWrittenItems}
 use Rattle.plan_json.proofs.Fronts.{IsFrontOf-trans}
 
-all_written : {T : Type 0} (n : ℕ) (f : T → Data) (xs : List T) → All (λ x. IsWritten n (f x)) xs → AreWrittenItems n (items_of (map f xs))
+pub all_written : {T : Type 0} (n : ℕ) (f : T → Data) (xs : List T) → All (λ x. IsWritten n (f x)) xs → AreWrittenItems n (items_of (map f xs))
 all_written n f [] h = record { exact = tt; in_order = tt; flat = omega arith }
 all_written n f (x ∷ xs) h =
     let first = All-head (λ y. IsWritten n (f y)) x xs h in

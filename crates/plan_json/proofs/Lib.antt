@@ -5,6 +5,7 @@ pub mod Written
 pub mod Fronts
 pub mod Escapes
 pub mod Items
+pub mod Writable
 pub mod Literals
 pub mod Objects
 pub mod TextsBack
