@@ -8,7 +8,8 @@ pub fn entries_are_read_back()
     ensures { EntriesAreReadBack }
 {}
 
-/// A law: the text of a `publish` line is read as the command that publishes its claim for its version.
+/// A law: the text of a `publish` line is read as the command that publishes its claim for its version, where version and claim are in
+/// their ranges.
 pub fn claims_can_be_sent()
     ensures { ClaimsCanBeSent }
 {}
