@@ -27,7 +27,9 @@ class Journal:
 
     @staticmethod
     def paths(name: str | Path) -> tuple[str, str]:
-        """The paths of the lines and of the replies."""
+        """The paths of the lines and of the replies. ``FileError`` where the name is empty or that of a folder."""
+        if not os.path.basename(name):
+            raise FileError(f"{str(name)!r} is no name of a journal, such as tonight")
         return f"{name}.lines.jsonl", f"{name}.replies.jsonl"
 
     @staticmethod

@@ -338,6 +338,8 @@ def test_bad_input_is_told_in_one_message(run, words, status: int, message: str)
         (("replay", "a", "--program", "it's"), "\"it's\" is no command: No closing quotation"),
         (("resume", "a"), "the following arguments are required: --script"),
         (("portal", "a", "--priority", "1", "--targets", "-"), "--targets has to name a file: the lines go to standard"),
+        (("serve", ""), "'' is no name of a journal, such as tonight"),
+        (("serve", "night/"), "'night/' is no name of a journal, such as tonight"),
         (("chart", "a", "--plan", "p.svg", "--accounts", "./p.svg"), "--plan and --accounts name the same file"),
     ],
 )

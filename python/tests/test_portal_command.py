@@ -45,6 +45,13 @@ def test_portal_tells_of_a_name_for_two_places_in_the_sky(run) -> None:
     assert (ran.status, ran.out, ran.err) == (4, "", f"purvelj: {where}: M51 stands for two places in the sky\n")
 
 
+def test_portal_keeps_what_it_reads(run) -> None:
+    ran = run("portal", "m51.json", "--priority", "1", "--targets", "./m51.json", files={"m51.json": json.loads(DOCUMENT)})
+    assert (ran.status, ran.out) == (2, "")
+    assert "--targets names ./m51.json, which is read: the targets are written there" in ran.err
+    assert run("portal", "m51.json", "--priority", "1").status == 0
+
+
 def test_portal_tells_of_groups_on_further_pages(run) -> None:
     value = json.loads(DOCUMENT)
     pages = {f"{name}.json": {"count": 3, "results": [value] * count} for name, count in (("first", 2), ("last", 1))}

@@ -3,6 +3,7 @@
 from __future__ import annotations
 
 import argparse
+import os
 from typing import Any, Iterator
 
 from purvelj.cli.words import Commands, put, ranged, tell
@@ -33,7 +34,9 @@ def add_commands(commands: Commands) -> None:
         help="the thousandths of its value that each request loses with each slice of delay (default 0)",
     )
     portal.add_argument(
-        "--targets", metavar="FILE", help="write the targets with their limits there, as `visibility` takes them"
+        "--targets",
+        metavar="FILE",
+        help="write the targets with their limits there, as `visibility` takes them, in place of what is there",
     )
     portal.add_argument("--strict", action="store_true", help="take every warning for a fault")
     portal.set_defaults(run=run_portal)
@@ -43,6 +46,8 @@ def run_portal(options: argparse.Namespace) -> int:
     """Runs ``portal``."""
     if options.targets == "-":
         raise WordsError("--targets has to name a file: the lines go to standard output")
+    if options.targets and any(_is_same_file(path, options.targets) for path in options.documents):
+        raise WordsError(f"--targets names {options.targets}, which is read: the targets are written there")
     documents = [(path, read_json(path)) for path in options.documents]
     values = [each for path, value in documents for each in _groups(path, value)]
     if not values:
@@ -63,6 +68,11 @@ def run_portal(options: argparse.Namespace) -> int:
     for conversion in conversions:
         put(compact(conversion.line()))
     return 0
+
+
+def _is_same_file(one: str, other: str) -> bool:
+    """Whether two paths lead to one file that is there."""
+    return os.path.exists(one) and os.path.exists(other) and os.path.samefile(one, other)
 
 
 def _is_page(value: object) -> bool:

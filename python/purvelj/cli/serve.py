@@ -3,6 +3,7 @@
 from __future__ import annotations
 
 import argparse
+import os
 import signal
 from contextlib import contextmanager
 from types import FrameType
@@ -61,6 +62,8 @@ def run_serve(options: argparse.Namespace) -> int:
 
     if options.host is not None and options.port is None:
         raise WordsError("--host goes with --port")
+    if not os.path.basename(options.journal):
+        raise WordsError(f"{options.journal!r} is no name of a journal, such as tonight")
     caught: list[int] = []
     with _listener(options) as listener, _hinting(), _desk(options) as desk:
         _tell_done(desk)
