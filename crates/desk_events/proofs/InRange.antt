@@ -34,8 +34,8 @@ use Rattle.desk_events.specs.declared.command.Command.{Command}
 use Rattle.desk_events.specs.declared.fault.CommandFault.{CommandFault}
 use Rattle.desk_events.specs.declared.read.verb.Verb.{Verb}
 use Rattle.desk_events.specs.declared.read.verb.Verb.TheVariants as verb
-use Rattle.desk_events.specs.Fault.{read_member, read_group}
-use Rattle.desk_events.specs.Account.{account_of, instrument_of as type_of, key_of}
+use Rattle.desk_events.specs.Fault.{in_line, group_in_line}
+use Rattle.desk_events.specs.Account.{account_of, account_instrument_of, key_of}
 use Rattle.desk_events.specs.Commands.{open_of, instrument_of, telescope_of, night_of, visibility_of, telescope_scope_of, site_scope_of, scope_of}
 use Rattle.desk_events.specs.Commands.{close_of, reopen_of}
 use Rattle.desk_events.specs.Commands.{grant_of, document_in, submit_of, group_number_of, amend_of, withdraw_of, clock_of, report_of, publish_of, show_of}
@@ -48,11 +48,11 @@ use Rattle.desk_events.specs.Ranges.{IsOpening, IsInstrument, IsTelescope, AreSp
 use Rattle.desk_events.specs.Ranges.{IsGrant, IsReport, IsPublication, IsCommand}
 
 -- what was read, its fault being another's
-read : {T : Type 0} {P : T → Type 0} {r : Result T JsonFault} → Gives r P → Gives (read_member r) P
+read : {T : Type 0} {P : T → Type 0} {r : Result T JsonFault} → Gives r P → Gives (in_line r) P
 read {r = Ok x} h = record { ok = h.ok }
 read {r = Err e} h = record { ok = tt }
 
-read_of_group : {T : Type 0} {P : T → Type 0} {r : Result T GroupFault} → Gives r P → Gives (read_group r) P
+read_of_group : {T : Type 0} {P : T → Type 0} {r : Result T GroupFault} → Gives r P → Gives (group_in_line r) P
 read_of_group {r = Ok x} h = record { ok = h.ok }
 read_of_group {r = Err e} h = record { ok = tt }
 
@@ -209,7 +209,7 @@ reopen_there ms =
 
 -- ---- accounts and groups
 
-type_there : (x : Account) (ms : Members) → Gives (type_of x ms) (IsInstrumentOf x)
+type_there : (x : Account) (ms : Members) → Gives (account_instrument_of x ms) (IsInstrumentOf x)
 type_there account.Standard ms = text_member ms key.InstrumentType
 type_there account.TimeCritical ms = text_member ms key.InstrumentType
 type_there account.RapidResponse ms = text_member ms key.InstrumentType
@@ -285,7 +285,7 @@ command_there verb.Show ms = read (show_there ms)
 
 bytes_there : (bytes : List ℕ) → Gives (command_of_bytes bytes) IsCommand
 bytes_there bytes =
-    after command_in (any (read_member (document_of bytes))) (λ ms _.
+    after command_in (any (in_line (document_of bytes))) (λ ms _.
     after (λ v. command_of v ms) (any (verb_of ms)) (λ v _. command_there v ms))
 
 line_there : (l : ScriptLine) → Gives (command_of_line l) IsCommand

@@ -25,7 +25,7 @@ use Rattle.desk_events.specs.declared.command.Command.{Command}
 use Rattle.desk_events.specs.declared.command.Command.TheVariants.{Publish}
 use Rattle.desk_events.specs.declared.fault.CommandFault.{CommandFault}
 use Rattle.desk_events.specs.Commands.{publish_of}
-use Rattle.desk_events.specs.Fault.{read_member}
+use Rattle.desk_events.specs.Fault.{in_line}
 use Rattle.desk_events.specs.Line.{command_in}
 use Rattle.desk_events.specs.Ranges.{IsPublication}
 use Rattle.desk_events.specs.Sent.{publish_data, ClaimsCanBeSent}
@@ -59,5 +59,5 @@ pub claims_can_be_sent : ClaimsCanBeSent
 claims_can_be_sent version claim is =
     let document = document_is (text_of (publish_data version claim)) (publish_data version claim) (sent version claim)
     (texts_are_read_back (publish_data version claim) (publication_written version claim is)) refl in
-    ap (λ r. let c : Result Command CommandFault = result_and_then command_in (read_member r) in c) document
-    ∙ ap (λ r. let c : Result Command CommandFault = read_member r in c) (publication_is version claim is)
+    ap (λ r. let c : Result Command CommandFault = result_and_then command_in (in_line r) in c) document
+    ∙ ap (λ r. let c : Result Command CommandFault = in_line r in c) (publication_is version claim is)

@@ -25,16 +25,16 @@ abbrev pub account_of : Members → Result Account JsonFault
 account_of ms = member_of text_in ms member.Account >>= λ word. ok_or (account_named word) (OutOfRange member.Account)
 
 -- `instrument_type`, which isn't read for `ipp`
-abbrev pub instrument_of : Account → Members → Result (List ℕ) JsonFault
-instrument_of account.Standard ms = member_of text_in ms member.InstrumentType
-instrument_of account.TimeCritical ms = member_of text_in ms member.InstrumentType
-instrument_of account.RapidResponse ms = member_of text_in ms member.InstrumentType
-instrument_of account.Ipp ms = Ok []
+abbrev pub account_instrument_of : Account → Members → Result (List ℕ) JsonFault
+account_instrument_of account.Standard ms = member_of text_in ms member.InstrumentType
+account_instrument_of account.TimeCritical ms = member_of text_in ms member.InstrumentType
+account_instrument_of account.RapidResponse ms = member_of text_in ms member.InstrumentType
+account_instrument_of account.Ipp ms = Ok []
 
 -- `proposal`, `account`, `instrument_type`
 abbrev pub key_of : Members → Result Key JsonFault
 key_of ms =
     member_of text_in ms member.Proposal >>= λ proposal.
     account_of ms >>= λ account.
-    instrument_of account ms >>= λ instrument.
+    account_instrument_of account ms >>= λ instrument.
     Ok (record { proposal = proposal; account = account; instrument = instrument })

@@ -76,12 +76,12 @@ of_accounts (ledger.NoSuchAllocation account) = Refused (refusal.NoSuchAllocatio
 of_accounts (ledger.NotEnoughTime needed available) = Refused (refusal.NotEnoughTime available needed)
 of_accounts ledger.NoMemory = NoMemory
 
--- what was read, a member's fault being the command's
-abbrev pub read_member : {T : Type 0} → Result T JsonFault → Result T CommandFault
-read_member (Ok x) = Ok x
-read_member (Err e) = Err (of_member e)
+-- what was read, its fault being the line's
+abbrev pub in_line : {T : Type 0} → Result T JsonFault → Result T CommandFault
+in_line (Ok x) = Ok x
+in_line (Err e) = Err (of_member e)
 
--- what was read, the group's fault being the command's
-abbrev pub read_group : {T : Type 0} → Result T GroupFault → Result T CommandFault
-read_group (Ok x) = Ok x
-read_group (Err e) = Err (of_group e)
+-- the same of a group's document
+abbrev pub group_in_line : {T : Type 0} → Result T GroupFault → Result T CommandFault
+group_in_line (Ok x) = Ok x
+group_in_line (Err e) = Err (of_group e)

@@ -14,7 +14,7 @@ use Rattle.desk_events.specs.declared.fault.CommandFault.TheVariants.{Refused}
 use Rattle.desk_events.specs.declared.refusal.Refusal.TheVariants as refusal
 use Rattle.desk_events.specs.declared.read.verb.Verb.{Verb}
 use Rattle.desk_events.specs.declared.read.verb.Verb.TheVariants as verb
-use Rattle.desk_events.specs.Fault.{read_member, read_group}
+use Rattle.desk_events.specs.Fault.{in_line, group_in_line}
 use Rattle.desk_events.specs.Commands.{open_of, instrument_of, telescope_of, night_of, visibility_of}
 use Rattle.desk_events.specs.Commands.{close_of, reopen_of, grant_of, submit_of, amend_of, withdraw_of}
 use Rattle.desk_events.specs.Commands.{clock_of, report_of, publish_of, show_of}
@@ -44,28 +44,28 @@ verb_named word =
 
 -- `do`, and only then whether it is a command
 abbrev pub verb_of : Members → Result Verb CommandFault
-verb_of ms = read_member (member_of text_in ms member.Do) >>= λ word. ok_or (verb_named word) (Refused refusal.UnknownCommand)
+verb_of ms = in_line (member_of text_in ms member.Do) >>= λ word. ok_or (verb_named word) (Refused refusal.UnknownCommand)
 
 -- the members that the command has
 abbrev pub command_of : Verb → Members → Result Command CommandFault
-command_of verb.Open ms = read_member (open_of ms)
-command_of verb.Instrument ms = read_member (instrument_of ms)
-command_of verb.Telescope ms = read_member (telescope_of ms)
-command_of verb.Night ms = read_member (night_of ms)
-command_of verb.Visibility ms = read_member (visibility_of ms)
-command_of verb.Close ms = read_member (close_of ms)
-command_of verb.Reopen ms = read_member (reopen_of ms)
-command_of verb.Grant ms = read_member (grant_of ms)
-command_of verb.Submit ms = read_group (submit_of ms)
-command_of verb.Amend ms = read_group (amend_of ms)
-command_of verb.Withdraw ms = read_member (withdraw_of ms)
-command_of verb.Clock ms = read_member (clock_of ms)
-command_of verb.Report ms = read_member (report_of ms)
+command_of verb.Open ms = in_line (open_of ms)
+command_of verb.Instrument ms = in_line (instrument_of ms)
+command_of verb.Telescope ms = in_line (telescope_of ms)
+command_of verb.Night ms = in_line (night_of ms)
+command_of verb.Visibility ms = in_line (visibility_of ms)
+command_of verb.Close ms = in_line (close_of ms)
+command_of verb.Reopen ms = in_line (reopen_of ms)
+command_of verb.Grant ms = in_line (grant_of ms)
+command_of verb.Submit ms = group_in_line (submit_of ms)
+command_of verb.Amend ms = group_in_line (amend_of ms)
+command_of verb.Withdraw ms = in_line (withdraw_of ms)
+command_of verb.Clock ms = in_line (clock_of ms)
+command_of verb.Report ms = in_line (report_of ms)
 command_of verb.Plan ms = Ok command.Plan
-command_of verb.Publish ms = read_member (publish_of ms)
+command_of verb.Publish ms = in_line (publish_of ms)
 command_of verb.Export ms = Ok command.Export
 command_of verb.Balances ms = Ok command.Balances
-command_of verb.Show ms = read_member (show_of ms)
+command_of verb.Show ms = in_line (show_of ms)
 
 -- `do`, then the command's members
 abbrev pub command_in : Members → Result Command CommandFault
@@ -73,7 +73,7 @@ command_in ms = verb_of ms >>= λ verb. command_of verb ms
 
 -- whether the bytes are JSON, then whether they are an object, then its members
 abbrev pub command_of_bytes : List ℕ → Result Command CommandFault
-command_of_bytes bytes = read_member (document_of bytes) >>= command_in
+command_of_bytes bytes = in_line (document_of bytes) >>= command_in
 
 -- whether the line is too long, then its bytes
 abbrev pub command_of_line : ScriptLine → Result Command CommandFault

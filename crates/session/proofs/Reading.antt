@@ -20,7 +20,7 @@ use Rattle.desk_events.specs.declared.fault.CommandFault.TheVariants.{Refused}
 use Rattle.desk_events.specs.declared.refusal.Refusal.TheVariants as refusal
 use Rattle.desk_events.specs.Account.{key_of}
 use Rattle.desk_events.specs.Commands.{open_of, instrument_of, telescope_of, night_of, visibility_of, grant_of, submit_of, document_in}
-use Rattle.desk_events.specs.Fault.{read_member, read_group}
+use Rattle.desk_events.specs.Fault.{in_line, group_in_line}
 use Rattle.desk_events.specs.Line.{verb_named, command_of, command_in, command_of_bytes}
 use Rattle.workload.proofs.Asked.{Asks, AsksNoPlan}
 
@@ -32,11 +32,11 @@ then_none : {A E : Type 0} (r : Result A E) (f : A → Result Command E) → ((x
 then_none (Ok x) f none = none x
 then_none (Err e) f none = λ h. cc
 
-member_none : (r : Result Command JsonFault) → NoPlan r → NoPlan (read_member r)
+member_none : (r : Result Command JsonFault) → NoPlan r → NoPlan (in_line r)
 member_none (Ok c) none = λ h. none (let same : c ≡ command.Plan = cc in ap (λ (x : Command). Ok x) same)
 member_none (Err e) none = λ h. cc
 
-group_none : (r : Result Command GroupFault) → NoPlan r → NoPlan (read_group r)
+group_none : (r : Result Command GroupFault) → NoPlan r → NoPlan (group_in_line r)
 group_none (Ok c) none = λ h. none (let same : c ≡ command.Plan = cc in ap (λ (x : Command). Ok x) same)
 group_none (Err e) none = λ h. cc
 
@@ -107,7 +107,7 @@ submit_none ms =
 -- what these members say, by their `do`
 abbrev said_by : Members → Option Data → Result Command CommandFault
 said_by ms o =
-    (read_member (result_and_then (text_in member.Do) (ok_or (option_and_then unless_null o) (Missing member.Do))) >>= λ word. ok_or (verb_named word)
+    (in_line (result_and_then (text_in member.Do) (ok_or (option_and_then unless_null o) (Missing member.Do))) >>= λ word. ok_or (verb_named word)
     (Refused refusal.UnknownCommand))
     >>= λ verb. command_of verb ms
 
@@ -115,7 +115,7 @@ said_by ms o =
 said : (bytes : List ℕ) (d : Data) (word : List ℕ) (asks : Asks word d) → data_of bytes ≡ Ok d → command_of_bytes bytes ≡ said_by asks.0 (Some (string word))
 said bytes d word asks read =
     let in_object : Result Data JsonFault → Result Command CommandFault =
-    λ r. result_and_then command_in (read_member (result_and_then (λ e. ok_or (as_object e) NotObject) r)) in
+    λ r. result_and_then command_in (in_line (result_and_then (λ e. ok_or (as_object e) NotObject) r)) in
     ap in_object (read ∙ ap (λ (e : Data). Ok e) asks.1) ∙ ap (said_by asks.0) asks.2
 
 none_by : (bytes : List ℕ) (d : Data) (word : List ℕ) (asks : Asks word d) → data_of bytes ≡ Ok d → NoPlan (said_by asks.0 (Some (string word)))

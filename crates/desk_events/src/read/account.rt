@@ -3,7 +3,7 @@
 ghost use Rattle.std.specs.Prelude.{◌≡◌, ◌≢◌, [], IfOk, IfErr, Ok, Err};
 ghost use Rattle.plan_json.specs.declared.fault.JsonFault.TheVariants.{NoMemory};
 ghost use Rattle.plan_json.specs.Shown.{members_of};
-ghost use Rattle.desk_events.specs.Account.{account_named, account_of, instrument_of, key_of};
+ghost use Rattle.desk_events.specs.Account.{account_named, account_of, account_instrument_of, key_of};
 ghost use Rattle.desk_events.specs.Commands.{grant_of};
 
 use crate::command::Command;
@@ -47,8 +47,8 @@ fn no_name(alloc: Global) -> Result<Name, AllocError>
 
 /// The instrument type, which isn't read for `ipp`.
 fn read_instrument(alloc: Global, account: Account, doc: &Doc) -> Result<Name, JsonFault>
-    ensures value { IfOk result (λ name. instrument_of account (members_of doc.now) ≡ Ok name) }
-    ensures fault { IfErr result (λ e. e ≢ NoMemory → instrument_of account (members_of doc.now) ≡ Err e) }
+    ensures value { IfOk result (λ name. account_instrument_of account (members_of doc.now) ≡ Ok name) }
+    ensures fault { IfErr result (λ e. e ≢ NoMemory → account_instrument_of account (members_of doc.now) ≡ Err e) }
 {
     match account {
         Account::Ipp => Ok(no_name(alloc)?),
