@@ -1,5 +1,5 @@
 -- The documents of the lines are of the kind whose texts are read back.
-use Rattle.std.proofs.Common.{◌≡◌, ℕ, suc, ◌+◌, ◌-◌, ◌*◌, ◌/◌, ◌%◌, ◌^◌, ◌<◌, ◌≤◌, nat_lt, cond, Bool, true, false, List, [], ◌∷◌, ◌++◌, map, codes}
+use Rattle.std.proofs.Common.{◌≡◌, ℕ, suc, ◌+◌, ◌-◌, ◌*◌, ◌/◌, ◌%◌, ◌^◌, ◌<◌, nat_lt, cond, Bool, true, false, List, [], ◌∷◌, ◌++◌, map, codes}
 use Rattle.std.proofs.Common.{decimal, IsUtf8, IsAscii, slice_index_or, ◌==◌, refl, sym, subst, arith}
 use Rattle.std.specs.List.{list_all, range_with_len}
 use Rattle.std.proofs.lemmas.Bool.{and_parts}
@@ -17,8 +17,8 @@ use Rattle.plan_base.specs.declared.span.Span.{Span}
 use Rattle.plan_json.specs.Exact.{IsWritten}
 use Rattle.plan_json.specs.Operator.{operator_name}
 use Rattle.plan_json.specs.Order.{IsBefore}
-use Rattle.plan_json.specs.Values.{whole}
 use Rattle.plan_json.proofs.TextsBack.{texts_are_read_back}
+use Rattle.plan_json.proofs.Writable.{deeper_written, whole_written, text_written}
 use Rattle.workload.specs.declared.class.Class.{Class}
 use Rattle.workload.specs.declared.class.Class.TheVariants.{OneMetre, FortyCentimetres}
 use Rattle.workload.specs.declared.subject.Subject.{Subject}
@@ -47,17 +47,11 @@ utf8 : (s : List ℕ) → is_low s ≡ true → IsUtf8 s
 utf8 s low = IsUtf8-from_ascii s (ascii s low)
 
 text : (n : ℕ) (s : List ℕ) → is_low s ≡ true → IsWritten n (string s)
-text n s low = record { exact = utf8 s low; in_order = tt; flat = omega arith }
+text n s low = text_written n s (utf8 s low)
 
 numbered : (n : ℕ) (letter : List ℕ) (k : ℕ) → is_low letter ≡ true → k < 2 ^ 64 → IsWritten n (string (letter ++ decimal k))
-numbered n letter k low few = record {
-  exact = IsUtf8-append letter (decimal k) (utf8 letter low) (IsUtf8-from_ascii (decimal k) (IsAscii-decimal k few));
-  in_order = tt;
-  flat = omega arith;
-}
-
-counted : (n k : ℕ) → k < 2 ^ 64 → IsWritten n (whole k)
-counted n k few = record { exact = few; in_order = tt; flat = omega arith }
+numbered n letter k low few =
+    text_written n (letter ++ decimal k) (IsUtf8-append letter (decimal k) (utf8 letter low) (IsUtf8-from_ascii (decimal k) (IsAscii-decimal k few)))
 
 -- ---- lists and objects
 
@@ -85,9 +79,6 @@ more_object n k d ms low before value rest = record {
   in_order = (before, value.in_order, rest.in_order);
   flat = omega (arith, value.flat, rest.flat);
 }
-
-deeper : (n m : ℕ) (d : Data) → n ≤ m → IsWritten n d → IsWritten m d
-deeper n m d most w = record { exact = w.exact; in_order = w.in_order; flat = omega (arith, most, w.flat) }
 
 -- ---- names
 
@@ -127,17 +118,17 @@ unfolding drawn_at
 draw_below x i m some = mod_below (number_after x (i + 1) / 2 ^ 33) m some
 
 exposure : (ms : ℕ) → ms < 2 ^ 64 → IsWritten 1 (exposure_data ms)
-exposure ms few = more_object 0 _ _ _ refl refl (counted 0 1 (omega arith)) (more_object 0 _ _ _ refl tt (counted 0 ms few) (no_object 0))
+exposure ms few = more_object 0 _ _ _ refl refl (whole_written 0 1 (omega arith)) (more_object 0 _ _ _ refl tt (whole_written 0 ms few) (no_object 0))
 
 configuration : (class : Class) (target ms : ℕ) → target < 2 ^ 64 → ms < 2 ^ 64 → IsWritten 3 (configuration_data class target ms)
 configuration class target ms known few =
     more_object 2 _ _ _ refl refl (one_list 1 _ (exposure ms few))
     (more_object 2 _ _ _ refl refl (text 2 _ (low_instrument class))
-    (more_object 2 _ _ _ refl tt (deeper 1 2 _ (omega arith) (more_object 0 _ _ _ refl tt (numbered 0 (codes "T") target refl known) (no_object 0)))
+    (more_object 2 _ _ _ refl tt (deeper_written 1 2 _ (omega arith) (more_object 0 _ _ _ refl tt (numbered 0 (codes "T") target refl known) (no_object 0)))
     (no_object 2)))
 
 window : (start end : ℕ) → start < 2 ^ 64 → end < 2 ^ 64 → IsWritten 1 (window_data start end)
-window start end early late = more_object 0 _ _ _ refl refl (counted 0 end late) (more_object 0 _ _ _ refl tt (counted 0 start early) (no_object 0))
+window start end early late = more_object 0 _ _ _ refl refl (whole_written 0 end late) (more_object 0 _ _ _ refl tt (whole_written 0 start early) (no_object 0))
 
 location : (class : Class) → IsWritten 1 (location_data class)
 location class = more_object 0 _ _ _ refl tt (text 0 _ (low_class class)) (no_object 0)
@@ -150,8 +141,8 @@ request x =
     let start : draw x 3 72 < 72 = draw_below x 3 72 (omega arith) in
     let end : draw x 4 48 < 48 = draw_below x 4 48 (omega arith) in
     more_object 4 _ _ _ refl refl (one_list 3 _ (configuration r.class r.target r.exposure_ms (omega (arith, target)) (omega (arith, exposures))))
-    (more_object 4 _ _ _ refl refl (deeper 1 4 _ (omega arith) (location r.class))
-    (more_object 4 _ _ _ refl tt (deeper 2 4 _ (omega arith) (one_list 1 _ (window r.start r.end (omega (arith, start)) (omega (arith, start, end)))))
+    (more_object 4 _ _ _ refl refl (deeper_written 1 4 _ (omega arith) (location r.class))
+    (more_object 4 _ _ _ refl tt (deeper_written 2 4 _ (omega arith) (one_list 1 _ (window r.start r.end (omega (arith, start)) (omega (arith, start, end)))))
     (no_object 4)))
 
 requests : (x : ℕ) (is : List ℕ) → IsWritten 6 (array (items_of (map request_data (map (λ i. request_from (number_after x (5 * i))) is))))
@@ -164,35 +155,35 @@ group number op priority x count few =
     more_object 6 _ _ _ refl refl (text 6 (codes "g") refl)
     (more_object 6 _ _ _ refl refl (text 6 (codes "NORMAL") refl)
     (more_object 6 _ _ _ refl refl (text 6 _ (low_operator op))
-    (more_object 6 _ _ _ refl refl (counted 6 priority few)
+    (more_object 6 _ _ _ refl refl (whole_written 6 priority few)
     (more_object 6 _ _ _ refl refl (numbered 6 (codes "P") (number % 4) refl (omega (arith, proposal)))
     (more_object 6 _ _ _ refl tt (requests x (range_with_len 0 count)) (no_object 6))))))
 
 -- ---- lines
 
 span : (s : Span) → s.from.0 < 2 ^ 64 → s.to.0 < 2 ^ 64 → IsWritten 1 (span_data s)
-span s from to = more_list 0 _ _ (counted 0 s.from.0 from) (one_list 0 _ (counted 0 s.to.0 to))
+span s from to = more_list 0 _ _ (whole_written 0 s.from.0 from) (one_list 0 _ (whole_written 0 s.to.0 to))
 
 opens : (workers : ℕ) → workers < 2 ^ 64 → IsWritten 2 (open_data workers)
 unfolding open_data
 opens workers few =
-    let semester = more_list 0 _ _ (counted 0 0 (omega arith)) (one_list 0 _ (counted 0 15552000 (omega arith))) in
+    let semester = more_list 0 _ _ (whole_written 0 0 (omega arith)) (one_list 0 _ (whole_written 0 15552000 (omega arith))) in
     more_object 1 _ _ _ refl refl (text 1 (codes "open") refl)
-    (more_object 1 _ _ _ refl refl (counted 1 144 (omega arith))
-    (more_object 1 _ _ _ refl refl (counted 1 4 (omega arith))
-    (more_object 1 _ _ _ refl refl (counted 1 0 (omega arith))
-    (more_object 1 _ _ _ refl refl (counted 1 32 (omega arith))
+    (more_object 1 _ _ _ refl refl (whole_written 1 144 (omega arith))
+    (more_object 1 _ _ _ refl refl (whole_written 1 4 (omega arith))
+    (more_object 1 _ _ _ refl refl (whole_written 1 0 (omega arith))
+    (more_object 1 _ _ _ refl refl (whole_written 1 32 (omega arith))
     (more_object 1 _ _ _ refl refl semester
-    (more_object 1 _ _ _ refl refl (counted 1 300 (omega arith)) (more_object 1 _ _ _ refl tt (counted 1 workers few) (no_object 1))))))))
+    (more_object 1 _ _ _ refl refl (whole_written 1 300 (omega arith)) (more_object 1 _ _ _ refl tt (whole_written 1 workers few) (no_object 1))))))))
 
 instrument : (class : Class) → IsWritten 1 (instrument_data class)
 unfolding instrument_data
 instrument class =
-    more_object 0 _ _ _ refl refl (counted 0 2000 (omega arith))
-    (more_object 0 _ _ _ refl refl (counted 0 16000 (omega arith))
+    more_object 0 _ _ _ refl refl (whole_written 0 2000 (omega arith))
+    (more_object 0 _ _ _ refl refl (whole_written 0 16000 (omega arith))
     (more_object 0 _ _ _ refl refl (text 0 (codes "instrument") refl)
-    (more_object 0 _ _ _ refl refl (counted 0 90000 (omega arith))
-    (more_object 0 _ _ _ refl refl (counted 0 28000 (omega arith)) (more_object 0 _ _ _ refl tt (text 0 _ (low_instrument class)) (no_object 0))))))
+    (more_object 0 _ _ _ refl refl (whole_written 0 90000 (omega arith))
+    (more_object 0 _ _ _ refl refl (whole_written 0 28000 (omega arith)) (more_object 0 _ _ _ refl tt (text 0 _ (low_instrument class)) (no_object 0))))))
 
 telescope : (site : ℕ) (class : Class) → IsWritten 2 (telescope_data site class)
 unfolding telescope_data
@@ -222,7 +213,8 @@ grant proposal class known =
     more_object 0 _ _ _ refl refl (text 0 (codes "standard") refl)
     (more_object 0 _ _ _ refl refl (text 0 (codes "grant") refl)
     (more_object 0 _ _ _ refl refl (text 0 _ (low_instrument class))
-    (more_object 0 _ _ _ refl refl (numbered 0 (codes "P") proposal refl known) (more_object 0 _ _ _ refl tt (counted 0 1000000 (omega arith)) (no_object 0)))))
+    (more_object 0 _ _ _ refl refl (numbered 0 (codes "P") proposal refl known)
+    (more_object 0 _ _ _ refl tt (whole_written 0 1000000 (omega arith)) (no_object 0)))))
 
 submit : (number : ℕ) (op : Op) (priority x count : ℕ) → priority < 2 ^ 64 → IsWritten 8 (group_line number op priority (requests_from x count))
 unfolding group_line
@@ -253,20 +245,20 @@ small_at n few =
     last false number = tt
 
 is_written : (workers x : ℕ) (subject : Subject) → workers < 2 ^ 64 → IsSmall subject → IsWritten max_depth (document workers x subject)
-is_written workers x Open few small = deeper 2 127 _ (omega arith) (opens workers few)
-is_written workers x (Instrument class) few small = deeper 1 127 _ (omega arith) (instrument class)
-is_written workers x (Telescope site class) few small = deeper 2 127 _ (omega arith) (telescope site class)
-is_written workers x (Night site) few small = deeper 3 127 _ (omega arith) (night site (night_of site) (omega (arith, small)) (omega (arith, small)))
+is_written workers x Open few small = deeper_written 2 127 _ (omega arith) (opens workers few)
+is_written workers x (Instrument class) few small = deeper_written 1 127 _ (omega arith) (instrument class)
+is_written workers x (Telescope site class) few small = deeper_written 2 127 _ (omega arith) (telescope site class)
+is_written workers x (Night site) few small = deeper_written 3 127 _ (omega arith) (night site (night_of site) (omega (arith, small)) (omega (arith, small)))
 is_written workers x (Visibility target site) few small =
     let from : draw x 0 96 < 96 = draw_below x 0 96 (omega arith) in
     let long : draw x 1 24 < 24 = draw_below x 1 24 (omega arith) in
-    deeper 3 127 _ (omega arith) (sky target site (sky_from x) (omega (arith, small)) (omega (arith, from)) (omega (arith, from, long)))
-is_written workers x (Grant proposal class) few small = deeper 1 127 _ (omega arith) (grant proposal class (omega (arith, small)))
+    deeper_written 3 127 _ (omega arith) (sky target site (sky_from x) (omega (arith, small)) (omega (arith, from)) (omega (arith, from, long)))
+is_written workers x (Grant proposal class) few small = deeper_written 1 127 _ (omega arith) (grant proposal class (omega (arith, small)))
 is_written workers x (Submit number) few small =
     let priority : draw x 0 30 < 30 = draw_below x 0 30 (omega arith) in
     let shape = shape_of number in
-    deeper 8 127 _ (omega arith) (submit number shape.0 (1 + draw x 0 30) (number_after x 1) shape.1 (omega (arith, priority)))
-is_written workers x Plan few small = deeper 1 127 _ (omega arith) plan
+    deeper_written 8 127 _ (omega arith) (submit number shape.0 (1 + draw x 0 30) (number_after x 1) shape.1 (omega (arith, priority)))
+is_written workers x Plan few small = deeper_written 1 127 _ (omega arith) plan
 
 pub lines_are_read_back : AreReadBack
 lines_are_read_back number workers place few within =
