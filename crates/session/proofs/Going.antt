@@ -19,6 +19,7 @@ use Rattle.desk_events.specs.Line.{command_of_line}
 use Rattle.desk_events.specs.Entry.{text_of_entry, text_of_history}
 use Rattle.desk_events.specs.Laws.{IsTelling}
 use Rattle.desk_core.specs.Desk.{StateSeen, start}
+use Rattle.session.specs.Limits.{most_session_bytes, most_session_lines}
 use Rattle.session.specs.Line.{DoesLine, BeginsLine, AddsLine}
 use Rattle.session.specs.Session.{WritesPrefix, Gathers, IsGathered, IsCutOff, IsEnded, IsWrittenOn}
 use Rattle.session.proofs.Done.{AreDone, done_none, one_more, are_more, does_version, sound_done, sound_begun, whole_done}
@@ -27,7 +28,16 @@ use Rattle.session.proofs.Written.{adds_none, adds_twice, prefix_all, prefix_aft
 
 -- the reader of a session before the first line
 abbrev pub first_reader : LinesSeen
-first_reader = record { held = []; long = false; taken = 0; answered = 0; most_bytes = 67108864; most_lines = 65536; failed = false; ended = false }
+first_reader = record {
+  held = [];
+  long = false;
+  taken = 0;
+  answered = 0;
+  most_bytes = most_session_bytes;
+  most_lines = most_session_lines;
+  failed = false;
+  ended = false;
+}
 
 -- so many lines were read and done, of a source that had a left, and the replies are what isn't written yet of their text
 pub record Going (a b w w' : Option (List ℕ)) (reader : LinesSeen) (replies : List ℕ) (done : ℕ) (s : StateSeen) : Type 0 where

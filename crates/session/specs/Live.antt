@@ -19,6 +19,7 @@ use Rattle.plan_json.specs.Adds.{text_of}
 use Rattle.plan_json.specs.Object.{document_of, member_of}
 use Rattle.plan_json.specs.Values.{has, whole, object_of}
 use Rattle.plan_json.specs.Whole.{number_in}
+use Rattle.session.specs.Limits.{most_live_bytes, most_session_lines}
 use Rattle.session.specs.Session.{IsAnswered, IsPartlyAnswered, WritesPrefix}
 
 -- the one word `live`, or the one word `passes`
@@ -60,18 +61,18 @@ scripts_of lines = map (λ caller. filter (names caller) lines) callers
 
 -- the lines up to this ending, within the limits, were read, and each names a caller
 pub record HasRead (ending : LineAnswer) (left left' : Option (List ℕ)) (lines : List ScriptLine) : Type 0 where
-  pub read : ReadsAll 16777216 65536 left lines ending left'
+  pub read : ReadsAll most_live_bytes most_session_lines left lines ending left'
   pub named : EachNamesCaller lines
 
 -- the first lines of what was read, within the limits, each name a caller
 pub record HasReadFirst (left left' : Option (List ℕ)) (lines : List ScriptLine) : Type 0 where
-  pub read : ReadsFirst 16777216 65536 left lines left'
+  pub read : ReadsFirst most_live_bytes most_session_lines left lines left'
   pub named : EachNamesCaller lines
 
 -- the first lines of what was read, within the limits, each name a caller, and the line after them names none
 pub record HasNoCaller (left left' : Option (List ℕ)) (lines : List ScriptLine) : Type 0 where
   pub line : ScriptLine
-  pub read : ReadsFirst 16777216 65536 left (lines ++ line ∷ []) left'
+  pub read : ReadsFirst most_live_bytes most_session_lines left (lines ++ line ∷ []) left'
   pub named : EachNamesCaller lines
   pub none : caller_of line ≡ None
 

@@ -11,8 +11,8 @@ use plan_io::{LineAnswer, Lines, MOST_LINES, ScriptLine, Source};
 use plan_json::{Doc, JsonFault, Member, parse_object};
 use std::alloc::{AllocError, Global};
 
-/// The most bytes of the lines of several callers, which are all kept.
-const MOST_BYTES: u64 = 16_777_216;
+/// The most bytes of the lines of several callers. They are fewer than a session of one caller may have, since all lines are kept.
+const MOST_LIVE_BYTES: u64 = 16_777_216;
 
 /// The greatest number of a caller.
 const LAST_CALLER: u32 = 7;
@@ -90,7 +90,7 @@ pub(crate) fn read_input<S: Source>(
     ensures cause { IfOk result (IsInputCause (S.faults source.old) (S.faults source.new)) }
     ensures first { OnErr result (HasReadSome (S.left source.old) (S.left source.new)) }
 {
-    let mut reader = Lines::new(alloc, MOST_BYTES, u64::from(MOST_LINES))?;
+    let mut reader = Lines::new(alloc, MOST_LIVE_BYTES, u64::from(MOST_LINES))?;
     let mut number: u32 = 0;
     loop {
         match reader.next(source)? {
