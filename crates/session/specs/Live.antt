@@ -106,11 +106,11 @@ IsLiveUnwritten left left' held held' =
     ((lines : List ScriptLine) × HasRead ending.End left left' lines × IsPartlyAnswered (scripts_of lines) held held')
     ⊎ ((lines : List ScriptLine) × HasNoCaller left left' lines × WritesPrefix held held' (no_caller_text (length lines + 1)))
 
--- the first lines were read, and a prefix of the text of a history was written, or of that on the first line without a caller
+-- all lines were read, and a prefix of the text of a history was written; or the first lines were read, and nothing is written
 abbrev pub IsLiveCutOff : Option (List ℕ) → Option (List ℕ) → Option (List ℕ) → Option (List ℕ) → Type 0
 IsLiveCutOff left left' held held' =
-    ((lines : List ScriptLine) × HasReadFirst left left' lines × IsPartlyAnswered (scripts_of lines) held held')
-    ⊎ ((lines : List ScriptLine) × HasNoCaller left left' lines × WritesPrefix held held' (no_caller_text (length lines + 1)))
+    ((lines : List ScriptLine) × HasRead ending.End left left' lines × IsPartlyAnswered (scripts_of lines) held held')
+    ⊎ ((lines : List ScriptLine) × HasReadFirst left left' lines × (held' ≡ held))
 
 -- what was read and written at each status
 abbrev pub IsLive : Option (List ℕ) → Option (List ℕ) → Option (List ℕ) → Option (List ℕ) → Status → Type 0

@@ -101,6 +101,7 @@ fn play<R: Threads + Sync, S: Source, K: Sink>(
 /// Writes the line that sums up a workload.
 fn write_summary<K: Sink>(sink: &mut K, text: &[u8]) -> Status
     ensures written { WritesSummary (K.written sink.old) (K.written sink.new) text.now result }
+    ensures memory { result ≢ Status.NoMemory }
     ensures cause { IsWritingCause (K.faults sink.old) (K.faults sink.new) result }
 {
     match put(sink, text) {
@@ -117,6 +118,7 @@ fn run_workload<R: Threads + Sync, K: Sink>(
     sink: &mut K,
 ) -> Status
     ensures written { IsWorkloadRun number (K.written sink.old) (K.written sink.new) result }
+    ensures unwritten { result ≡ Status.NoMemory → sink.new ≡ sink.old }
     ensures cause { IsWritingCause (K.faults sink.old) (K.faults sink.new) result }
 {
     let mut state = State::empty(alloc);
@@ -136,7 +138,7 @@ fn run_workload<R: Threads + Sync, K: Sink>(
 /// memory: what was written is then a beginning of the replies.
 ///
 /// With a workload nothing is read: the lines of [`Workload`](workload::Workload) with four workers are done, and one line is
-/// written, the summary of what is replied to them.
+/// written, the summary of what is replied to them. At `WriteFault` a beginning of that line was written, and at `NoMemory` nothing.
 ///
 /// The runtime is for the threads that seek plans.
 pub fn run_session<R: Threads + Sync, S: Source, K: Sink>(
@@ -152,6 +154,7 @@ pub fn run_session<R: Threads + Sync, S: Source, K: Sink>(
         → IsSession (S.left source.old) (S.left source.new) (K.written sink.old) (K.written sink.new) result }
     ensures workload { (number : ℕ) → mode_of (map string_bytes words.now) ≡ Some (Workload number)
         → (source.new ≡ source.old) × IsWorkloadRun number (K.written sink.old) (K.written sink.new) result }
+    ensures unwritten { (number : ℕ) → mode_of (map string_bytes words.now) ≡ Some (Workload number) → result ≡ Status.NoMemory → sink.new ≡ sink.old }
     ensures cause { IsSessionCause (S.faults source.old) (S.faults source.new) (K.faults sink.old) (K.faults sink.new) result }
 {
     match mode_of(words) {
