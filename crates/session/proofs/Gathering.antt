@@ -15,13 +15,13 @@ use Rattle.desk_core.specs.Kept.{IsState}
 use Rattle.desk_book.specs.Kept.{IsBook}
 use Rattle.desk_book.specs.Seen.{BookSeen, IsOver}
 use Rattle.desk_book.proofs.Whole.{over_is_whole}
-use Rattle.session.specs.Session.{IsAnswered, IsPartlyAnswered, WritesPrefix, Gathers, IsWrittenOn}
+use Rattle.session.specs.Session.{IsAnswered, IsPartlyAnswered, IsBrokenOff, WritesPrefix, Gathers, IsWrittenOn}
 use Rattle.session.specs.LiveParts.{AddsEntryAt, HasGathered, TellsHistory}
 use Rattle.session.proofs.Going.{gathers_more}
 use Rattle.session.proofs.LineTexts.{adds_one}
 use Rattle.session.proofs.Soundness.{book_sound, prefix_sound, none_sound}
 use Rattle.session.proofs.Shows.{book_tells, prefix_tells}
-use Rattle.session.proofs.Written.{adds_none, adds_twice, prefix_all, prefix_after, prefix_put}
+use Rattle.session.proofs.Written.{adds_none, adds_twice, prefix_all, prefix_after, prefix_put, less_after}
 
 -- of so many entries, which can be written, a prefix of the text was written and the rest is gathered
 pub record Gathered (w w' : Option (List ℕ)) (history : List EventEntry) (count : ℕ) (replies : List ℕ) : Type 0 where
@@ -78,7 +78,7 @@ told_fault w x y history n old new found is g h =
     let failed : Puts x y put.WriteFault old = subst (λ (f : PutAnswer). IsWrittenOn x y f old new) is h in (
       n,
       g.writable,
-      subst (λ (text : List ℕ). WritesPrefix w y text) (sym g.gathers.2) (prefix_after w x y g.gathers.0 old g.gathers.1 (prefix_put x y old failed)),
+      subst (λ (text : List ℕ). Puts w y put.WriteFault text) (sym g.gathers.2) (less_after w x y g.gathers.0 old g.gathers.1 failed),
     )
 
 -- all entries are gathered, and what is left of their text is written
@@ -111,11 +111,11 @@ answered b w y found is k state over h =
     let told : TellsHistory w y b.history put.Done = subst (TellsHistory w y b.history) is h in
     record { history = b.history; sound = book_sound b k; whole = over_is_whole b k over; telling = book_tells b k state told.0; written = told.1 }
 
-pub partly : (b : BookSeen) (w y : Option (List ℕ)) (found : PutAnswer) → found ≡ put.WriteFault → IsBook b → IsState b.state → ((caller : ℕ) → IsOver b caller)
-    → TellsHistory w y b.history found → IsPartlyAnswered b.scripts w y
-partly b w y found is k state over h =
+pub broken_off : (b : BookSeen) (w y : Option (List ℕ)) (found : PutAnswer) → found ≡ put.WriteFault → IsBook b → IsState b.state
+    → ((caller : ℕ) → IsOver b caller) → TellsHistory w y b.history found → IsBrokenOff b.scripts w y
+broken_off b w y found is k state over h =
     let told : TellsHistory w y b.history put.WriteFault = subst (TellsHistory w y b.history) is h in
-    record { history = take told.0 b.history; sound = prefix_sound b told.0 k over; telling = prefix_tells b told.0 k state told.1; prefix = told.2 }
+    record { history = take told.0 b.history; sound = prefix_sound b told.0 k over; telling = prefix_tells b told.0 k state told.1; less = told.2 }
 
 -- all that could be written of what is gathered
 prefix_most : (a b : Option (List ℕ)) (text : List ℕ) (found : PutAnswer) → Puts a b found text → WritesPrefix a b text

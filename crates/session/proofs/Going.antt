@@ -21,10 +21,10 @@ use Rattle.desk_events.specs.Laws.{IsTelling}
 use Rattle.desk_core.specs.Desk.{StateSeen, start}
 use Rattle.session.specs.Limits.{most_session_bytes, most_session_lines}
 use Rattle.session.specs.Line.{DoesLine, BeginsLine, AddsLine}
-use Rattle.session.specs.Session.{WritesPrefix, Gathers, IsGathered, IsCutOff, IsEnded, IsWrittenOn}
+use Rattle.session.specs.Session.{WritesPrefix, Gathers, IsGathered, IsCutOff, IsUnwritten, IsEnded, IsWrittenOn}
 use Rattle.session.proofs.Done.{AreDone, done_none, one_more, are_more, does_version, sound_done, sound_begun, whole_done}
 use Rattle.session.proofs.Telling.{telling_more}
-use Rattle.session.proofs.Written.{adds_none, adds_twice, prefix_all, prefix_after, prefix_put}
+use Rattle.session.proofs.Written.{adds_none, adds_twice, prefix_all, prefix_after, prefix_put, less_after}
 
 -- the reader of a session before the first line
 abbrev pub first_reader : LinesSeen
@@ -267,15 +267,25 @@ cut_off a b w x y replies g f = record {
   };
 }
 
-pub cut_by_fault : (a b w x y : Option (List ℕ)) (replies : List ℕ) → IsGathered a b w x replies → Puts x y put.WriteFault replies → IsCutOff a b w y
-cut_by_fault a b w x y replies g p = cut_off a b w x y replies g (prefix_put x y replies p)
+-- a write of what was gathered failed
+broken_off : (a b w x y : Option (List ℕ)) (replies : List ℕ) → IsGathered a b w x replies → Puts x y put.WriteFault replies → IsUnwritten a b w y
+broken_off a b w x y replies g p = record {
+  lines = g.lines;
+  read = g.read;
+  answered = record {
+    history = g.history;
+    sound = g.sound;
+    telling = g.telling;
+    less = subst (λ (text : List ℕ). Puts w y put.WriteFault text) (sym g.gathers.2) (less_after w x y g.gathers.0 replies g.gathers.1 p);
+  };
+}
 
 -- where a write of what is due failed
-pub cut_by_due : (a b w x y : Option (List ℕ)) (reader : LinesSeen) (old new : List ℕ) (done : ℕ) (s : StateSeen) (found : PutAnswer)
+pub broken_by_due : (a b w x y : Option (List ℕ)) (reader : LinesSeen) (old new : List ℕ) (done : ℕ) (s : StateSeen) (found : PutAnswer)
     → found ≡ put.WriteFault → Going a b w x reader old done s
-    → IsWrittenOn x y found old new → IsCutOff a b w y
-cut_by_due a b w x y reader old new done s found is d h =
-    cut_by_fault a b w x y old (gathered_here a b w x reader old done s d) (subst (λ (f : PutAnswer). IsWrittenOn x y f old new) is h)
+    → IsWrittenOn x y found old new → IsUnwritten a b w y
+broken_by_due a b w x y reader old new done s found is d h =
+    broken_off a b w x y old (gathered_here a b w x reader old done s d) (subst (λ (f : PutAnswer). IsWrittenOn x y f old new) is h)
 
 -- what is gathered where memory is wanting
 pub on_err : {T : Type 0} (P : Type 0) (result : Result T AllocError) → P → OnErr result P
@@ -285,7 +295,7 @@ on_err P (Err error) h = h
 pub cut_by_memory : (a b w x y : Option (List ℕ)) (replies : List ℕ) (found : PutAnswer) → IsGathered a b w x replies
     → Puts x y found replies → IsCutOff a b w y
 cut_by_memory a b w x y replies put.Done g p = cut_off a b w x y replies g (prefix_all x y replies p)
-cut_by_memory a b w x y replies put.WriteFault g p = cut_by_fault a b w x y replies g p
+cut_by_memory a b w x y replies put.WriteFault g p = cut_off a b w x y replies g (prefix_put x y replies p)
 
 is_none : (ending : LineAnswer) → ((line : ScriptLine) → ending ≡ answer.Line line → ⊥) → IsLine ending → ⊥
 is_none (answer.Line line) unlike h = unlike line refl

@@ -2,11 +2,11 @@
 use Rattle.std.proofs.Common.{◌≡◌, ℕ, ◌+◌, List, length, refl, subst, inr}
 use Rattle.std.specs.declared.option.Option.{Option}
 use Rattle.plan_io.specs.declared.lines.ScriptLine.{ScriptLine}
+use Rattle.plan_io.specs.declared.sink.PutAnswer.TheVariants as put
 use Rattle.plan_io.specs.declared.status.Status.{Status}
 use Rattle.plan_io.specs.declared.status.Status.TheVariants.{WriteFault, NoMemory, NoCaller}
-use Rattle.plan_io.specs.Sink.{Adds}
+use Rattle.plan_io.specs.Sink.{Adds, Puts}
 use Rattle.session.specs.Limits.{most_live_bytes, most_session_lines}
-use Rattle.session.specs.Session.{WritesPrefix}
 use Rattle.session.specs.Live.{HasReadFirst, HasNoCaller, no_caller_text, IsLive}
 use Rattle.session.specs.LiveParts.{HasReadSome, IsRefused}
 use Rattle.session.proofs.Naming.{some_none, one_fewer}
@@ -28,6 +28,6 @@ pub refused_line : (a b w w' : Option (List ℕ)) (number : ℕ) (status : Statu
     → (lines : List ScriptLine) × HasNoCaller a b lines × (number ≡ length lines + 1) → IsRefused number w w' status → IsLive a b w w' status
 refused_line a b w w' number NoCaller read written = (read.0, read.1, subst (λ (n : ℕ). Adds w w' (no_caller_text n)) read.2 written)
 refused_line a b w w' number WriteFault read written =
-    inr (read.0, read.1, subst (λ (n : ℕ). WritesPrefix w w' (no_caller_text n)) read.2 written)
+    inr (read.0, read.1, subst (λ (n : ℕ). Puts w w' put.WriteFault (no_caller_text n)) read.2 written)
 refused_line a b w w' number NoMemory read written = inr (read.0, named_first a b read.0 read.1, written)
 refused_line a b w w' number status read written = absurd written

@@ -29,14 +29,22 @@ take_whole (x ∷ xs) = ap (λ (ys : List ℕ). x ∷ ys) (take_whole xs)
 pub prefix_all : (a b : Option (List ℕ)) (text : List ℕ) → Adds a b text → WritesPrefix a b text
 prefix_all a b text h = (length text, omega arith, subst (λ (xs : List ℕ). Adds a b xs) (sym (take_whole text)) h)
 
+-- a whole text, and then the first bytes of another
+adds_first : (a b c : Option (List ℕ)) (xs ys : List ℕ) (n : ℕ) → Adds a b xs → Adds b c (take n ys) → Adds a c (take (length xs + n) (xs ++ ys))
+adds_first a b c xs ys n h g = subst (λ (zs : List ℕ). Adds a c zs) (sym (take-append-add xs ys n)) (adds_twice a b c xs (take n ys) h g)
+
 -- a whole text, and then a prefix of another
 pub prefix_after : (a b c : Option (List ℕ)) (xs ys : List ℕ) → Adds a b xs → WritesPrefix b c ys → WritesPrefix a c (xs ++ ys)
 prefix_after a b c xs ys h w =
-    let within : w.0 ≤ length ys = w.1 in (
-      length xs + w.0,
-      omega (arith, length-append xs ys, within),
-      subst (λ (zs : List ℕ). Adds a c zs) (sym (take-append-add xs ys w.0)) (adds_twice a b c xs (take w.0 ys) h w.2),
-    )
+    let within : w.0 ≤ length ys = w.1 in
+    (length xs + w.0, omega (arith, length-append xs ys, within), adds_first a b c xs ys w.0 h w.2)
 
+-- a whole text, and then less of another
+pub less_after : (a b c : Option (List ℕ)) (xs ys : List ℕ) → Adds a b xs → Puts b c put.WriteFault ys → Puts a c put.WriteFault (xs ++ ys)
+less_after a b c xs ys h w =
+    let within : w.0 < length ys = w.1 in
+    (length xs + w.0, omega (arith, length-append xs ys, within), adds_first a b c xs ys w.0 h w.2)
+
+-- less of a text is a prefix of it
 pub prefix_put : (a b : Option (List ℕ)) (text : List ℕ) → Puts a b put.WriteFault text → WritesPrefix a b text
 prefix_put a b text h = let within : h.0 < length text = h.1 in (h.0, omega arith, h.2)

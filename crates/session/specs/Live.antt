@@ -9,18 +9,19 @@ use Rattle.plan_io.specs.declared.lines.ScriptLine.{ScriptLine}
 use Rattle.plan_io.specs.declared.lines.ScriptLine.TheVariants.{Bytes, TooLong}
 use Rattle.plan_io.specs.declared.lines.LineAnswer.{LineAnswer}
 use Rattle.plan_io.specs.declared.lines.LineAnswer.TheVariants as ending
+use Rattle.plan_io.specs.declared.sink.PutAnswer.TheVariants as put
 use Rattle.plan_io.specs.declared.status.Status.{Status}
 use Rattle.plan_io.specs.declared.status.Status.TheVariants.{Done, Words, ReadFault, WriteFault, NoMemory, InputOver, NoDocument, No, NoCaller}
 use Rattle.plan_io.specs.Words.{IsOneWord}
 use Rattle.plan_io.specs.Reading.{ReadsAll, ReadsFirst}
-use Rattle.plan_io.specs.Sink.{Adds}
+use Rattle.plan_io.specs.Sink.{Adds, Puts}
 use Rattle.plan_json.specs.declared.member.Member.TheVariants as member
 use Rattle.plan_json.specs.Adds.{text_of}
 use Rattle.plan_json.specs.Object.{document_of, member_of}
 use Rattle.plan_json.specs.Values.{has, whole, object_of}
 use Rattle.plan_json.specs.Whole.{number_in}
 use Rattle.session.specs.Limits.{most_live_bytes, most_session_lines}
-use Rattle.session.specs.Session.{IsAnswered, IsPartlyAnswered, WritesPrefix}
+use Rattle.session.specs.Session.{IsAnswered, IsPartlyAnswered, IsBrokenOff}
 
 -- the one word `live`, or the one word `passes`
 abbrev pub AreLiveWords : List (String Global) → Type 0
@@ -100,11 +101,11 @@ IsLiveUndone ending left left' held held' = (lines : List ScriptLine) × HasRead
 abbrev pub IsLiveRefused : Option (List ℕ) → Option (List ℕ) → Option (List ℕ) → Option (List ℕ) → Type 0
 IsLiveRefused left left' held held' = (lines : List ScriptLine) × HasNoCaller left left' lines × Adds held held' (no_caller_text (length lines + 1))
 
--- all lines were read, and a prefix of the text of a history was written, or of that on the first line without a caller
+-- all lines were read, and less than the text of a history was written; or less than that on the first line without a caller
 abbrev pub IsLiveUnwritten : Option (List ℕ) → Option (List ℕ) → Option (List ℕ) → Option (List ℕ) → Type 0
 IsLiveUnwritten left left' held held' =
-    ((lines : List ScriptLine) × HasRead ending.End left left' lines × IsPartlyAnswered (scripts_of lines) held held')
-    ⊎ ((lines : List ScriptLine) × HasNoCaller left left' lines × WritesPrefix held held' (no_caller_text (length lines + 1)))
+    ((lines : List ScriptLine) × HasRead ending.End left left' lines × IsBrokenOff (scripts_of lines) held held')
+    ⊎ ((lines : List ScriptLine) × HasNoCaller left left' lines × Puts held held' put.WriteFault (no_caller_text (length lines + 1)))
 
 -- all lines were read, and a prefix of the text of a history was written; or the first lines were read, and nothing is written
 abbrev pub IsLiveCutOff : Option (List ℕ) → Option (List ℕ) → Option (List ℕ) → Option (List ℕ) → Type 0

@@ -8,7 +8,7 @@ use Rattle.plan_io.specs.declared.sink.PutAnswer.{PutAnswer}
 use Rattle.plan_io.specs.declared.sink.PutAnswer.TheVariants as put
 use Rattle.plan_io.specs.declared.status.Status.{Status}
 use Rattle.plan_io.specs.declared.status.Status.TheVariants.{Done, WriteFault, NoMemory, NoCaller}
-use Rattle.plan_io.specs.Sink.{Adds}
+use Rattle.plan_io.specs.Sink.{Adds, Puts}
 use Rattle.plan_io.specs.Source.{Rose}
 use Rattle.desk_events.specs.declared.entry.EventEntry.{EventEntry}
 use Rattle.desk_events.specs.Entry.{text_of_entry, text_of_history}
@@ -16,7 +16,7 @@ use Rattle.desk_events.specs.Laws.{IsWritableEntry}
 use Rattle.desk_book.specs.Seen.{BookSeen, with_line}
 use Rattle.session.specs.declared.live.reading.Input.{Input}
 use Rattle.session.specs.declared.live.reading.Input.TheVariants as input
-use Rattle.session.specs.Session.{IsAnswered, IsPartlyAnswered, WritesPrefix, Gathers}
+use Rattle.session.specs.Session.{IsAnswered, IsPartlyAnswered, IsBrokenOff, Gathers}
 use Rattle.session.specs.Live.{caller_of, scripts_of, HasRead, HasReadFirst, HasNoCaller, no_caller_text}
 
 -- ---- reading
@@ -55,22 +55,22 @@ pub record HasGathered (held held' : Option (List ℕ)) (history : List EventEnt
   pub writable : AllByRecursion IsWritableEntry (take count history)
   pub gathers : Gathers held held' replies (text_of_history (take count history))
 
--- the text of all entries was written, or a prefix of that of the first; the entries can be written
+-- the text of all entries was written, or less than that of the first; the entries can be written
 abbrev pub TellsHistory : Option (List ℕ) → Option (List ℕ) → List EventEntry → PutAnswer → Type 0
 TellsHistory held held' history put.Done = AllByRecursion IsWritableEntry history × Adds held held' (text_of_history history)
 TellsHistory held held' history put.WriteFault =
-    (count : ℕ) × AllByRecursion IsWritableEntry (take count history) × WritesPrefix held held' (text_of_history (take count history))
+    (count : ℕ) × AllByRecursion IsWritableEntry (take count history) × Puts held held' put.WriteFault (text_of_history (take count history))
 
 -- what was written of a history of these scripts at each status; the others don't come
 abbrev pub IsTold : List (List ScriptLine) → Option (List ℕ) → Option (List ℕ) → Status → Type 0
 IsTold scripts held held' Done = IsAnswered scripts held held'
-IsTold scripts held held' WriteFault = IsPartlyAnswered scripts held held'
+IsTold scripts held held' WriteFault = IsBrokenOff scripts held held'
 IsTold scripts held held' NoMemory = IsPartlyAnswered scripts held held'
 IsTold scripts held held' _ = ⊥
 
 -- what was written of a line without a caller at each status; the others don't come
 abbrev pub IsRefused : ℕ → Option (List ℕ) → Option (List ℕ) → Status → Type 0
 IsRefused number held held' NoCaller = Adds held held' (no_caller_text number)
-IsRefused number held held' WriteFault = WritesPrefix held held' (no_caller_text number)
+IsRefused number held held' WriteFault = Puts held held' put.WriteFault (no_caller_text number)
 IsRefused number held held' NoMemory = held' ≡ held
 IsRefused number held held' _ = ⊥

@@ -54,6 +54,19 @@ pub record IsPartlyAnswered (scripts : List (List ScriptLine)) (held held' : Opt
   pub telling : AllByRecursion IsTelling history
   pub prefix : WritesPrefix held held' (text_of_history history)
 
+-- less than the text of a sound history of these scripts was written, since a write failed; the whole text tells that history
+pub record IsBrokenOff (scripts : List (List ScriptLine)) (held held' : Option (List ℕ)) : Type 0 where
+  pub history : List EventEntry
+  pub sound : IsSound scripts history
+  pub telling : AllByRecursion IsTelling history
+  pub less : Puts held held' put.WriteFault (text_of_history history)
+
+-- the first lines of what was read, within the limits, were done, and less than the replies to them was written
+pub record IsUnwritten (left left' held held' : Option (List ℕ)) : Type 0 where
+  pub lines : List ScriptLine
+  pub read : ReadsFirst most_session_bytes most_session_lines left lines left'
+  pub answered : IsBrokenOff (lines ∷ []) held held'
+
 -- the first lines of what was read, within the limits, were done, and a prefix of the replies to them was written
 pub record IsCutOff (left left' held held' : Option (List ℕ)) : Type 0 where
   pub lines : List ScriptLine
@@ -65,7 +78,7 @@ abbrev pub IsSession : Option (List ℕ) → Option (List ℕ) → Option (List 
 IsSession left left' held held' Done = IsEnded ending.End left left' held held'
 IsSession left left' held held' ReadFault = IsEnded ending.ReadFault left left' held held'
 IsSession left left' held held' InputOver = IsEnded ending.InputOver left left' held held'
-IsSession left left' held held' WriteFault = IsCutOff left left' held held'
+IsSession left left' held held' WriteFault = IsUnwritten left left' held held'
 IsSession left left' held held' NoMemory = IsCutOff left left' held held'
 IsSession left left' held held' Words = Unit {0}
 IsSession left left' held held' NoDocument = ⊥

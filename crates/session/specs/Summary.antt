@@ -8,16 +8,17 @@ use Rattle.plan_json.specs.Adds.{text_of}
 use Rattle.plan_json.specs.Values.{has, whole, object_of}
 use Rattle.plan_io.specs.declared.lines.ScriptLine.{ScriptLine}
 use Rattle.plan_io.specs.declared.lines.ScriptLine.TheVariants.{Bytes}
+use Rattle.plan_io.specs.declared.sink.PutAnswer.TheVariants as put
 use Rattle.plan_io.specs.declared.status.Status.{Status}
 use Rattle.plan_io.specs.declared.status.Status.TheVariants.{Done, WriteFault, NoMemory}
-use Rattle.plan_io.specs.Sink.{Adds}
+use Rattle.plan_io.specs.Sink.{Adds, Puts}
 use Rattle.desk_events.specs.declared.entry.EventEntry.{EventEntry}
 use Rattle.desk_events.specs.declared.reply.Reply.{Reply}
 use Rattle.desk_events.specs.declared.reply.Reply.TheVariants.{Submitted, Published, Refused}
 use Rattle.desk_core.specs.History.{IsWhole}
 use Rattle.workload.specs.Lines.{workload_lines}
 use Rattle.session.specs.declared.summary.Summary.{Summary}
-use Rattle.session.specs.Session.{IsSound, WritesPrefix}
+use Rattle.session.specs.Session.{IsSound}
 
 -- ---- what is counted of a history
 
@@ -85,17 +86,17 @@ pub record IsSummary (number : ℕ) (summary : Summary) : Type 0 where
 abbrev pub IsSummaryText : ℕ → List ℕ → Type 0
 IsSummaryText number text = (summary : Summary) × IsSummary number summary × (text ≡ summary_text summary)
 
--- what was written of a workload at each status: the text, a prefix of it, or nothing; the other statuses don't come
+-- what was written of a workload at each status: the text, less of it, or nothing; the other statuses don't come
 abbrev pub IsWorkloadRun : ℕ → Option (List ℕ) → Option (List ℕ) → Status → Type 0
 IsWorkloadRun number held held' Done = (text : List ℕ) × IsSummaryText number text × Adds held held' text
-IsWorkloadRun number held held' WriteFault = (text : List ℕ) × IsSummaryText number text × WritesPrefix held held' text
+IsWorkloadRun number held held' WriteFault = (text : List ℕ) × IsSummaryText number text × Puts held held' put.WriteFault text
 IsWorkloadRun number held held' NoMemory = held' ≡ held
 IsWorkloadRun number held held' _ = ⊥
 
--- the text is written, or a prefix of it
+-- the text is written, or less of it
 abbrev pub WritesSummary : Option (List ℕ) → Option (List ℕ) → List ℕ → Status → Type 0
 WritesSummary held held' text Done = Adds held held' text
-WritesSummary held held' text WriteFault = WritesPrefix held held' text
+WritesSummary held held' text WriteFault = Puts held held' put.WriteFault text
 WritesSummary held held' text _ = ⊥
 
 -- ---- counting

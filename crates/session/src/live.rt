@@ -116,7 +116,7 @@ fn play<R: Threads + Wait + Sync, S: Source, K: Sink, G: Gate>(
 /// status is `NoCaller`: `{"line":n,"no":8}` is written and a newline, `n` being the line's number from 1, and nothing is done.
 ///
 /// Then each caller's lines are done in their order, by a thread of its own where one can be made, and the text of the whole
-/// history is written: the status is `Done`, or `WriteFault` where a write fails. At `NoMemory`, for want of memory,
+/// history is written: the status is `Done`, or `WriteFault` where a write fails before its end. At `NoMemory`, for want of memory,
 /// a beginning of it was written, or nothing, as always where not all lines were read or one names no caller. Which of the
 /// histories it is that the scripts may have depends on the threads. It may wait for them, and its contract holds if it returns.
 ///

@@ -135,10 +135,10 @@ fn run_workload<R: Threads + Sync, K: Sink>(
 /// or a limit; the replies of the lines before it are written. They are written before the source is read again, so that
 /// whoever waits for a reply gets it, and else once they have 65,536 bytes. The status is `Done` at the end of the source,
 /// `ReadFault` where a read fails, and `InputOver` beyond a limit; `WriteFault` where a write fails, and `NoMemory` for want of
-/// memory: what was written is then a beginning of the replies.
+/// memory: what was written is then a beginning of the replies, and at `WriteFault` not all of them.
 ///
 /// With a workload nothing is read: the lines of [`Workload`](workload::Workload) with four workers are done, and one line is
-/// written, the summary of what is replied to them. At `WriteFault` a beginning of that line was written, and at `NoMemory` nothing.
+/// written, the summary of what is replied to them. At `WriteFault` less than that line was written, and at `NoMemory` nothing.
 ///
 /// The runtime is for the threads that seek plans.
 pub fn run_session<R: Threads + Sync, S: Source, K: Sink>(

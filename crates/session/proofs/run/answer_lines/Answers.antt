@@ -3,7 +3,7 @@ use Rattle.plan_io.specs.LinesSeen.{LinesSeen}
 use Rattle.plan_io.specs.declared.lines.LineAnswer.TheVariants as answer
 use Rattle.plan_io.specs.Next.{IsNext}
 use Rattle.session.proofs.Going.{first_reader, going_first, going_due, going_line, later_read, later_written, next_line, few_done}
-use Rattle.session.proofs.Going.{gathered_none, gathered_read, gathered_line, cut_by_due, all_answered, no_line_left, on_err}
+use Rattle.session.proofs.Going.{gathered_none, gathered_read, gathered_line, broken_by_due, all_answered, no_line_left, on_err}
 use Rattle.session.proofs.run.answer_lines.Goals as goal
 
 pub loop-cache-init : goal.loop-cache-init
@@ -128,7 +128,7 @@ returns-in-WriteFault-clause-session g c =
     let old = c.loop-cache.replies.items in
     let now = c.write_due.new.replies.items in
     let was = c.loop-cache.invariant in
-    cut_by_due a b w x y r old now n s c.write_due.result c.in-WriteFault.is was.going c.write_due.ensures.bytes
+    broken_by_due a b w x y r old now n s c.write_due.result c.in-WriteFault.is was.going c.write_due.ensures.bytes
 
 pub returns-in_err-line-clause-gathered : goal.returns-in_err-line-clause-gathered
 returns-in_err-line-clause-gathered g c =

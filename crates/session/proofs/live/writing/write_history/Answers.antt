@@ -1,4 +1,4 @@
-use Rattle.session.proofs.Gathering.{answered, partly, partly_gathered}
+use Rattle.session.proofs.Gathering.{answered, broken_off, partly_gathered}
 use Rattle.session.proofs.live.writing.write_history.Goals as goal
 
 pub returns-in-Ok-Done-clause-told : goal.returns-in-Ok-Done-clause-told
@@ -9,7 +9,7 @@ returns-in-Ok-Done-clause-told g c =
 
 pub returns-in-Ok-WriteFault-clause-told : goal.returns-in-Ok-WriteFault-clause-told
 returns-in-Ok-WriteFault-clause-told g c =
-    partly c.args.book.now (g.K.Sink.written c.args.sink.now)
+    broken_off c.args.book.now (g.K.Sink.written c.args.sink.now)
     (g.K.Sink.written c.write_entries.new.sink) c.in-Ok-WriteFault.field-0 c.in-Ok-WriteFault.field-0-is c.recall.ensures.book
     c.recall.ensures.state c.requires c.in-Ok-WriteFault.ensures.told
 
