@@ -65,12 +65,12 @@ some_change es h = Any-from_list_any (λ (x : EventEntry). is_change x.reply) es
 -- ---- what is replied
 
 -- the three replies to a plan of a version
-abbrev Replied : StateSeen → ℕ → Reply → Type 0
+abbrev pub Replied : StateSeen → ℕ → Reply → Type 0
 Replied s v r =
     ((v < s.version) × (r ≡ Refused (Stale v s.version)))
     ⊎ ((v ≡ s.version) × (((count : ℕ) × (r ≡ Refused (TooManyStarts count)) × HasManyStarts s count) ⊎ PublishesCertified s r))
 
-replied : (s : StateSeen) (v : ℕ) (r : Reply) → IsPublication s v r → Replied s v r
+pub replied : (s : StateSeen) (v : ℕ) (r : Reply) → IsPublication s v r → Replied s v r
 replied s v (Refused (Stale asked newer)) h =
     inl (h.0, ap (λ (n : ℕ). Refused (Stale n newer)) h.1 ∙ ap (λ (n : ℕ). Refused (Stale v n)) h.2)
 replied s v (Refused (TooManyStarts count)) h = inr (h.0, inl (count, refl, h.1))
@@ -83,10 +83,10 @@ one_snapshot s a b h g =
     let same : h.0 ≡ g.0 = cc in
     h.2 ∙ ap (snapshot_of s.version) same ∙ sym g.2
 
-one_count : (s : StateSeen) (m n : ℕ) → HasManyStarts s m → HasManyStarts s n → m ≡ n
+pub one_count : (s : StateSeen) (m n : ℕ) → HasManyStarts s m → HasManyStarts s n → m ≡ n
 one_count s m n h g = one_start_count h.0 m n h.2 (subst (λ (parts : Parts). IsStartCount parts n) (one_snapshot s g.0 h.0 g.1 h.1) g.2)
 
-not_both : (s : StateSeen) (n : ℕ) (r : Reply) → HasManyStarts s n → PublishesCertified s r → ⊥
+pub not_both : (s : StateSeen) (n : ℕ) (r : Reply) → HasManyStarts s n → PublishesCertified s r → ⊥
 not_both s n r h (claim, is, (parts, at, few, certified)) =
     let less = subst (λ (p : Parts). HasFewStarts p) (one_snapshot s parts h.0 at h.1) few in
     let same : n ≡ less.0 = one_start_count h.0 n less.0 h.2 less.1 in

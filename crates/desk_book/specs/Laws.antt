@@ -10,7 +10,7 @@ use Rattle.desk_events.specs.declared.fault.CommandFault.{CommandFault}
 use Rattle.desk_events.specs.declared.reply.Reply.{Reply}
 use Rattle.desk_events.specs.declared.reply.Reply.TheVariants as reply
 use Rattle.desk_events.specs.Entry.{text_of_history}
-use Rattle.desk_events.specs.Laws.{IsTelling}
+use Rattle.desk_events.specs.Laws.{IsWritableEntry}
 use Rattle.desk_core.specs.Desk.{StateSeen, start}
 use Rattle.desk_core.specs.Step.{IsStep}
 use Rattle.desk_core.specs.History.{read_at, after_publish, replay, IsLineReply, IsLegal, IsWhole}
@@ -59,12 +59,12 @@ VersionsCount =
 
 -- ---- texts
 
--- legal histories of the same scripts with one text are the same, where each entry can be written and a document that it shows can be
--- read
+-- Legal histories of the same scripts with one text are the same, where each entry of one of them can be written. Of the other nothing
+-- more is asked: so no legal history has the text of one that is written, but that one.
 abbrev pub TextTellsHistory : Type 0
 TextTellsHistory =
     (scripts : List (List ScriptLine)) (history other : List EventEntry)
-    → IsLegal scripts history → IsLegal scripts other → AllByRecursion IsTelling history → AllByRecursion IsTelling other
+    → IsLegal scripts history → IsLegal scripts other → AllByRecursion IsWritableEntry history
     → text_of_history history ≡ text_of_history other → history ≡ other
 
 -- ---- states

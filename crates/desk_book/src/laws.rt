@@ -20,8 +20,7 @@ pub fn plans_are_stale_by_changes()
     ensures { PlansAreStaleByChanges }
 {}
 
-/// The law: legal histories of the same scripts that have one text are the same, where each entry can be written and a document
-/// that it shows can be read.
+/// The law: legal histories of the same scripts that have one text are the same, where each entry of one of them can be written.
 pub fn text_tells_history()
     ensures { TextTellsHistory }
 {}
@@ -37,7 +36,7 @@ pub fn over_is_whole()
 {}
 
 /// The law: where the lines of a legal history are sent again, with the claim of each published plan in place of the plan, they have the
-/// replies that they had, and leave the state that there was.
+/// replies that they had, and leave the state that there was; nothing stands in place of a Take, nor of a plan that was refused.
 pub fn histories_are_made_again()
     ensures { HistoriesAreMadeAgain }
 {}

@@ -18,7 +18,7 @@ use Rattle.desk_events.specs.declared.refusal.Refusal.TheVariants.{NotRunning, U
 use Rattle.desk_events.specs.declared.reply.Reply.{Reply}
 use Rattle.desk_events.specs.declared.reply.Reply.TheVariants as reply
 use Rattle.desk_events.specs.Entry.{text_of_history}
-use Rattle.desk_events.specs.Laws.{ShowsGroup, IsTelling}
+use Rattle.desk_events.specs.Laws.{ShowsGroup, IsWritableEntry, IsTelling}
 use Rattle.desk_core.specs.Publication.{PublicationSeen}
 use Rattle.desk_core.specs.declared.desk.Submitted.{Submitted}
 use Rattle.desk_core.specs.declared.desk.Wanted.{Wanted}
@@ -133,8 +133,12 @@ same_after : (held xs ys : List ℕ) → held ++ xs ≡ held ++ ys → xs ≡ ys
 same_after [] xs ys h = h
 same_after (b ∷ held) xs ys h = same_after held xs ys (ap (drop 1) h)
 
+writable_each : (es : List EventEntry) → AllByRecursion IsTelling es → AllByRecursion IsWritableEntry es
+writable_each [] h = tt
+writable_each (e ∷ es) h = (h.0.writable, writable_each es h.1)
+
 -- of the same scripts, what is written tells what was done
 pub text_has_one : TextHasOneHistory
-text_has_one scripts held now a b =
-    text_tells_history scripts a.history b.history a.sound.legal b.sound.legal a.telling b.telling
-    (same_after held (text_of_history a.history) (text_of_history b.history) (sym a.written ∙ b.written))
+text_has_one scripts held now answered other legal is =
+    text_tells_history scripts answered.history other answered.sound.legal legal (writable_each answered.history answered.telling)
+    (same_after held (text_of_history answered.history) (text_of_history other) (sym answered.written ∙ is))

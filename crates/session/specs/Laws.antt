@@ -17,7 +17,7 @@ use Rattle.desk_events.specs.declared.entry.What.TheVariants.{Publish}
 use Rattle.desk_events.specs.declared.refusal.Refusal.TheVariants.{TooManyStarts}
 use Rattle.desk_events.specs.declared.reply.Reply.{Reply}
 use Rattle.desk_events.specs.declared.reply.Reply.TheVariants.{Published, Exported, Refused}
-use Rattle.desk_events.specs.Entry.{text_of_entry}
+use Rattle.desk_events.specs.Entry.{text_of_entry, text_of_history}
 use Rattle.desk_events.specs.Laws.{IsWritableEntry}
 use Rattle.desk_events.specs.Line.{command_of_line}
 use Rattle.desk_core.specs.Desk.{StateSeen}
@@ -27,10 +27,12 @@ use Rattle.session.specs.declared.summary.Summary.{Summary}
 use Rattle.session.specs.Session.{IsSound, IsAnswered}
 use Rattle.session.specs.Summary.{summary_of, IsSummary, IsWorkloadRun}
 
--- what is written of scripts tells what was done: two sessions of the same scripts that write the same had one history
+-- What is written of scripts tells what was done: no other legal history of the scripts has the text that a session writes of them. So two
+-- sessions of the same scripts that write the same had one history.
 abbrev pub TextHasOneHistory : Type 0
 TextHasOneHistory =
-    (scripts : List (List ScriptLine)) (held now : List ℕ) (a b : IsAnswered scripts (Some held) (Some now)) → a.history ≡ b.history
+    (scripts : List (List ScriptLine)) (held now : List ℕ) (answered : IsAnswered scripts (Some held) (Some now)) (other : List EventEntry)
+    → IsLegal scripts other → now ≡ held ++ text_of_history other → answered.history ≡ other
 
 -- ---- plans
 

@@ -2,7 +2,8 @@
 ghost use Rattle.session.specs.Laws.{TextHasOneHistory, PlansArePublished, ExportsAreChecked, LinesHaveOneSummary, NumberHasOneSummary, RunsWriteOneLine};
 ghost use Rattle.session.specs.Published.{ExportsAreLast, ExportLinesAreAnswered};
 
-/// A law: what a session writes of its callers' lines tells the history that it is the text of.
+/// A law: what a session writes of its callers' lines tells the history that it is the text of: no other legal history of the same lines
+/// has that text.
 pub fn one_history()
     ensures { TextHasOneHistory }
 {}
