@@ -153,7 +153,7 @@ onto_more (suc k) n xs =
     let rest : length (digit_glyph false (n % 10) ∷ xs) ≤ length (digits_onto k 10 false (n / 10) (digit_glyph false (n % 10) ∷ xs)) =
     onto_more k (n / 10) (digit_glyph false (n % 10) ∷ xs) in
     elim (n / 10 == 0) as (λ b. length xs
-        ≤ length (cond b (digit_glyph false (n % 10) ∷ xs) (digits_onto k 10 false (n / 10) (digit_glyph false (n % 10) ∷ xs)))) [
+    ≤ length (cond b (digit_glyph false (n % 10) ∷ xs) (digits_onto k 10 false (n / 10) (digit_glyph false (n % 10) ∷ xs)))) [
       | true ↦ omega arith
       | false ↦ omega (arith, rest)
     ]
@@ -166,7 +166,7 @@ decimal_some n none =
     onto_more 63 (n / 10) (digit_glyph false (n % 10) ∷ []) in
     let some : 1 ≤ length (decimal n) =
     elim (n / 10 == 0) as (λ b. 1
-        ≤ length (cond b (digit_glyph false (n % 10) ∷ []) (digits_onto 63 10 false (n / 10) (digit_glyph false (n % 10) ∷ [])))) [
+    ≤ length (cond b (digit_glyph false (n % 10) ∷ []) (digits_onto 63 10 false (n / 10) (digit_glyph false (n % 10) ∷ [])))) [
       | true ↦ omega arith
       | false ↦ rest
     ] in
