@@ -27,11 +27,12 @@ class Row:
 
 @dataclass(frozen=True)
 class Bar:
-    """A request on a telescope's row, its proposal if it is known, and whether it is running."""
+    """A request on a telescope's row, its group and its proposal if they are known, and whether it is running."""
 
     row: int
     span: Span
     request: int
+    group: int | None
     proposal: str | None
     running: bool = False
 
@@ -127,7 +128,17 @@ def _placed(story: Story, snapshot: Snapshot, placement: Placement) -> list[Bar]
     if number in story.running:
         # A later plan that wasn't exported may have it elsewhere.
         return _running(story, snapshot, number, own.seconds)
-    return [Bar(placement.telescope, snapshot.span_of(own, placement.slice), number, story.proposal_of(number))]
+    span = snapshot.span_of(own, placement.slice)
+    return [Bar(placement.telescope, span, number, _group_of(story, snapshot, number), story.proposal_of(number))]
+
+
+def _group_of(story: Story, snapshot: Snapshot, request: int) -> int | None:
+    """The number of a request's group: the snapshot has those of what it may place, the story those of what it tells of."""
+    place = snapshot.places.get(request)
+    if place is not None:
+        return snapshot.groups[snapshot.group_places[place]].number
+    owner = story.owners.get(request)
+    return owner.group if owner else None
 
 
 def _row(story: Story, snapshot: Snapshot, number: int) -> Row:
@@ -154,7 +165,8 @@ def _running(story: Story, snapshot: Snapshot, request: int, seconds: int | None
         return []
     start = placement.slice * snapshot.slice_seconds
     span = Span(start, start + seconds)
-    return [Bar(placement.telescope, span, request, story.proposal_of(request), running=True)]
+    group = _group_of(story, snapshot, request)
+    return [Bar(placement.telescope, span, request, group, story.proposal_of(request), running=True)]
 
 
 def _planned(story: Story) -> Counter[Key]:

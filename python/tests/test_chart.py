@@ -62,8 +62,8 @@ def test_a_history_with_its_script_tells_names_nights_and_what_runs(history: His
         Row("coj domb 1m0a", (Span(600, 3600),), (Span(600, 3600),), ()),
     )
     assert view.bars == (
-        Bar(0, Span(300, 600), 2, "P2", running=True),
-        Bar(0, Span(600, 900), 3, "P2"),
+        Bar(0, Span(300, 600), 2, 2, "P2", running=True),
+        Bar(0, Span(600, 900), 3, 3, "P2"),
     )
     assert (view.horizon, view.now, view.proposals) == (Span(300, 4200), 350, ("P1", "P2"))
 
@@ -72,7 +72,7 @@ def test_an_output_alone_tells_numbers(history: History) -> None:
     story = story_of(read_history(history.output()))
     view = plan_view(story)
     assert [row.name for row in view.rows] == ["telescope 0, site 0", "telescope 1, site 0"]
-    assert view.bars == (Bar(0, Span(600, 900), 3, None),)
+    assert view.bars == (Bar(0, Span(600, 900), 3, 3, None),)
     assert story.notes == ["request 2 is running, and how long isn't known without the lines that were sent"]
 
 
@@ -122,7 +122,7 @@ def test_closures_are_known_with_the_script(netsched: list[str]) -> None:
 
 def test_an_export_alone_is_a_view() -> None:
     view = plan_view(story_of(read_history(REPLIES[-1])))
-    assert view.bars == (Bar(0, Span(0, 300), 1, None),)
+    assert view.bars == (Bar(0, Span(0, 300), 1, 1, None),)
     assert (view.claim.value, view.version) == (50_000, 7)
 
 
@@ -157,7 +157,7 @@ def test_a_plan_of_what_the_snapshot_does_not_have_is_told() -> None:
 def test_what_runs_is_where_a_later_plan_has_it() -> None:
     story = Story(exported=exported(snapshot(single(1)), (Placement(1, 0, 4),), 50_000))
     story.running[1] = Placement(1, 0, 2)
-    assert plan_view(story).bars == (Bar(0, Span(600, 900), 1, None, running=True),)
+    assert plan_view(story).bars == (Bar(0, Span(600, 900), 1, 1, None, running=True),)
 
 
 def test_what_runs_on_a_telescope_that_the_export_does_not_have_is_told() -> None:

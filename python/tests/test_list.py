@@ -35,7 +35,7 @@ def test_list_prints_a_plan_in_moments_and_names(run) -> None:
 
 def test_list_of_an_export_alone_has_no_names(run) -> None:
     ran = run("list", "export.json", files={"export.json": REPLIES[-1]})
-    row = "1970-01-01T00:00:00Z\t1970-01-01T00:05:00Z\ttelescope 0, site 0\t1\t\t\t\n"
+    row = "1970-01-01T00:00:00Z\t1970-01-01T00:05:00Z\ttelescope 0, site 0\t1\t1\t\t\n"
     assert (ran.status, ran.out, ran.err) == (0, row, "")
 
 

@@ -30,9 +30,8 @@ def run_list(options: argparse.Namespace) -> int:
     story = read_story(options)
     view = plan_view(story)
     for bar in sorted(view.bars, key=lambda bar: (bar.span, bar.row)):
-        owner = story.owners.get(bar.request)
-        group, proposal = (str(owner.group), owner.proposal) if owner else ("", "")
-        names = [view.rows[bar.row].name, str(bar.request), group, proposal, "running" if bar.running else ""]
+        group = "" if bar.group is None else str(bar.group)
+        names = [view.rows[bar.row].name, str(bar.request), group, bar.proposal or "", "running" if bar.running else ""]
         put("\t".join([text_of(bar.span.start), text_of(bar.span.end), *map(_cell, names)]))
     for note in dict.fromkeys(story.notes):
         tell(note)
