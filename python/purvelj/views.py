@@ -133,7 +133,7 @@ def _placed(story: Story, snapshot: Snapshot, placement: Placement) -> list[Bar]
 
 
 def _group_of(story: Story, snapshot: Snapshot, request: int) -> int | None:
-    """The number of a request's group: the snapshot has those of what it may place, the story those of what it tells of."""
+    """The number of a request's group, if the snapshot or the story has it."""
     place = snapshot.places.get(request)
     if place is not None:
         return snapshot.groups[snapshot.group_places[place]].number

@@ -46,7 +46,8 @@ def test_portal_tells_of_a_name_for_two_places_in_the_sky(run) -> None:
 
 
 def test_portal_keeps_what_it_reads(run) -> None:
-    ran = run("portal", "m51.json", "--priority", "1", "--targets", "./m51.json", files={"m51.json": json.loads(DOCUMENT)})
+    files = {"m51.json": json.loads(DOCUMENT)}
+    ran = run("portal", "m51.json", "--priority", "1", "--targets", "./m51.json", files=files)
     assert (ran.status, ran.out) == (2, "")
     assert "--targets names ./m51.json, which is read: the targets are written there" in ran.err
     assert run("portal", "m51.json", "--priority", "1").status == 0
