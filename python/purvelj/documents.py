@@ -6,6 +6,7 @@ import json
 import sys
 from contextlib import contextmanager
 from decimal import Decimal
+from math import isfinite
 from pathlib import Path
 from typing import Any, Callable, Iterator, Mapping, Sequence, TypeVar
 
@@ -20,12 +21,14 @@ def compact(value: object) -> str:
 
 
 def parse(text: str, source: str) -> Any:
-    """The value that a JSON text holds; numbers with a fraction or an exponent become ``Decimal``.
+    """The value that a JSON text holds; numbers with a fraction or an exponent, and ``-0``, become ``Decimal``.
 
     ``source`` names the text in the ``FileError`` that is raised where it is no JSON.
     """
+    # Most texts have no -0, and json reads them faster by itself.
+    whole_number = _whole_number if "-0" in text else None
     try:
-        return json.loads(text, parse_float=_decimal, parse_constant=_refuse_constant)
+        return json.loads(text, parse_float=_decimal, parse_int=whole_number, parse_constant=_refuse_constant)
     except RecursionError:
         raise FileError(f"{source}: not JSON that can be read: it is nested too deeply") from None
     except ValueError as fault:
@@ -241,7 +244,15 @@ def _decimal(word: str) -> Decimal:
     try:
         return Decimal(word)
     except ArithmeticError:
-        raise ValueError(f"{word} has an exponent that can't be read") from None
+        # Its exponent is beyond those of a Decimal. A desk reads it as 0 where it is so small, and else as no JSON.
+        if not isfinite(float(word)):
+            raise ValueError(f"{word} has an exponent that can't be read") from None
+        return Decimal("0.0")
+
+
+def _whole_number(word: str) -> int | Decimal:
+    """A desk takes ``-0`` for no whole number."""
+    return Decimal(word) if word == "-0" else int(word)
 
 
 def _refuse_constant(word: str) -> Any:

@@ -16,6 +16,9 @@ from purvelj.history import Exchange, history_of
 from purvelj.lines import publish_line
 from purvelj.replies import Published, is_taken, read_reply
 
+#: How many callers a desk may have, which are numbered from 0.
+MOST_CALLERS = 8
+
 
 @dataclass(frozen=True)
 class Stopped:
@@ -68,8 +71,10 @@ def line_again(exchange: Exchange) -> str:
     if not is_plan(exchange) or not isinstance(exchange.reply, Published):
         return exchange.line
     line = publish_line(exchange.reply.version, exchange.reply.claim)
-    command = exchange.command
-    return compact({**line, "caller": command["caller"]} if "caller" in command else line)
+    caller = exchange.command.get("caller")
+    # A session of one caller doesn't look at the member, so it may be anything there.
+    is_caller = type(caller) is int and caller in range(MOST_CALLERS)
+    return compact({**line, "caller": caller} if is_caller else line)
 
 
 def output_again(exchange: Exchange) -> tuple[str, ...]:
@@ -89,3 +94,6 @@ def _test(exchange: Exchange, place: int, source: str) -> None:
         raise DocumentError(source, f"it replies to line {place} with a plan, which that line doesn't ask for")
     if not exchange.fits:
         raise DocumentError(source, f"it replies to line {place} as to another line than the script has there")
+    if not taken[0] and isinstance(exchange.reply, Published) and exchange.command.get("do") == "plan":
+        text = f"it publishes the plan of line {place} without a reply that it was taken, as where a claim is sent"
+        raise DocumentError(source, text)

@@ -113,6 +113,14 @@ def test_the_caller_of_a_plan_is_kept() -> None:
     assert line_again(exchange) == f'{{"caller":3,"claim":{CLAIM},"do":"publish","version":7}}'
 
 
+@pytest.mark.parametrize("caller", ["0.5", "-0", "1e-99999999999999999999", "8", "true", '"x"', "[0]"])
+def test_a_caller_that_a_session_does_not_look_at_is_left_out(resume, caller: str) -> None:
+    lines = [*LINES[:7], f'{{"caller":{caller},"do":"plan"}}', LINES[8]]
+    status, again, told = resume(joined(REPLIES), joined(lines))
+    assert (status, again) == (0, [*LINES[:7], PUBLISH, LINES[8]])
+    assert told == ["lines that were done: 9, published plans among them: 1"]
+
+
 @pytest.mark.parametrize(
     "replies, lines, message",
     [
@@ -123,6 +131,7 @@ def test_the_caller_of_a_plan_is_kept() -> None:
         (REPLIES[:3], LINES[:2] + LINES[3:], "output: it replies to line 3 as to another line than the script has"),
         (REPLIES[:8] + REPLIES[9:], LINES, "output: it has other replies to line 8 than a session writes"),
         (REPLIES[:2] + REPLIES[1:], LINES, "output: it has other replies to line 2 than a session writes"),
+        (REPLIES[:7] + REPLIES[8:], LINES, "output: it publishes the plan of line 8 without a reply that it was taken"),
         ([REPLIES[0], REPLIES[1].replace('"caller":0', '"caller":1')], LINES, "output: it has the replies to several"),
     ],
 )
