@@ -284,7 +284,7 @@ def _seconds_to(deadline: float | None) -> float | None:
 
 def _ending(exit_status: int) -> str:
     if exit_status < 0:
-        return f"was ended by {signal.Signals(-exit_status).name}"
+        return f"was ended by {_signal_name(-exit_status)}"
     words = {
         1: "the words of its command line are others than it knows",
         2: "reading its input failed",
@@ -294,3 +294,11 @@ def _ending(exit_status: int) -> str:
         126: "it could be neither found nor built",
     }
     return f"ended with status {exit_status}" + (f" ({words[exit_status]})" if exit_status in words else "")
+
+
+def _signal_name(number: int) -> str:
+    """A signal's name; of those for real time only the first and the last have one."""
+    try:
+        return signal.Signals(number).name
+    except ValueError:
+        return f"signal {number}"

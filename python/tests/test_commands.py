@@ -173,6 +173,7 @@ FILES = {
     "half.json": f'{{"snapshot":{SNAPSHOT}}}',
     "odd.json": EXPORT.replace('"seconds":300', '"seconds":0'),
     "float.json": EXPORT.replace('"seconds":300', '"seconds":300.0'),
+    "minus.json": EXPORT.replace('"first":0', '"first":-0'),
     "order.json": EXPORT.replace('"usable":[[0,3600]]', '"usable":[[0,1800],[1800,3600]]'),
     "late.json": EXPORT.replace('"first":0', '"first":844674335').replace('"slices":12', '"slices":1440'),
     "wrong.json": EXPORT.replace('"bound":50000', '"bound":50001'),
@@ -277,6 +278,7 @@ BAD = [
     (("tighten", "half.json"), 4, "half.json: claim: is missing"),
     (("tighten", "odd.json"), 4, "odd.json: snapshot.groups[0].requests[0].seconds: 0 is out of 1 to 86400"),
     (("tighten", "float.json"), 4, "float.json: snapshot.groups[0].requests[0].seconds: 300.0 isn't written as a"),
+    (("check", "minus.json"), 4, "minus.json: snapshot.first: -0 isn't written as a whole number"),
     (
         ("tighten", "order.json"),
         4,

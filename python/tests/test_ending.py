@@ -38,9 +38,10 @@ def test_a_program_that_ends_is_told_with_its_status() -> None:
         assert desk.close() == 4
 
 
-def test_a_program_that_was_killed_is_told() -> None:
-    with Desk(program("import os; os.kill(os.getpid(), 9)"), timeout=60) as desk:
-        with pytest.raises(DeskEnded, match="SIGKILL"):
+@pytest.mark.parametrize("number, name", [(9, "SIGKILL"), (36, "signal 36")])
+def test_a_program_that_was_killed_is_told(number: int, name: str) -> None:
+    with Desk(program(f"import os; os.kill(os.getpid(), {number})"), timeout=60) as desk:
+        with pytest.raises(DeskEnded, match=f"was ended by {name} before"):
             desk.plan()
 
 
