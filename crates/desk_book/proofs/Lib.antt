@@ -15,9 +15,6 @@ pub mod Replays
 pub mod Versions
 pub mod OwnTakes
 pub mod StalePlans
-pub mod Cuts
-pub mod NamedMembers
-pub mod ClaimTexts
 pub mod Texts
 pub mod Fields
 pub mod Whole

@@ -12,7 +12,10 @@ use Rattle.plan_io.specs.declared.lines.ScriptLine.{ScriptLine}
 use Rattle.plan_json.specs.Adds.{text_of}
 use Rattle.plan_json.specs.Exact.{IsExact}
 use Rattle.plan_json.specs.Values.{Named, has, whole, with_named, in_byte_order}
+use Rattle.plan_json.proofs.Cuts.{one_line, same_at_name}
+use Rattle.plan_json.proofs.NamedMembers.{is_there, is_past, exact_at, one_number}
 use Rattle.plan_doc.specs.Written.{claim_data}
+use Rattle.plan_doc.proofs.ClaimTexts.{one_claim}
 use Rattle.desk_events.specs.declared.entry.EventEntry.{EventEntry}
 use Rattle.desk_events.specs.declared.entry.What.{What}
 use Rattle.desk_events.specs.declared.entry.What.TheVariants.{Line, Take, Publish}
@@ -27,9 +30,6 @@ use Rattle.desk_core.specs.History.{IsLineReply, IsPublication}
 use Rattle.desk_core.specs.Desk.{StateSeen}
 use Rattle.desk_core.specs.History.{IsEntry, IsLegal}
 use Rattle.desk_book.specs.Laws.{TextTellsHistory}
-use Rattle.desk_book.proofs.ClaimTexts.{one_claim}
-use Rattle.desk_book.proofs.Cuts.{one_line, same_at_name}
-use Rattle.desk_book.proofs.NamedMembers.{is_there, is_past, exact_at, one_number}
 use Rattle.desk_book.proofs.OneReply.{one_reply}
 use Rattle.desk_book.proofs.StalePlans.{Replied, replied, one_count, not_both}
 use Rattle.desk_book.proofs.Turns.{answers_more}

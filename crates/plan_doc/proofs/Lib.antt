@@ -6,3 +6,4 @@ pub mod BackSnapshot
 pub mod Inverse
 pub mod Distinct
 pub mod Certified
+pub mod ClaimTexts

@@ -15,3 +15,6 @@ pub mod OneLine
 pub mod Ranges
 pub mod Back
 pub mod Digits
+pub mod Decimals
+pub mod Cuts
+pub mod NamedMembers

@@ -8,7 +8,8 @@ use Rattle.serde_json.specs.Find.{get, get_member}
 use Rattle.serde_json.specs.Written.{compact_text}
 use Rattle.plan_json.specs.Exact.{IsExact, AreExactMembers}
 use Rattle.plan_json.specs.Values.{Named, has, whole, those_there, with_named}
-use Rattle.desk_book.proofs.Cuts.{same_at_name, same_number}
+use Rattle.plan_json.proofs.Decimals.{same_number}
+use Rattle.plan_json.proofs.Cuts.{same_at_name}
 
 -- ---- members that are named in any order
 

@@ -6,8 +6,9 @@ use Rattle.plan_base.specs.declared.claim.Placement.{Placement}
 use Rattle.plan_base.specs.declared.claim.Claim.{Claim}
 use Rattle.plan_json.specs.Exact.{IsExact}
 use Rattle.plan_json.specs.Values.{whole, integer}
+use Rattle.plan_json.proofs.Decimals.{IsDigit, decimal_digits, decimal_some, same_number}
+use Rattle.plan_json.proofs.Cuts.{IsTold, HaveSame, same_list, have_same}
 use Rattle.plan_doc.specs.Written.{placement_data, claim_data}
-use Rattle.desk_book.proofs.Cuts.{IsDigit, IsTold, HaveSame, decimal_digits, decimal_some, same_number, same_list, have_same}
 
 -- ---- numbers
 
