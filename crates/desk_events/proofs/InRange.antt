@@ -1,8 +1,7 @@
 -- A command that was read lies in its ranges.
-use Rattle.std.proofs.Common.{◌≡◌, ℕ, ◌≤◌, List, [], ◌∷◌, length, All, Option, Some, IfSome, nat_lt, is_some, Result, Ok, Err, IfOk, refl, sym, subst, ltb-true}
-use Rattle.std.specs.Prelude.{⊤, ok_or, option_and_then}
-use Rattle.serde_json.specs.Find.{get_member}
-use Rattle.serde_json.specs.Data.{Data, null, boolean, number, string, array, object, Members, no_members, member}
+use Rattle.std.proofs.Common.{◌≡◌, ℕ, List, [], ◌∷◌, length, Some, IfSome, nat_lt, is_some, Result, Ok, Err, IfOk, refl, subst, ltb-true}
+use Rattle.std.specs.Prelude.{ok_or}
+use Rattle.serde_json.specs.Data.{Data, Members}
 use Rattle.plan_base.specs.declared.number.Sec.{Sec}
 use Rattle.plan_base.specs.declared.span.Span.{Span}
 use Rattle.plan_io.specs.declared.lines.ScriptLine.{ScriptLine}
@@ -11,17 +10,16 @@ use Rattle.plan_json.specs.declared.member.Member.{Member}
 use Rattle.plan_json.specs.declared.member.Member.TheVariants as key
 use Rattle.plan_json.specs.declared.fault.JsonFault.{JsonFault}
 use Rattle.plan_json.specs.declared.fault.JsonFault.TheVariants.{Missing, OutOfRange}
-use Rattle.plan_json.specs.List.{elements_in, list_in}
-use Rattle.plan_json.specs.Member.{name_of}
-use Rattle.plan_json.specs.Moment.{moment_in, last_moment}
-use Rattle.plan_json.specs.Object.{unless_null, value_of, member_of, if_there, object_in, document_of}
+use Rattle.plan_json.specs.List.{elements_in}
+use Rattle.plan_json.specs.Moment.{moment_in}
+use Rattle.plan_json.specs.Object.{value_of, member_of, if_there, object_in, document_of}
 use Rattle.plan_json.specs.Ranges.{IsBetween, IsText}
-use Rattle.plan_json.specs.Reading.{result_and_then, result_map, read_each}
-use Rattle.plan_json.specs.Span.{span_between, span_of_pair, span_of_elements, span_in, spans_in}
+use Rattle.plan_json.specs.Reading.{result_and_then}
+use Rattle.plan_json.specs.Span.{span_between, span_of_pair, span_of_elements, span_in, spans_of}
 use Rattle.plan_json.specs.Text.{text_in}
 use Rattle.plan_json.specs.Whole.{number_in}
 use Rattle.plan_json.proofs.Ranges.{Gives, any, weaker, either, if_test, after, made, moment_early, number_member, text_member, moment_member}
-use Rattle.plan_json.proofs.Ranges.{list_member, each}
+use Rattle.plan_json.proofs.Ranges.{text_short, each_member}
 use Rattle.request_model.specs.declared.fault.GroupFault.{GroupFault}
 use Rattle.request_model.specs.declared.group.GroupDoc.{GroupDoc}
 use Rattle.request_model.specs.Fault.{in_group}
@@ -31,12 +29,11 @@ use Rattle.request_model.proofs.InRange.{groups_are_in_range}
 use Rattle.allocations.specs.declared.key.Account.{Account}
 use Rattle.allocations.specs.declared.key.Account.TheVariants as account
 use Rattle.desk_events.specs.declared.command.Command.{Command}
-use Rattle.desk_events.specs.declared.fault.CommandFault.{CommandFault}
 use Rattle.desk_events.specs.declared.read.verb.Verb.{Verb}
 use Rattle.desk_events.specs.declared.read.verb.Verb.TheVariants as verb
 use Rattle.desk_events.specs.Fault.{in_line, group_in_line}
 use Rattle.desk_events.specs.Account.{account_of, account_instrument_of, key_of}
-use Rattle.desk_events.specs.Commands.{open_of, instrument_of, telescope_of, night_of, visibility_of, telescope_scope_of, site_scope_of, scope_of}
+use Rattle.desk_events.specs.Commands.{open_of, instrument_of, telescope_of, night_of, visibility_of, telescope_scope_of, scope_of}
 use Rattle.desk_events.specs.Commands.{close_of, reopen_of}
 use Rattle.desk_events.specs.Commands.{grant_of, document_in, submit_of, group_number_of, amend_of, withdraw_of, clock_of, report_of, publish_of, show_of}
 use Rattle.desk_events.specs.Line.{verb_of, command_of, command_in, command_of_bytes, command_of_line}
@@ -44,8 +41,8 @@ use Rattle.plan_base.specs.declared.claim.Claim.{Claim}
 use Rattle.plan_doc.specs.Claim.{claim_of}
 use Rattle.plan_doc.specs.Ranges.{IsClaim}
 use Rattle.plan_doc.proofs.InRange.{claims_are_in_range}
-use Rattle.desk_events.specs.Ranges.{IsOpening, IsInstrument, IsTelescope, AreSpans, IsNight, IsSky, IsScope, IsClosure, IsInstrumentOf, IsKey}
-use Rattle.desk_events.specs.Ranges.{IsGrant, IsReport, IsPublication, IsCommand}
+use Rattle.desk_events.specs.Ranges.{IsInstrument, AreSpans, IsScope, IsInstrumentOf, IsKey}
+use Rattle.desk_events.specs.Ranges.{IsCommand}
 
 -- what was read, its fault being another's
 read : {T : Type 0} {P : T → Type 0} {r : Result T JsonFault} → Gives r P → Gives (in_line r) P
@@ -76,18 +73,8 @@ span_there m d = after (span_of_elements m) (any (elements_in m d)) (λ ds _. el
 semester_there : (ms : Members) → Gives (member_of span_in ms key.Semester) IsWindow
 semester_there ms = after (span_in key.Semester) (any (ok_or (value_of ms key.Semester) (Missing key.Semester))) (λ d _. span_there key.Semester d)
 
--- a reading of what was read of what was read
-regrouped : {A B C E : Type 0} {P : C → Type 0} (f : B → Result C E) (g : A → Result B E) (r : Result A E)
-    → Gives (result_and_then f (result_and_then g r)) P → Gives (result_and_then (λ x. result_and_then f (g x)) r) P
-regrouped f g (Ok x) h = h
-regrouped f g (Err e) h = record { ok = tt }
-
-spans_found : (ms : Members) → Gives (member_of spans_in ms key.Spans) AreSpans
-spans_found ms =
-    regrouped (read_each (span_in key.Spans)) (list_in key.Spans 0 512) (ok_or (value_of ms key.Spans) (Missing key.Spans))
-    (after (read_each (span_in key.Spans)) (list_member 0 512 ms key.Spans) (λ ds few.
-    weaker (each IsWindow (span_in key.Spans) (span_there key.Spans) ds)
-    (λ ws are. record { count = subst (λ n. n ≤ 512) (sym are.count) few.high; each = are.all })))
+spans_found : (ms : Members) → Gives (spans_of ms key.Spans) AreSpans
+spans_found ms = weaker (each_member IsWindow span_in span_there 0 512 ms key.Spans) (λ ws are. record { count = are.count.high; each = are.each })
 
 -- ---- the desk
 
@@ -142,33 +129,23 @@ instrument_there ms =
       ok = record { type = is_name; first = is_front.high; each_configuration = is_config.high; each_exposure = is_readout.high; each_length = is_change.high };
     })))))
 
--- the text of an element is as long as that of a member
-text_early : (d : Data) → Gives (text_in key.Instruments d) IsText
-text_early null = record { ok = tt }
-text_early (boolean b) = record { ok = tt }
-text_early (number n) = record { ok = tt }
-text_early (string s) = text_member (member (name_of key.Instruments) (string s) no_members) key.Instruments
-text_early (array ds) = record { ok = tt }
-text_early (object ms) = record { ok = tt }
-
 telescope_there : (ms : Members) → Gives (telescope_of ms) IsCommand
 telescope_there ms =
     after _ (text_member ms key.Site) (λ site is_site.
     after _ (text_member ms key.Enclosure) (λ enclosure is_enclosure.
     after _ (text_member ms key.Telescope) (λ telescope is_telescope.
     after _ (text_member ms key.Class) (λ class is_class.
-    after _ (list_member 1 16 ms key.Instruments) (λ ds few.
-    after _ (each IsText (text_in key.Instruments) text_early ds) (λ instruments are.
+    after _ (each_member IsText text_in text_short 1 16 ms key.Instruments) (λ instruments are.
     record {
       ok = record {
         at_site = is_site;
         in_enclosure = is_enclosure;
         code = is_telescope;
         of_class = is_class;
-        count = subst (IsBetween 1 16) (sym are.count) few;
-        types = are.all;
+        count = are.count;
+        types = are.each;
       };
-    }))))))
+    })))))
 
 night_there : (ms : Members) → Gives (night_of ms) IsCommand
 night_there ms =

@@ -5,11 +5,11 @@ use Rattle.serde_json.specs.Data.{Members}
 use Rattle.plan_base.specs.declared.number.GroupNo.{GroupNo}
 use Rattle.plan_json.specs.declared.member.Member.TheVariants as member
 use Rattle.plan_json.specs.declared.fault.JsonFault.{JsonFault}
-use Rattle.plan_json.specs.List.{list_in}
 use Rattle.plan_json.specs.Moment.{moment_in}
+use Rattle.plan_json.specs.Elements.{each_of}
 use Rattle.plan_json.specs.Object.{value_of, member_of, if_there, object_in}
-use Rattle.plan_json.specs.Reading.{◌>>=◌, read_each}
-use Rattle.plan_json.specs.Span.{span_in, spans_in}
+use Rattle.plan_json.specs.Reading.{◌>>=◌}
+use Rattle.plan_json.specs.Span.{span_in, spans_of}
 use Rattle.plan_json.specs.Text.{text_in}
 use Rattle.plan_json.specs.Whole.{number_in}
 use Rattle.request_model.specs.declared.group.GroupDoc.{GroupDoc}
@@ -53,15 +53,14 @@ telescope_of ms =
     member_of text_in ms member.Enclosure >>= λ enclosure.
     member_of text_in ms member.Telescope >>= λ telescope.
     member_of text_in ms member.Class >>= λ class.
-    member_of (λ m. list_in m 1 16) ms member.Instruments >>= λ ds.
-    read_each (text_in member.Instruments) ds >>= λ instruments.
+    each_of text_in 1 16 ms member.Instruments >>= λ instruments.
     Ok (command.Telescope site enclosure telescope class instruments)
 
 -- `site`, `spans`
 abbrev pub night_of : Members → Result Command JsonFault
 night_of ms =
     member_of text_in ms member.Site >>= λ site.
-    member_of spans_in ms member.Spans >>= λ spans.
+    spans_of ms member.Spans >>= λ spans.
     Ok (command.Night site spans)
 
 -- `target`, `site`, `spans`
@@ -69,7 +68,7 @@ abbrev pub visibility_of : Members → Result Command JsonFault
 visibility_of ms =
     member_of text_in ms member.Target >>= λ target.
     member_of text_in ms member.Site >>= λ site.
-    member_of spans_in ms member.Spans >>= λ spans.
+    spans_of ms member.Spans >>= λ spans.
     Ok (command.Visibility target site spans)
 
 -- `telescope`, `site`, `enclosure`
@@ -92,14 +91,14 @@ scope_of ms = if is_some (value_of ms member.Telescope) then telescope_scope_of 
 abbrev pub close_of : Members → Result Command JsonFault
 close_of ms =
     scope_of ms >>= λ scope.
-    member_of spans_in ms member.Spans >>= λ spans.
+    spans_of ms member.Spans >>= λ spans.
     Ok (command.Close scope spans)
 
 -- the telescope or the site that is reopened, then `spans`
 abbrev pub reopen_of : Members → Result Command JsonFault
 reopen_of ms =
     scope_of ms >>= λ scope.
-    member_of spans_in ms member.Spans >>= λ spans.
+    spans_of ms member.Spans >>= λ spans.
     Ok (command.Reopen scope spans)
 
 -- `proposal`, `account`, `instrument_type` unless the account is `ipp`, `seconds`

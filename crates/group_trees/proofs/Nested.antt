@@ -16,7 +16,7 @@ use Rattle.plan_json.specs.Object.{unless_null, value_of, member_of, object_in}
 use Rattle.plan_json.specs.List.{elements, list_in}
 use Rattle.plan_json.specs.Reading.{result_map, result_and_then, ◌>>=◌, read_each}
 use Rattle.plan_json.specs.Whole.{number_in}
-use Rattle.plan_doc.specs.Elements.{each_of}
+use Rattle.plan_json.specs.Elements.{each_of}
 use Rattle.group_trees.specs.declared.branch.Branch.{Branch}
 use Rattle.std.proofs.lemmas.Bool.Decides.{nat_tests}
 use Rattle.group_trees.specs.Trees.{Node, leaf, Nodes, and_then, nodes_of}

@@ -15,7 +15,7 @@ use Rattle.plan_json.specs.List.{elements}
 use Rattle.plan_json.specs.Operator.{operator_in}
 use Rattle.plan_json.specs.Reading.{result_map, ◌>>=◌}
 use Rattle.plan_json.specs.Whole.{number_in}
-use Rattle.plan_doc.specs.Elements.{each_of}
+use Rattle.plan_json.specs.Elements.{each_of}
 use Rattle.group_trees.specs.declared.branch.Branch.{Branch}
 use Rattle.group_trees.specs.declared.branch.Branch.TheVariants as branch
 use Rattle.group_trees.specs.Trees.{Node, leaf, many, one_of, all_of, Nodes, none, and_then, nodes_of}

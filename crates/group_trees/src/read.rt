@@ -5,7 +5,7 @@ ghost use Rattle.plan_json.specs.declared.fault.JsonFault.TheVariants.{NoMemory}
 ghost use Rattle.plan_json.specs.Reading.{result_and_then, read_each};
 ghost use Rattle.plan_json.specs.declared.member.Member.TheVariants as key;
 ghost use Rattle.plan_json.specs.Object.{object_in};
-ghost use Rattle.plan_doc.specs.Elements.{each_of};
+ghost use Rattle.plan_json.specs.Elements.{each_of};
 ghost use Rattle.plan_json.specs.Shown.{members_of, elements_of, element_of, named_by};
 ghost use Rattle.group_trees.specs.Trees.{seen, trees_seen};
 ghost use Rattle.group_trees.specs.Reading.{tree_in, tree_listed, trees_given};

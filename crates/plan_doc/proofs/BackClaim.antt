@@ -9,8 +9,8 @@ use Rattle.plan_json.specs.declared.fault.JsonFault.{JsonFault}
 use Rattle.plan_json.specs.Object.{value_of}
 use Rattle.plan_json.specs.Ranges.{IsBetween}
 use Rattle.plan_json.specs.Values.{whole, integer, list_of, in_byte_order, those_there}
-use Rattle.plan_json.proofs.Back.{number_back, list_back, each_back}
-use Rattle.plan_doc.specs.Elements.{each_of}
+use Rattle.plan_json.proofs.Back.{number_back, each_member_back}
+use Rattle.plan_json.specs.Elements.{each_of}
 use Rattle.plan_doc.specs.Claim.{placement_in, price_in, quota_price_in, claim_of}
 use Rattle.plan_doc.specs.Written.{placement_data, claim_members}
 use Rattle.plan_doc.specs.Ranges.{IsPlacement, IsPrice, AreUpTo, IsClaim}
@@ -25,7 +25,7 @@ pub list_of_back : {T : Type 0} (P : T → Type 0) (f : T → Data) (element_in 
     → ((m : Member) (x : T) → P x → element_in m (f x) ≡ Ok x) → (least most : ℕ) (ms : Members) (m : Member) (xs : List T)
     → value_of ms m ≡ Some (list_of f xs) → least ≤ length xs → AreUpTo most P xs → each_of element_in least most ms m ≡ Ok xs
 list_of_back P f element_in h least most ms m xs found some are =
-    rw (found, list_back f m least most xs (record { low = some; high = are.count }), each_back P f (element_in m) (h m) xs are.each) refl
+    each_member_back P f element_in h least most ms m xs found (record { low = some; high = are.count }) are.each
 
 placement_back : (m : Member) (p : Placement) → IsPlacement p → placement_in m (placement_data p) ≡ Ok p
 placement_back m p h =

@@ -1,5 +1,5 @@
 -- What was read lies in the ranges.
-use Rattle.std.proofs.Common.{◌≡◌, ◌^◌, ℕ, ◌≤◌, List, [], ◌∷◌, All, refl, Bool, true, is_some, Option, Some, None, IfSome, Result, IfOk, sym, subst, arith, Ok}
+use Rattle.std.proofs.Common.{◌≡◌, ◌^◌, ℕ, ◌≤◌, List, [], ◌∷◌, All, refl, Bool, true, is_some, Option, Some, None, IfSome, Result, IfOk, subst, arith, Ok}
 use Rattle.std.specs.List.{list_all, flat_map}
 use Rattle.std.proofs.lemmas.Bool.{le-leb, and_from}
 use Rattle.std.proofs.lemmas.List.Elements.{All-nil, All-head, All-tail}
@@ -19,13 +19,12 @@ use Rattle.plan_base.proofs.RangeLemmas.{decides_in_ranges}
 use Rattle.plan_json.specs.declared.member.Member.{Member}
 use Rattle.plan_json.specs.declared.member.Member.TheVariants as key
 use Rattle.plan_json.specs.declared.fault.JsonFault.{JsonFault}
-use Rattle.plan_json.specs.Reading.{read_each}
 use Rattle.plan_json.specs.Object.{value_of, member_of, if_there, object_in}
 use Rattle.plan_json.specs.Operator.{operator_in}
+use Rattle.plan_json.specs.Elements.{item, each_of}
 use Rattle.plan_json.specs.List.{list_of_count_in}
 use Rattle.plan_json.specs.Whole.{number_in}
-use Rattle.plan_json.proofs.Ranges.{Gives, any, weaker, either, after, made, number_between, number_member, number_member_or, list_member, each}
-use Rattle.plan_doc.specs.Elements.{item, each_of}
+use Rattle.plan_json.proofs.Ranges.{Gives, any, weaker, either, after, made, number_between, number_member, number_member_or, each_member}
 use Rattle.plan_doc.specs.Claim.{placement_of, placement_in, price_in, quota_price_in, quota_prices_of, claim_of}
 use Rattle.plan_doc.specs.Snapshot.{most_items, span_of, span_in, telescope_number_in, target_number_in, telescope_of, telescope_in, sky_of, sky_in}
 use Rattle.plan_doc.specs.Snapshot.{request_of, request_in, group_of, group_in, quotas_of, parts_of}
@@ -39,8 +38,7 @@ use Rattle.plan_doc.proofs.Numbers.{price_between}
 each_there : {T : Type 0} (P : T → Type 0) (element_in : Member → Data → Result T JsonFault) → ((m : Member) (d : Data) → Gives (element_in m d) P)
     → (least most : ℕ) (ms : Members) (m : Member) → Gives (each_of element_in least most ms m) (AreUpTo most P)
 each_there P element_in h least most ms m =
-    after (read_each (element_in m)) (list_member least most ms m) (λ ds few.
-    weaker (each P (element_in m) (h m) ds) (λ xs are. record { count = subst (λ (n : ℕ). n ≤ most) (sym are.count) few.high; each = are.all }))
+    weaker (each_member P element_in h least most ms m) (λ xs are. record { count = are.count.high; each = are.each })
 
 -- ---- claims
 

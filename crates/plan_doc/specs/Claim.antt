@@ -10,7 +10,7 @@ use Rattle.plan_json.specs.Object.{member_of, if_there}
 use Rattle.plan_json.specs.List.{list_of_count_in}
 use Rattle.plan_json.specs.Reading.{◌>>=◌}
 use Rattle.plan_json.specs.Whole.{whole_in, number_in}
-use Rattle.plan_doc.specs.Elements.{item, each_of}
+use Rattle.plan_json.specs.Elements.{item, each_of}
 
 -- request, telescope, slice
 abbrev pub placement_of : Member → List Data → Result Placement JsonFault

@@ -1,5 +1,4 @@
 pub mod Fault
-pub mod Elements
 pub mod Claim
 pub mod Snapshot
 pub mod Publication

@@ -22,7 +22,7 @@ use Rattle.plan_json.specs.Reading.{result_map, ◌>>=◌}
 use Rattle.plan_json.specs.Whole.{number_in}
 use Rattle.plan_doc.specs.declared.fault.DocFault.{DocFault}
 use Rattle.plan_doc.specs.Fault.{fault_of_snapshot, in_document}
-use Rattle.plan_doc.specs.Elements.{item, each_of}
+use Rattle.plan_json.specs.Elements.{item, each_of}
 
 -- the most elements of a list
 abbrev pub most_items : ℕ

@@ -1,7 +1,6 @@
 // Documents read as claims and snapshots.
 
 mod claim;
-mod element;
 mod group;
 mod number;
 mod publication;

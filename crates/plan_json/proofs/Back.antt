@@ -1,15 +1,18 @@
 -- What is written is read again.
-use Rattle.std.proofs.Common.{◌≡◌, ℕ, suc, ◌+◌, ◌≤◌, List, [], ◌∷◌, map, length, All, Result, Ok, refl, ap, arith}
+use Rattle.std.proofs.Common.{◌≡◌, ℕ, suc, ◌+◌, ◌≤◌, List, [], ◌∷◌, map, length, All, Some, Result, Ok, refl, ap, arith}
 use Rattle.std.proofs.lemmas.Bool.{le-leb}
 use Rattle.std.proofs.lemmas.List.Elements.{All-head, All-tail}
-use Rattle.serde_json.specs.Data.{Data, string}
+use Rattle.serde_json.specs.Data.{Data, string, Members}
 use Rattle.plan_base.specs.declared.number.Sec.{Sec}
 use Rattle.plan_json.specs.declared.member.Member.{Member}
+use Rattle.plan_json.specs.declared.fault.JsonFault.{JsonFault}
+use Rattle.plan_json.specs.Object.{value_of}
 use Rattle.plan_json.specs.Reading.{read_each, read_from}
 use Rattle.plan_json.specs.Text.{text_in}
 use Rattle.plan_json.specs.Whole.{number_in}
 use Rattle.plan_json.specs.Moment.{moment_in, last_moment}
 use Rattle.plan_json.specs.List.{list_in}
+use Rattle.plan_json.specs.Elements.{each_of}
 use Rattle.plan_json.specs.Values.{whole, list_of}
 use Rattle.plan_json.specs.Ranges.{IsBetween, IsText}
 use Rattle.plan_json.proofs.Values.{elements_of_items}
@@ -45,3 +48,10 @@ as_long f (x ∷ xs) = ap suc (as_long f xs)
 pub list_back : {X : Type 0} (f : X → Data) (m : Member) (least most : ℕ) (xs : List X) → IsBetween least most (length xs)
     → list_in m least most (list_of f xs) ≡ Ok (map f xs)
 list_back f m least most xs h = rw (elements_of_items (map f xs), as_long f xs, le-leb least (length xs) h.low, le-leb (length xs) most h.high) refl
+
+-- a list of elements that are each read again
+pub each_member_back : {T : Type 0} (P : T → Type 0) (f : T → Data) (element_in : Member → Data → Result T JsonFault)
+    → ((m : Member) (x : T) → P x → element_in m (f x) ≡ Ok x) → (least most : ℕ) (ms : Members) (m : Member) (xs : List T)
+    → value_of ms m ≡ Some (list_of f xs) → IsBetween least most (length xs) → All P xs → each_of element_in least most ms m ≡ Ok xs
+each_member_back P f element_in h least most ms m xs found count each =
+    rw (found, list_back f m least most xs count, each_back P f (element_in m) (h m) xs each) refl

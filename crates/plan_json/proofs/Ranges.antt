@@ -1,6 +1,6 @@
 -- What was read lies in the range in which it is read.
-use Rattle.std.proofs.Common.{◌≡◌, ℕ, suc, ◌+◌, ◌≤◌, ◌≤ℤ◌, ℤ, pos, negsuc, unsigned_abs, List, [], ◌∷◌, length, Bool, true, false, ◌&&◌, cond, nat_le}
-use Rattle.std.proofs.Common.{int_le, is_some, Option, Some, None, option_map, ok_or, IfSome, Result, Ok, Err, IfOk, refl, ap, ◌∙◌, arith}
+use Rattle.std.proofs.Common.{◌≡◌, ℕ, suc, ◌+◌, ◌≤◌, ℤ, pos, negsuc, unsigned_abs, List, [], ◌∷◌, length, Bool, true, false, ◌&&◌, cond, nat_le}
+use Rattle.std.proofs.Common.{is_some, Option, Some, None, option_map, ok_or, IfSome, Result, Ok, Err, IfOk, refl, sym, ap, subst}
 use Rattle.std.specs.Prelude.{⊤}
 use Rattle.std.specs.List.{All}
 use Rattle.std.proofs.lemmas.Bool.{leb-true, and_parts}
@@ -10,12 +10,13 @@ use Rattle.plan_base.specs.declared.number.Sec.{Sec}
 use Rattle.plan_json.specs.declared.member.Member.{Member}
 use Rattle.plan_json.specs.declared.fault.JsonFault.{JsonFault}
 use Rattle.plan_json.specs.declared.fault.JsonFault.TheVariants.{Missing, OutOfRange, BadMoment}
-use Rattle.plan_json.specs.Reading.{result_map, result_and_then, ◌>>=◌, read_each, read_from}
+use Rattle.plan_json.specs.Reading.{result_map, ◌>>=◌, read_each, read_from}
 use Rattle.plan_json.specs.Object.{value_of, member_of, if_there, or_default}
-use Rattle.plan_json.specs.Whole.{whole_in, whole_number, within, number_in}
+use Rattle.plan_json.specs.Whole.{whole_number, within, number_in}
 use Rattle.plan_json.specs.Text.{text_in}
 use Rattle.plan_json.specs.Moment.{moment_in, moment_at, last_moment, second_of}
 use Rattle.plan_json.specs.List.{counted, elements_in, list_in}
+use Rattle.plan_json.specs.Elements.{each_of}
 use Rattle.plan_json.specs.Ranges.{IsBetween, IsText}
 use Rattle.plan_json.proofs.Calendar.{second_early}
 
@@ -78,7 +79,7 @@ number_between least most m (string s) = record { ok = tt }
 number_between least most m (array ds) = record { ok = tt }
 number_between least most m (object ms) = record { ok = tt }
 
-text_short : (m : Member) (d : Data) → Gives (text_in m d) IsText
+pub text_short : (m : Member) (d : Data) → Gives (text_in m d) IsText
 text_short m null = record { ok = tt }
 text_short m (boolean b) = record { ok = tt }
 text_short m (number n) = record { ok = tt }
@@ -155,3 +156,16 @@ each_from P f h i [] = record { ok = record { count = refl; all = All-nil P } }
 each_from P f h i (x ∷ xs) =
     after (λ y. result_map (λ ys. y ∷ ys) (read_from f (i + 1) xs)) (h i x)
     (λ y p. made (AreEach P (x ∷ xs)) (λ ys. y ∷ ys) (each_from P f h (i + 1) xs) (λ ys q. record { count = ap suc q.count; all = All-cons P y ys p q.all }))
+
+-- ---- lists of elements that are read alike
+
+-- `least` to `most` of them, each with the property
+pub record AreBetween {T : Type 0} (least most : ℕ) (P : T → Type 0) (xs : List T) : Type 0 where
+  pub count : IsBetween least most (length xs)
+  pub each : All P xs
+
+pub each_member : {T : Type 0} (P : T → Type 0) (element_in : Member → Data → Result T JsonFault) → ((m : Member) (d : Data) → Gives (element_in m d) P)
+    → (least most : ℕ) (ms : Members) (m : Member) → Gives (each_of element_in least most ms m) (AreBetween least most P)
+each_member P element_in h least most ms m =
+    after (read_each (element_in m)) (list_member least most ms m) (λ ds few.
+    weaker (each P (element_in m) (h m) ds) (λ xs are. record { count = subst (IsBetween least most) (sym are.count) few; each = are.all }))

@@ -1,14 +1,15 @@
 -- Which JSON values are spans.
 use Rattle.std.specs.Prelude.{List, [], ◌∷◌, nat_lt, if◌then◌else◌, Result, Ok, Err}
-use Rattle.serde_json.specs.Data.{Data}
+use Rattle.serde_json.specs.Data.{Data, Members}
 use Rattle.plan_base.specs.declared.number.Sec.{Sec}
 use Rattle.plan_base.specs.declared.span.Span.{Span}
 use Rattle.plan_json.specs.declared.member.Member.{Member}
 use Rattle.plan_json.specs.declared.fault.JsonFault.{JsonFault}
 use Rattle.plan_json.specs.declared.fault.JsonFault.TheVariants.{WrongKind, OutOfRange}
-use Rattle.plan_json.specs.Reading.{result_and_then, read_each}
+use Rattle.plan_json.specs.Reading.{result_and_then}
 use Rattle.plan_json.specs.Moment.{moment_in}
-use Rattle.plan_json.specs.List.{elements_in, list_in}
+use Rattle.plan_json.specs.List.{elements_in}
+use Rattle.plan_json.specs.Elements.{each_of}
 
 -- the span of two moments, if the first comes before the second
 abbrev pub span_between : Member → Sec → Sec → Result Span JsonFault
@@ -29,6 +30,6 @@ span_of_elements m (a ∷ b ∷ c ∷ ds) = Err (WrongKind m)
 abbrev pub span_in : Member → Data → Result Span JsonFault
 span_in m d = result_and_then (span_of_elements m) (elements_in m d)
 
--- the spans that a value is: a list of at most 512
-abbrev pub spans_in : Member → Data → Result (List Span) JsonFault
-spans_in m d = result_and_then (read_each (span_in m)) (list_in m 0 512 d)
+-- the spans that the member is: a list of at most 512
+abbrev pub spans_of : Members → Member → Result (List Span) JsonFault
+spans_of ms m = each_of span_in 0 512 ms m

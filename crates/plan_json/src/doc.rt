@@ -11,15 +11,16 @@ ghost use Rattle.plan_json.specs.Text.{text_in};
 ghost use Rattle.plan_json.specs.Moment.{moment_in};
 ghost use Rattle.plan_json.specs.Operator.{operator_in};
 ghost use Rattle.plan_json.specs.List.{list_in};
-ghost use Rattle.plan_json.specs.Span.{span_in, spans_in};
+ghost use Rattle.plan_json.specs.Span.{span_in, spans_of};
 ghost use Rattle.plan_json.specs.Object.{data_of, document_of, value_of, member_of, if_there, or_default, object_in};
 ghost use Rattle.plan_json.specs.Shown.{members_of, elements_of, named_by};
 
+use crate::element::{Spans, read_list};
 use crate::fault::JsonFault;
 use crate::list::DocList;
 use crate::member::Member;
 use crate::{operator, value};
-use plan_base::{Name, Op, Sec, Span};
+use plan_base::{ListOf, Name, Op, Sec, Span};
 use serde_json::{Map, Value};
 use std::alloc::Global;
 
@@ -242,14 +243,13 @@ impl<'a> Doc<'a> {
     /// The spans: a list of at most 512. Fails with [`JsonFault::Missing`]; [`JsonFault::WrongKind`], no list;
     /// [`JsonFault::OutOfRange`], too many; then the first fault of a span, as [`Doc::span`] has them; and for want of
     /// memory.
-    pub fn spans(&self, alloc: Global, member: Member) -> Result<Vec<Span>, JsonFault>
+    pub fn spans(&self, alloc: Global, member: Member) -> Result<ListOf<Span>, JsonFault>
         ensures value { IfOk result
-            (λ spans. member_of spans_in (members_of self.now) member ≡ Ok spans.items) }
+            (λ spans. spans_of (members_of self.now) member ≡ Ok spans) }
         ensures fault { IfErr result
-            (λ e. e ≢ NoMemory → member_of spans_in (members_of self.now) member ≡ Err e) }
+            (λ e. e ≢ NoMemory → spans_of (members_of self.now) member ≡ Err e) }
     {
-        let spans = value::counted(self.required(member)?, member, 0, SPANS)?;
-        value::read_spans(alloc, spans, member)
+        read_list(alloc, &Spans, self, member, 0, SPANS)
     }
 
     /// The list of `least` to `most` elements, read in place. Fails with [`JsonFault::Missing`];

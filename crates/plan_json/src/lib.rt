@@ -2,6 +2,7 @@
 #![tactic(auto)]
 
 mod doc;
+mod element;
 mod fault;
 mod laws;
 mod list;
@@ -13,6 +14,7 @@ mod write;
 mod writer;
 
 pub use doc::{Doc, parse_object};
+pub use element::{Element, read_list};
 pub use fault::JsonFault;
 pub use laws::{lines_are_distinct, lines_are_read_back, texts_are_distinct, texts_are_read_back};
 pub use list::DocList;

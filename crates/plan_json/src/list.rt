@@ -6,6 +6,7 @@ ghost use Rattle.plan_json.specs.declared.fault.JsonFault.TheVariants.{NoMemory}
 ghost use Rattle.plan_json.specs.Reading.{result_map};
 ghost use Rattle.plan_json.specs.Whole.{whole_in};
 ghost use Rattle.plan_json.specs.Text.{text_in};
+ghost use Rattle.plan_json.specs.Span.{span_in};
 ghost use Rattle.plan_json.specs.List.{list_of_count_in};
 ghost use Rattle.plan_json.specs.Object.{object_in};
 
@@ -13,7 +14,7 @@ use crate::doc::Doc;
 use crate::fault::JsonFault;
 use crate::member::Member;
 use crate::value;
-use plan_base::Name;
+use plan_base::{Name, Span};
 use serde_json::Value;
 use std::alloc::Global;
 
@@ -78,6 +79,14 @@ impl<'a> DocList<'a> {
         ensures { result ≡ whole_in (named_by self.now) least most (element_of self.now index) }
     {
         value::whole_in(self.value(index), self.member, least, most)
+    }
+
+    /// The span at that place. Fails as [`Doc::span`] does.
+    pub(crate) fn span(&self, index: u32) -> Result<Span, JsonFault>
+        requires { index < length (elements_of self.now) }
+        ensures { result ≡ span_in (named_by self.now) (element_of self.now index) }
+    {
+        value::span_in(self.value(index), self.member)
     }
 
     /// The list at that place, if it has `count` elements, read in place. Fails with [`JsonFault::WrongKind`], no such

@@ -1,6 +1,6 @@
 // The names of members.
 
-ghost use Rattle.std.specs.Prelude.{◌≡◌, codes};
+ghost use Rattle.std.specs.Prelude.{◌≡◌};
 ghost use Rattle.plan_json.specs.Member.{name_of};
 
 use std::fmt;

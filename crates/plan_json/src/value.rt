@@ -1,15 +1,14 @@
 // What one JSON value is read as. A fault names the member that it was read by.
 
-ghost use Rattle.std.specs.Prelude.{◌≡◌, map, option_map, IfOk, IfErr, Ok, Err, ◌≢◌, ◌≤◌, length};
+ghost use Rattle.std.specs.Prelude.{◌≡◌, map, IfOk, IfErr, Ok, Err, ◌≢◌, ◌≤◌, length};
 ghost use Rattle.serde_json.specs.View.{view, members_view};
-ghost use Rattle.serde_json.specs.Data.{Data};
 ghost use Rattle.plan_json.specs.declared.fault.JsonFault.TheVariants.{NoMemory};
-ghost use Rattle.plan_json.specs.Reading.{result_map, read_each};
+ghost use Rattle.plan_json.specs.Reading.{result_map};
 ghost use Rattle.plan_json.specs.Whole.{whole_in, number_in};
 ghost use Rattle.plan_json.specs.Text.{text_in};
 ghost use Rattle.plan_json.specs.Moment.{moment_in};
 ghost use Rattle.plan_json.specs.List.{elements_in, list_in};
-ghost use Rattle.plan_json.specs.Span.{span_between, span_in};
+ghost use Rattle.plan_json.specs.Span.{span_in};
 ghost use Rattle.plan_json.specs.Object.{object_in};
 
 use crate::fault::JsonFault;
@@ -142,24 +141,6 @@ pub(crate) fn span_in(value: &Value, member: Member) -> Result<Span, JsonFault>
     } else {
         Err(JsonFault::OutOfRange { member })
     }
-}
-
-/// The spans that all values are.
-pub(crate) fn read_spans(
-    alloc: Global,
-    values: &[Value],
-    member: Member,
-) -> Result<Vec<Span>, JsonFault>
-    ensures value { IfOk result
-        (λ spans. read_each (span_in member) (map view values.now) ≡ Ok spans.items) }
-    ensures fault { IfErr result
-        (λ e. e ≢ NoMemory → read_each (span_in member) (map view values.now) ≡ Err e) }
-{
-    let mut spans = Vec::with_capacity(alloc, values.len())?;
-    for value in values {
-        spans.push(span_in(value, member)?)?;
-    }
-    Ok(spans)
 }
 
 /// The members of the object.

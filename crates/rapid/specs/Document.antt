@@ -6,7 +6,7 @@ use Rattle.plan_json.specs.Object.{document_of}
 use Rattle.plan_json.specs.Reading.{◌>>=◌}
 use Rattle.plan_doc.specs.declared.fault.DocFault.{DocFault}
 use Rattle.plan_doc.specs.Fault.{in_document}
-use Rattle.plan_doc.specs.Elements.{each_of}
+use Rattle.plan_json.specs.Elements.{each_of}
 use Rattle.plan_doc.specs.Publication.{publication_of}
 use Rattle.plan_doc.specs.Snapshot.{group_in}
 use Rattle.rapid.specs.declared.document.RapidDocument.{RapidDocument}

@@ -31,24 +31,25 @@ use Rattle.request_model.specs.Written.{cadence_given, windows_given, exposure_d
 use Rattle.request_model.specs.Written.{request_at, request_data}
 use Rattle.request_model.specs.Ranges.{IsExposure, IsConfiguration, IsLocation, IsCadence, IsWindow, IsWhen, IsRequest}
 
-exposure_back : (e : Exposure) → IsExposure e → exposure_in (exposure_data e) ≡ Ok e
-exposure_back e h = rw (number_back 1 86400000 key.ExposureTimeMs e.ms h.time, number_back 1 10000 key.ExposureCount e.count h.number) refl
+exposure_back : (m : Member) (e : Exposure) → IsExposure e → exposure_in m (exposure_data e) ≡ Ok e
+exposure_back m e h = rw (number_back 1 86400000 key.ExposureTimeMs e.ms h.time, number_back 1 10000 key.ExposureCount e.count h.number) refl
 
 -- a configuration with its instrument type
 abbrev typed : List ℕ → ConfigDoc → Typed
 typed type c = record { instrument = type; configuration = c }
 
-configuration_back : (type : List ℕ) → IsText type → (c : ConfigDoc) → IsConfiguration c → typed_in (configuration_data type c) ≡ Ok (typed type c)
+configuration_back : (type : List ℕ) → IsText type → (c : ConfigDoc) → IsConfiguration c
+    → typed_in key.Configurations (configuration_data type c) ≡ Ok (typed type c)
 configuration_back type is_type c h =
     rw (
       text_back key.InstrumentType type is_type,
       text_back key.Name c.target h.name,
       list_back exposure_data key.InstrumentConfigs 1 16 c.exposures h.count,
-      each_back IsExposure exposure_data exposure_in exposure_back c.exposures h.each,
+      each_back IsExposure exposure_data (exposure_in key.InstrumentConfigs) (exposure_back key.InstrumentConfigs) c.exposures h.each,
     ) refl
 
 typed_back : (type : List ℕ) → IsText type → (cs : List ConfigDoc) → All IsConfiguration cs
-    → read_each typed_in (map (configuration_data type) cs) ≡ Ok (map (typed type) cs)
+    → read_each (typed_in key.Configurations) (map (configuration_data type) cs) ≡ Ok (map (typed type) cs)
 typed_back type is_type [] all = refl
 typed_back type is_type (c ∷ cs) all =
     let first : IsConfiguration c = all 0 c (omega arith) in

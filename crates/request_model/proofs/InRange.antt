@@ -3,6 +3,7 @@ use Rattle.std.proofs.Common.{◌≡◌, ℕ, List, [], ◌∷◌, map, length, 
 use Rattle.std.proofs.lemmas.List.Elements.{All-head, All-map}
 use Rattle.serde_json.specs.Data.{Data, Members}
 use Rattle.plan_base.specs.declared.parts.Op.{Op}
+use Rattle.plan_json.specs.declared.member.Member.{Member}
 use Rattle.plan_json.specs.declared.member.Member.TheVariants as key
 use Rattle.plan_json.specs.declared.fault.JsonFault.{JsonFault}
 use Rattle.plan_json.specs.Reading.{read_from}
@@ -12,7 +13,7 @@ use Rattle.plan_json.specs.List.{list_in}
 use Rattle.plan_json.specs.Ranges.{IsBetween, IsText}
 use Rattle.plan_json.proofs.Back.{as_long}
 use Rattle.plan_json.proofs.Ranges.{Gives, any, weaker, either, if_test, after, made, number_member, number_member_or, text_member, text_member_if}
-use Rattle.plan_json.proofs.Ranges.{moment_member, list_member, each, each_from}
+use Rattle.plan_json.proofs.Ranges.{moment_member, list_member, each_member, each_from}
 use Rattle.request_model.specs.declared.fault.GroupFault.TheVariants.{BadShape, BadWindow, MixedInstruments}
 use Rattle.request_model.specs.declared.request.When.TheVariants as when
 use Rattle.request_model.specs.declared.request.RequestDoc.{RequestDoc}
@@ -40,8 +41,8 @@ exposure_there ms =
     after _ (number_member 1 10000 ms key.ExposureCount) (λ number is_number.
     record { ok = record { time = is_time; number = is_number } }))
 
-exposure_found : (d : Data) → Gives (exposure_in d) IsExposure
-exposure_found d = after exposure_of (any (object_in key.InstrumentConfigs d)) (λ ms _. exposure_there ms)
+exposure_found : (m : Member) (d : Data) → Gives (exposure_in m d) IsExposure
+exposure_found m d = after exposure_of (any (object_in m d)) (λ ms _. exposure_there ms)
 
 record IsTyped (t : Typed) : Type 0 where
   type : IsText t.instrument
@@ -52,17 +53,11 @@ typed_there ms =
     after _ (text_member ms key.InstrumentType) (λ type is_type.
     after _ (any (member_of object_in ms key.Target)) (λ sky _.
     after _ (text_member sky key.Name) (λ name is_name.
-    after _ (list_member 1 16 ms key.InstrumentConfigs) (λ ds few.
-    after _ (each IsExposure exposure_in exposure_found ds) (λ es are.
-    record {
-      ok = record {
-        type = is_type;
-        configuration = record { name = is_name; count = subst (IsBetween 1 16) (sym are.count) few; each = are.all };
-      };
-    })))))
+    after _ (each_member IsExposure exposure_in exposure_found 1 16 ms key.InstrumentConfigs) (λ es are.
+    record { ok = record { type = is_type; configuration = record { name = is_name; count = are.count; each = are.each } } }))))
 
-typed_found : (d : Data) → Gives (typed_in d) IsTyped
-typed_found d = after typed_of (any (object_in key.Configurations d)) (λ ms _. typed_there ms)
+typed_found : (m : Member) (d : Data) → Gives (typed_in m d) IsTyped
+typed_found m d = after typed_of (any (object_in m d)) (λ ms _. typed_there ms)
 
 record IsTaken (all : OfOneType) : Type 0 where
   type : IsText all.instrument
@@ -83,9 +78,8 @@ one_type_there index (t ∷ ts) few are =
 
 configurations_there : (index : ℕ) (ms : Members) → Gives (configurations_of index ms) IsTaken
 configurations_there index ms =
-    after _ (grouped (list_member 1 16 ms key.Configurations)) (λ ds few.
-    after (of_one_type index) (grouped (each IsTyped typed_in typed_found ds)) (λ ts are.
-    one_type_there index ts (subst (IsBetween 1 16) (sym are.count) few) are.all))
+    after (of_one_type index) (grouped (each_member IsTyped typed_in typed_found 1 16 ms key.Configurations)) (λ ts are.
+    one_type_there index ts are.count are.each)
 
 -- ---- where and when
 

@@ -3,12 +3,13 @@ use Rattle.std.specs.Prelude.{ℕ, List, [], ◌∷◌, map, Bool, bytes_eq, if�
 use Rattle.std.specs.List.{list_all}
 use Rattle.plan_base.specs.Limits.{most_ms}
 use Rattle.serde_json.specs.Data.{Data, Members}
+use Rattle.plan_json.specs.declared.member.Member.{Member}
 use Rattle.plan_json.specs.declared.member.Member.TheVariants.{Name, InstrumentType, Target, InstrumentConfigs, ExposureTimeMs, ExposureCount, Configurations}
 use Rattle.plan_json.specs.declared.fault.JsonFault.{JsonFault}
+use Rattle.plan_json.specs.Elements.{each_of}
 use Rattle.plan_json.specs.Object.{member_of, object_in}
-use Rattle.plan_json.specs.Reading.{read_each, ◌>>=◌}
+use Rattle.plan_json.specs.Reading.{◌>>=◌}
 use Rattle.plan_json.specs.Text.{text_in}
-use Rattle.plan_json.specs.List.{list_in}
 use Rattle.plan_json.specs.Whole.{number_in}
 use Rattle.request_model.specs.declared.fault.GroupFault.{GroupFault}
 use Rattle.request_model.specs.declared.fault.GroupFault.TheVariants.{MixedInstruments}
@@ -24,9 +25,9 @@ exposure_of ms =
     member_of (number_in 1 10000) ms ExposureCount >>= λ number.
     Ok (record { ms = time; count = number })
 
--- the exposures of one length that an object is, an element of `instrument_configs`
-abbrev pub exposure_in : Data → Result Exposure JsonFault
-exposure_in d = object_in InstrumentConfigs d >>= exposure_of
+-- the exposures of one length that an object is
+abbrev pub exposure_in : Member → Data → Result Exposure JsonFault
+exposure_in m d = object_in m d >>= exposure_of
 
 -- `instrument_type`, `target` with its `name`, `instrument_configs`
 abbrev pub typed_of : Members → Result Typed JsonFault
@@ -34,13 +35,12 @@ typed_of ms =
     member_of text_in ms InstrumentType >>= λ type.
     member_of object_in ms Target >>= λ sky.
     member_of text_in sky Name >>= λ name.
-    member_of (λ m. list_in m 1 16) ms InstrumentConfigs >>= λ ds.
-    read_each exposure_in ds >>= λ all.
+    each_of exposure_in 1 16 ms InstrumentConfigs >>= λ all.
     Ok (record { instrument = type; configuration = record { target = name; exposures = all } })
 
--- the configuration that an object is, an element of `configurations`, with its instrument type
-abbrev pub typed_in : Data → Result Typed JsonFault
-typed_in d = object_in Configurations d >>= typed_of
+-- the configuration that an object is, with its instrument type
+abbrev pub typed_in : Member → Data → Result Typed JsonFault
+typed_in m d = object_in m d >>= typed_of
 
 -- all configurations are of that instrument type
 abbrev pub are_of_type : List ℕ → List Typed → Bool
@@ -56,6 +56,4 @@ of_one_type index (t ∷ ts) =
 
 -- the configurations of the request at that place, all of one instrument type
 abbrev pub configurations_of : ℕ → Members → Result OfOneType GroupFault
-configurations_of index ms =
-    in_group (member_of (λ m. list_in m 1 16) ms Configurations) >>= λ ds.
-    in_group (read_each typed_in ds) >>= of_one_type index
+configurations_of index ms = in_group (each_of typed_in 1 16 ms Configurations) >>= of_one_type index

@@ -5,11 +5,11 @@ use Rattle.serde_json.specs.Find.{as_object}
 use Rattle.plan_json.specs.declared.fault.JsonFault.{JsonFault}
 use Rattle.plan_json.specs.declared.fault.JsonFault.TheVariants.{NotObject, Missing}
 use Rattle.plan_json.specs.declared.member.Member.TheVariants as member
-use Rattle.plan_json.specs.List.{list_in}
+use Rattle.plan_json.specs.Elements.{each_of}
 use Rattle.plan_json.specs.Moment.{moment_in}
 use Rattle.plan_json.specs.Object.{data_of, unless_null, member_of, if_there}
-use Rattle.plan_json.specs.Reading.{result_and_then, ◌>>=◌, read_each}
-use Rattle.plan_json.specs.Span.{span_in, spans_in}
+use Rattle.plan_json.specs.Reading.{result_and_then, ◌>>=◌}
+use Rattle.plan_json.specs.Span.{span_in, spans_of}
 use Rattle.plan_json.specs.Text.{text_in}
 use Rattle.plan_json.specs.Whole.{number_in}
 use Rattle.request_model.specs.declared.fault.GroupFault.{GroupFault}
@@ -74,21 +74,20 @@ telescope_none ms =
     then_none (member_of text_in ms member.Enclosure) _ (λ enclosure.
     then_none (member_of text_in ms member.Telescope) _ (λ telescope.
     then_none (member_of text_in ms member.Class) _ (λ class.
-    then_none (member_of (λ m. list_in m 1 16) ms member.Instruments) _ (λ ds.
-    then_none (read_each (text_in member.Instruments) ds) _ (λ instruments.
-    other_none (command.Telescope site enclosure telescope class instruments) refl))))))
+    then_none (each_of text_in 1 16 ms member.Instruments) _ (λ instruments.
+    other_none (command.Telescope site enclosure telescope class instruments) refl)))))
 
 night_none : (ms : Members) → NoPlan (night_of ms)
 night_none ms =
     then_none (member_of text_in ms member.Site) _ (λ site.
-    then_none (member_of spans_in ms member.Spans) _ (λ spans.
+    then_none (spans_of ms member.Spans) _ (λ spans.
     other_none (command.Night site spans) refl))
 
 visibility_none : (ms : Members) → NoPlan (visibility_of ms)
 visibility_none ms =
     then_none (member_of text_in ms member.Target) _ (λ target.
     then_none (member_of text_in ms member.Site) _ (λ site.
-    then_none (member_of spans_in ms member.Spans) _ (λ spans.
+    then_none (spans_of ms member.Spans) _ (λ spans.
     other_none (command.Visibility target site spans) refl)))
 
 grant_none : (ms : Members) → NoPlan (grant_of ms)

@@ -2,15 +2,13 @@
 
 ghost use Rattle.std.specs.Prelude.{◌≡◌, ◌≢◌, IfOk, IfErr, Ok, Err};
 ghost use Rattle.plan_json.specs.declared.fault.JsonFault.TheVariants.{NoMemory};
-ghost use Rattle.plan_json.specs.declared.member.Member.TheVariants.{Instruments};
-ghost use Rattle.plan_json.specs.Reading.{read_each};
-ghost use Rattle.plan_json.specs.Shown.{members_of, elements_of, named_by};
+ghost use Rattle.plan_json.specs.Shown.{members_of};
 ghost use Rattle.plan_json.specs.Text.{text_in};
 ghost use Rattle.desk_events.specs.Commands.{instrument_of, telescope_of, night_of, visibility_of};
 
 use crate::command::Command;
-use plan_base::{ListOf, MOST_MS, Name};
-use plan_json::{Doc, DocList, JsonFault, Member};
+use plan_base::{MOST_MS, Name};
+use plan_json::{Doc, DocList, Element, JsonFault, Member, read_list};
 use std::alloc::Global;
 
 /// The most instrument types of a telescope.
@@ -35,19 +33,15 @@ pub(crate) fn read_instrument(alloc: Global, doc: &Doc) -> Result<Command, JsonF
     })
 }
 
-/// The names that all elements are.
-fn read_names(alloc: Global, list: &DocList) -> Result<ListOf<Name>, JsonFault>
-    requires { named_by list.now ≡ Instruments }
-    ensures value { IfOk result
-        (λ names. read_each (text_in Instruments) (elements_of list.now) ≡ Ok names) }
-    ensures fault { IfErr result
-        (λ e. e ≢ NoMemory → read_each (text_in Instruments) (elements_of list.now) ≡ Err e) }
-{
-    let mut names = ListOf::new(alloc);
-    for index in 0..list.count() {
-        names.push(list.text(alloc, index)?)?;
+/// Names of instrument types.
+struct InstrumentTypes;
+
+impl Element<Name> for InstrumentTypes {
+    ghost element_in = { text_in };
+
+    fn read(&self, alloc: Global, list: &DocList, index: u32) -> Result<Name, JsonFault> {
+        list.text(alloc, index)
     }
-    Ok(names)
 }
 
 /// A `telescope` line.
@@ -59,8 +53,14 @@ pub(crate) fn read_telescope(alloc: Global, doc: &Doc) -> Result<Command, JsonFa
     let enclosure = doc.text(alloc, Member::Enclosure)?;
     let telescope = doc.text(alloc, Member::Telescope)?;
     let class = doc.text(alloc, Member::Class)?;
-    let list = doc.list(Member::Instruments, 1, MOST_INSTRUMENTS)?;
-    let instruments = read_names(alloc, &list)?;
+    let instruments = read_list(
+        alloc,
+        &InstrumentTypes,
+        doc,
+        Member::Instruments,
+        1,
+        MOST_INSTRUMENTS,
+    )?;
     Ok(Command::Telescope {
         site,
         enclosure,
@@ -76,7 +76,7 @@ pub(crate) fn read_night(alloc: Global, doc: &Doc) -> Result<Command, JsonFault>
     ensures fault { IfErr result (λ e. e ≢ NoMemory → night_of (members_of doc.now) ≡ Err e) }
 {
     let site = doc.text(alloc, Member::Site)?;
-    let spans = ListOf::from_vec(doc.spans(alloc, Member::Spans)?);
+    let spans = doc.spans(alloc, Member::Spans)?;
     Ok(Command::Night { site, spans })
 }
 
@@ -87,7 +87,7 @@ pub(crate) fn read_visibility(alloc: Global, doc: &Doc) -> Result<Command, JsonF
 {
     let target = doc.text(alloc, Member::Target)?;
     let site = doc.text(alloc, Member::Site)?;
-    let spans = ListOf::from_vec(doc.spans(alloc, Member::Spans)?);
+    let spans = doc.spans(alloc, Member::Spans)?;
     Ok(Command::Visibility {
         target,
         site,

@@ -6,7 +6,6 @@ ghost use Rattle.plan_json.specs.Shown.{members_of};
 ghost use Rattle.desk_events.specs.Commands.{telescope_scope_of, site_scope_of, scope_of, close_of, reopen_of};
 
 use crate::command::Command;
-use plan_base::ListOf;
 use plan_json::{Doc, JsonFault, Member};
 use site_model::{Code, Scope};
 use std::alloc::Global;
@@ -51,7 +50,7 @@ pub(crate) fn read_close(alloc: Global, doc: &Doc) -> Result<Command, JsonFault>
     ensures fault { IfErr result (λ e. e ≢ NoMemory → close_of (members_of doc.now) ≡ Err e) }
 {
     let scope = read_scope(alloc, doc)?;
-    let spans = ListOf::from_vec(doc.spans(alloc, Member::Spans)?);
+    let spans = doc.spans(alloc, Member::Spans)?;
     Ok(Command::Close { scope, spans })
 }
 
@@ -61,6 +60,6 @@ pub(crate) fn read_reopen(alloc: Global, doc: &Doc) -> Result<Command, JsonFault
     ensures fault { IfErr result (λ e. e ≢ NoMemory → reopen_of (members_of doc.now) ≡ Err e) }
 {
     let scope = read_scope(alloc, doc)?;
-    let spans = ListOf::from_vec(doc.spans(alloc, Member::Spans)?);
+    let spans = doc.spans(alloc, Member::Spans)?;
     Ok(Command::Reopen { scope, spans })
 }

@@ -8,10 +8,9 @@ ghost use Rattle.plan_json.specs.Shown.{members_of};
 ghost use Rattle.plan_json.specs.Whole.{number_in};
 ghost use Rattle.plan_doc.specs.Claim.{placement_in, price_in, quota_price_in, quota_prices_of, claim_of};
 
-use crate::read::element::{Element, read_list};
 use crate::read::number::number_at;
 use plan_base::{Claim, ListOf, Placement, Prices, QuotaPrices, RequestNo, SliceNo, TelescopeNo};
-use plan_json::{Doc, DocList, JsonFault, Member};
+use plan_json::{Doc, DocList, Element, JsonFault, Member, read_list};
 use std::alloc::Global;
 
 /// The format of a claim with prices of quotas.

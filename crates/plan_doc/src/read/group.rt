@@ -1,23 +1,22 @@
 // Requests and groups.
 
-ghost use Rattle.std.specs.Prelude.{◌≡◌, ◌≢◌, ◌<◌, length, IfOk, IfErr, Ok, Err};
+ghost use Rattle.std.specs.Prelude.{◌≡◌, ◌≢◌, IfOk, IfErr, Ok, Err};
 ghost use Rattle.plan_json.specs.declared.fault.JsonFault.TheVariants.{NoMemory};
 ghost use Rattle.plan_json.specs.declared.member.Member.TheVariants as key;
+ghost use Rattle.plan_json.specs.Elements.{each_of};
 ghost use Rattle.plan_json.specs.Object.{if_there};
 ghost use Rattle.plan_json.specs.Shown.{members_of};
 ghost use Rattle.plan_json.specs.Whole.{number_in};
-ghost use Rattle.plan_doc.specs.Elements.{each_of};
 ghost use Rattle.plan_doc.specs.Ranges.{AreUpTo, IsGroup};
 ghost use Rattle.plan_doc.specs.Snapshot.{telescope_number_in, target_number_in, request_of, request_in, group_of, group_in};
 
-use crate::read::element::{Element, read_list};
 use crate::read::number::number_at;
 use crate::read::sky::{HIGHEST_NUMBER, MOST_ITEMS, read_spans};
 use plan_base::{
     GroupNo, GroupPart, ListOf, MOST_SECONDS, MOST_VALUE, RequestNo, RequestPart, TargetNo,
     TelescopeNo,
 };
-use plan_json::{Doc, DocList, JsonFault, Member};
+use plan_json::{Doc, DocList, Element, JsonFault, Member, read_list};
 use std::alloc::Global;
 
 /// Numbers of telescopes.

@@ -1,15 +1,14 @@
 // Spans, telescopes and skies.
 
-ghost use Rattle.std.specs.Prelude.{◌≡◌, ◌≢◌, ◌<◌, length, IfOk, IfErr, Ok, Err};
+ghost use Rattle.std.specs.Prelude.{◌≡◌, ◌≢◌, IfOk, IfErr, Ok, Err};
 ghost use Rattle.plan_json.specs.declared.fault.JsonFault.TheVariants.{NoMemory};
+ghost use Rattle.plan_json.specs.Elements.{each_of};
 ghost use Rattle.plan_json.specs.Shown.{members_of};
-ghost use Rattle.plan_doc.specs.Elements.{each_of};
 ghost use Rattle.plan_doc.specs.Snapshot.{most_items, span_in, telescope_of, telescope_in, sky_of, sky_in};
 
-use crate::read::element::{Element, read_list};
 use crate::read::number::number_at;
 use plan_base::{ListOf, MOST_MOMENT, Sec, SiteNo, Sky, Span, TargetNo, TelescopePart};
-use plan_json::{Doc, DocList, JsonFault, Member};
+use plan_json::{Doc, DocList, Element, JsonFault, Member, read_list};
 use std::alloc::Global;
 
 /// The most elements of a list.

@@ -9,14 +9,13 @@ ghost use Rattle.plan_doc.specs.declared.fault.DocFault.TheVariants.{NoMemory};
 ghost use Rattle.plan_doc.specs.Snapshot.{quotas_of, parts_of, snapshot_of};
 
 use crate::fault::DocFault;
-use crate::read::element::{Element, read_list};
 use crate::read::group::Groups;
 use crate::read::number::number_at;
 use crate::read::sky::{MOST_ITEMS, Skies, Telescopes};
 use plan_base::{
     LEAST_LEN, ListOf, MOST_FIRST, MOST_LEN, MOST_SLICES, MOST_VERSION, Parts, SliceNo, Snapshot,
 };
-use plan_json::{Doc, DocList, JsonFault, Member};
+use plan_json::{Doc, DocList, Element, JsonFault, Member, read_list};
 use std::alloc::Global;
 
 /// The greatest number of seconds of a quota that is read.

@@ -1,17 +1,15 @@
 // What is taken of one target, and of which instrument type the configurations of a request are.
 
-ghost use Rattle.std.specs.Prelude.{◌≡◌, ◌≢◌, ◌<◌, length, map, IfOk, IfErr, Ok, Err};
+ghost use Rattle.std.specs.Prelude.{◌≡◌, ◌≢◌, map, IfOk, IfErr, Ok, Err};
 ghost use Rattle.plan_json.specs.declared.fault.JsonFault.TheVariants as json;
-ghost use Rattle.plan_json.specs.Reading.{read_each};
-ghost use Rattle.plan_json.specs.Shown.{members_of, elements_of, element_of, named_by};
-ghost use Rattle.plan_json.specs.declared.member.Member.TheVariants.{InstrumentConfigs, Configurations};
+ghost use Rattle.plan_json.specs.Shown.{members_of};
 ghost use Rattle.request_model.specs.Configuration.{exposure_in, typed_of, typed_in, are_of_type, of_one_type, configurations_of};
 ghost use Rattle.request_model.specs.declared.fault.GroupFault.TheVariants.{NoMemory};
 
 use crate::fault::GroupFault;
 use crate::request::{ConfigDoc, Exposure};
 use plan_base::{ListOf, MOST_MS, Name};
-use plan_json::{Doc, DocList, JsonFault, Member};
+use plan_json::{Doc, DocList, Element, JsonFault, Member, read_list};
 use std::alloc::{AllocError, Global};
 
 /// The most exposures of one length.
@@ -38,29 +36,18 @@ pub(crate) struct OfOneType {
     pub configurations: ListOf<ConfigDoc>,
 }
 
-/// The exposures at that place.
-fn read_exposure(list: &DocList, index: u32) -> Result<Exposure, JsonFault>
-    requires member { named_by list.now ≡ InstrumentConfigs }
-    requires within { index < length (elements_of list.now) }
-    ensures { result ≡ exposure_in (element_of list.now index) }
-{
-    let doc = list.object(index)?;
-    let ms = doc.number(Member::ExposureTimeMs, 1, MOST_MS)?;
-    let count = doc.number(Member::ExposureCount, 1, MOST_EXPOSURES)?;
-    Ok(Exposure { ms, count })
-}
+/// Exposures of one length.
+struct Exposures;
 
-fn read_exposures(alloc: Global, list: &DocList) -> Result<ListOf<Exposure>, JsonFault>
-    requires { named_by list.now ≡ InstrumentConfigs }
-    ensures value { IfOk result (λ all. read_each exposure_in (elements_of list.now) ≡ Ok all) }
-    ensures fault { IfErr result
-        (λ e. e ≢ json.NoMemory → read_each exposure_in (elements_of list.now) ≡ Err e) }
-{
-    let mut all = ListOf::new(alloc);
-    for index in 0..list.count() {
-        all.push(read_exposure(list, index)?)?;
+impl Element<Exposure> for Exposures {
+    ghost element_in = { exposure_in };
+
+    fn read(&self, _alloc: Global, list: &DocList, index: u32) -> Result<Exposure, JsonFault> {
+        let doc = list.object(index)?;
+        let ms = doc.number(Member::ExposureTimeMs, 1, MOST_MS)?;
+        let count = doc.number(Member::ExposureCount, 1, MOST_EXPOSURES)?;
+        Ok(Exposure { ms, count })
     }
-    Ok(all)
 }
 
 fn read_typed(alloc: Global, doc: &Doc) -> Result<Typed, JsonFault>
@@ -70,37 +57,29 @@ fn read_typed(alloc: Global, doc: &Doc) -> Result<Typed, JsonFault>
     let instrument = doc.text(alloc, Member::InstrumentType)?;
     let sky = doc.object(Member::Target)?;
     let target = sky.text(alloc, Member::Name)?;
-    let list = doc.list(Member::InstrumentConfigs, 1, MOST_CONFIGURATIONS)?;
-    let exposures = read_exposures(alloc, &list)?;
+    let exposures = read_list(
+        alloc,
+        &Exposures,
+        doc,
+        Member::InstrumentConfigs,
+        1,
+        MOST_CONFIGURATIONS,
+    )?;
     Ok(Typed {
         instrument,
         configuration: ConfigDoc { target, exposures },
     })
 }
 
-/// The configuration at that place.
-fn read_typed_at(alloc: Global, list: &DocList, index: u32) -> Result<Typed, JsonFault>
-    requires member { named_by list.now ≡ Configurations }
-    requires within { index < length (elements_of list.now) }
-    ensures value { IfOk result (λ typed. typed_in (element_of list.now index) ≡ Ok typed) }
-    ensures fault { IfErr result
-        (λ e. e ≢ json.NoMemory → typed_in (element_of list.now index) ≡ Err e) }
-{
-    read_typed(alloc, &list.object(index)?)
-}
+/// Configurations, each with its instrument type.
+struct Configurations;
 
-/// The configurations that all elements are.
-fn read_all_typed(alloc: Global, list: &DocList) -> Result<ListOf<Typed>, JsonFault>
-    requires { named_by list.now ≡ Configurations }
-    ensures value { IfOk result (λ all. read_each typed_in (elements_of list.now) ≡ Ok all) }
-    ensures fault { IfErr result
-        (λ e. e ≢ json.NoMemory → read_each typed_in (elements_of list.now) ≡ Err e) }
-{
-    let mut all = ListOf::new(alloc);
-    for index in 0..list.count() {
-        all.push(read_typed_at(alloc, list, index)?)?;
+impl Element<Typed> for Configurations {
+    ghost element_in = { typed_in };
+
+    fn read(&self, alloc: Global, list: &DocList, index: u32) -> Result<Typed, JsonFault> {
+        read_typed(alloc, &list.object(index)?)
     }
-    Ok(all)
 }
 
 fn are_of_type(typed: &[Typed], instrument: &Name) -> bool
@@ -148,7 +127,13 @@ pub(crate) fn read_configurations(
     ensures fault { IfErr result
         (λ e. e ≢ NoMemory → configurations_of index (members_of doc.now) ≡ Err e) }
 {
-    let list = doc.list(Member::Configurations, 1, MOST_CONFIGURATIONS)?;
-    let typed = read_all_typed(alloc, &list)?;
+    let typed = read_list(
+        alloc,
+        &Configurations,
+        doc,
+        Member::Configurations,
+        1,
+        MOST_CONFIGURATIONS,
+    )?;
     of_one_type(alloc, index, typed.into_vec())
 }

@@ -1,7 +1,7 @@
 use Rattle.std.proofs.Common.{◌≡◌, ◌++◌, drop}
 use Rattle.plan_json.specs.Reading.{result_map, read_each}
 use Rattle.plan_json.specs.Shown.{elements_of, named_by}
-use Rattle.plan_doc.proofs.read.element.read_each.Given as goal
+use Rattle.plan_json.proofs.element.read_each.Given as goal
 
 -- the elements so far, before those that are left
 abbrev pub invariant-loop-index : goal.invariant-loop-index

@@ -1,9 +1,9 @@
 use Rattle.std.proofs.Common.{arith}
 use Rattle.std.proofs.lemmas.Grind.{common_steps}
-use Rattle.desk_events.proofs.read.network.read_names.Goals as goal
+use Rattle.plan_json.proofs.element.read_each.Goals as goal
 
-pub returns-in_err-text-clause-fault : goal.returns-in_err-text-clause-fault
-returns-in_err-text-clause-fault c = grind (arith, common_steps)
+pub returns-in_err-read-clause-fault : goal.returns-in_err-read-clause-fault
+returns-in_err-read-clause-fault c = grind (arith, common_steps)
 
 pub loop-index-preserved : goal.loop-index-preserved
 loop-index-preserved c = grind (arith, common_steps)

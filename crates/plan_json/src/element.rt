@@ -1,22 +1,24 @@
-// Lists whose elements are all read alike.
+// Lists of documents whose elements are all read alike.
 
-ghost use Rattle.std.specs.Prelude.{◌≡◌, ◌≢◌, ◌<◌, ◌≤◌, ◌^◌, length, Result, IfOk, IfErr, Ok, Err};
+ghost use Rattle.std.specs.Prelude.{◌≡◌, ◌≢◌, ◌<◌, length, Result, IfOk, IfErr, Ok, Err};
 ghost use Rattle.serde_json.specs.Data.{Data};
 ghost use Rattle.plan_json.specs.declared.member.Member.{Member as Key};
 ghost use Rattle.plan_json.specs.declared.fault.JsonFault.{JsonFault as Fault};
 ghost use Rattle.plan_json.specs.declared.fault.JsonFault.TheVariants.{NoMemory};
+ghost use Rattle.plan_json.specs.Elements.{each_of};
 ghost use Rattle.plan_json.specs.Reading.{read_each};
 ghost use Rattle.plan_json.specs.Shown.{members_of, elements_of, element_of, named_by};
-ghost use Rattle.plan_json.specs.Whole.{number_in};
-ghost use Rattle.plan_doc.specs.Elements.{each_of};
+ghost use Rattle.plan_json.specs.Span.{span_in};
 
-use crate::read::number::number_at;
-use plan_base::ListOf;
-use plan_json::{Doc, DocList, JsonFault, Member};
+use crate::doc::Doc;
+use crate::fault::JsonFault;
+use crate::list::DocList;
+use crate::member::Member;
+use plan_base::{ListOf, Span};
 use std::alloc::Global;
 
 /// A way to read the elements of a list of a document.
-pub(crate) trait Element<T> {
+pub trait Element<T> {
     /// What a value is read as, its faults naming a member.
     ghost element_in: { Key → Data → Result T Fault };
 
@@ -46,9 +48,20 @@ fn read_each<T: Drop, E: Element<T>>(
     Ok(ListOf::from_vec(all))
 }
 
+/// Spans.
+pub(crate) struct Spans;
+
+impl Element<Span> for Spans {
+    ghost element_in = { span_in };
+
+    fn read(&self, _alloc: Global, list: &DocList, index: u32) -> Result<Span, JsonFault> {
+        list.span(index)
+    }
+}
+
 /// The list of `least` to `most` elements that the member is, each read alike. Fails as [`Doc::list`] does, then as the
 /// first element that can't be read, its faults naming the member.
-pub(crate) fn read_list<T: Drop, E: Element<T>>(
+pub fn read_list<T: Drop, E: Element<T>>(
     alloc: Global,
     element: &E,
     doc: &Doc,
