@@ -95,7 +95,7 @@ no_fields = record { count = None; group = None; index = None; member = None; re
 
 -- the fields of a fault that names the member at which it was found
 abbrev pub of_member : Member → FaultFields
-of_member m = record no_fields { member = Some (record { 0 = m }) }
+of_member m = record no_fields { member = Some m }
 
 -- the fields of a fault that names a group by its number
 abbrev pub of_group : ℕ → FaultFields
@@ -145,7 +145,7 @@ fault_at n name f =
     ∷ may_have (codes "count") (option_map whole f.count)
     ∷ may_have (codes "group") (option_map whole f.group)
     ∷ may_have (codes "index") (option_map whole f.index)
-    ∷ may_have (codes "member") (option_map (λ m. string (name_of m.0)) f.member)
+    ∷ may_have (codes "member") (option_map (λ m. string (name_of m)) f.member)
     ∷ may_have (codes "request") (option_map whole f.request)
     ∷ may_have (codes "telescope") (option_map whole f.telescope)
     ∷ may_have (codes "what") (option_map (λ what. string (name_of_counted what.0)) f.what)

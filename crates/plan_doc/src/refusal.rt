@@ -3,7 +3,6 @@
 ghost use Rattle.std.specs.Prelude.{◌≡◌};
 ghost use Rattle.serde_json.specs.Data.{string};
 ghost use Rattle.plan_json.specs.Adds.{AddsNested};
-ghost use Rattle.plan_json.specs.Member.{name_of};
 ghost use Rattle.plan_doc.specs.Refusal.{number_of_json, number_of_parts, number_of_fault, name_of_json, name_of_parts};
 ghost use Rattle.plan_doc.specs.Refusal.{name_of_fault, name_of_counted, of_group, of_request};
 ghost use Rattle.plan_doc.specs.Refusal.{fields_of_json, fields_of_parts, fields_of_fault, fault_at, fault_data};
@@ -12,20 +11,6 @@ use crate::fault::DocFault;
 use plan_base::{Counted, GroupNo, RequestNo, SnapshotFault};
 use plan_json::{Json, JsonFault, Member, object};
 use std::alloc::AllocError;
-
-/// A member, which is written as its name.
-#[derive(Clone, Copy)]
-struct MemberWord(Member);
-
-impl Json for MemberWord {
-    ghost value = { λ word. string (name_of word.0) };
-
-    ghost levels = { 0 };
-
-    fn write(&self, out: &mut Vec<u8>) -> Result<(), AllocError> {
-        self.0.name().write(out)
-    }
-}
 
 /// What is counted, which is written as its name.
 #[derive(Clone, Copy)]
@@ -47,7 +32,7 @@ struct FaultFields {
     count: Option<u64>,
     group: Option<u32>,
     index: Option<u32>,
-    member: Option<MemberWord>,
+    member: Option<Member>,
     request: Option<u32>,
     telescope: Option<u16>,
     what: Option<CountedWord>,
@@ -158,7 +143,7 @@ fn json_fields(fault: JsonFault) -> FaultFields
         | JsonFault::NotWhole { member }
         | JsonFault::OutOfRange { member }
         | JsonFault::BadMoment { member } => FaultFields {
-            member: Some(MemberWord(member)),
+            member: Some(member),
             ..NO_FIELDS
         },
         JsonFault::NotJson | JsonFault::NotObject | JsonFault::NoMemory => NO_FIELDS,

@@ -3,29 +3,14 @@
 ghost use Rattle.std.specs.Prelude.{◌≡◌};
 ghost use Rattle.serde_json.specs.Data.{null};
 ghost use Rattle.plan_json.specs.Adds.{AddsNested};
-ghost use Rattle.rapid.specs.Written.{placed_data, request_number_data, inserted_data, not_single_data, refusal_data};
+ghost use Rattle.rapid.specs.Written.{placed_data, inserted_data, not_single_data, refusal_data};
 
 use crate::fault::RapidFault;
 use crate::inserted::Inserted;
 use plan_base::{Claim, GroupNo, ListOf, RequestNo};
 use plan_doc::{ClaimDoc, DocFault, InDocument};
-use plan_json::{Each, Form, Json, object, word};
+use plan_json::{Form, Json, object, word};
 use std::alloc::AllocError;
-
-/// Requests as their numbers.
-#[derive(Drop)]
-struct Numbers;
-
-impl Form<RequestNo> for Numbers {
-    ghost value_of = { λ _. request_number_data };
-
-    ghost levels = { 0 };
-
-    #[inline]
-    fn write_value(&self, request: &RequestNo, out: &mut Vec<u8>) -> Result<(), AllocError> {
-        request.0.write(out)
-    }
-}
 
 /// Where a request is placed: request, telescope and slice, or `null`.
 #[derive(Clone, Copy)]
@@ -71,7 +56,7 @@ impl<'a> Json for InsertedDoc<'a> {
     fn write(&self, out: &mut Vec<u8>) -> Result<(), AllocError> {
         object!(
             "claim": ClaimDoc(self.claim),
-            "displaced": Each { form: Numbers, items: self.displaced },
+            "displaced": self.displaced,
             "placed": PlacedDoc(self.inserted),
         )
         .write(out)

@@ -12,7 +12,7 @@ ghost use Rattle.desk_events.specs.declared.refusal.Refusal.TheVariants as refus
 
 use crate::entry::EventEntry;
 use crate::refusal::{FullOf, Refusal};
-use crate::write::words::{AccountWord, MemberName, StateWord};
+use crate::write::words::{AccountWord, StateWord};
 use allocations::Account;
 use plan_base::{Op, RequestNo, RequestState, Sec};
 use plan_json::{Member, object, word, write_json};
@@ -54,7 +54,7 @@ pub(crate) fn of_member(
     let object = object!(
         "caller": entry.caller,
         "line": entry.line,
-        "member": MemberName(member),
+        "member": member,
         "no": number,
         "refused": name,
         "version": entry.version,

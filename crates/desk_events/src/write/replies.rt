@@ -9,11 +9,10 @@ ghost use Rattle.desk_events.specs.declared.reply.Reply.TheVariants as reply;
 
 use crate::entry::EventEntry;
 use crate::reply::{AccountBalance, GroupRefund, MemberState};
-use crate::write::values::ByNumber;
 use crate::write::words::StateWord;
 use plan_base::{Claim, GroupNo, ListOf, RequestNo, RequestState, Snapshot, TelescopeNo};
 use plan_doc::{ClaimDoc, SnapshotDoc};
-use plan_json::{Each, object, word, write_json};
+use plan_json::{object, word, write_json};
 use request_model::GroupDoc;
 use std::alloc::AllocError;
 
@@ -83,7 +82,7 @@ pub(crate) fn submitted(
         "ipp_charged": ipp_charged,
         "line": entry.line,
         "ok": word!("submitted"),
-        "requests": Each { form: ByNumber, items: requests },
+        "requests": requests,
         "version": entry.version,
     );
     write_json(&object, out)
@@ -110,7 +109,7 @@ pub(crate) fn amended(
         "ok": word!("amended"),
         "refunded": refunded,
         "replaces": replaces.0,
-        "requests": Each { form: ByNumber, items: requests },
+        "requests": requests,
         "version": entry.version,
     );
     write_json(&object, out)
@@ -149,12 +148,12 @@ pub(crate) fn clocked(
 {
     let object = object!(
         "caller": entry.caller,
-        "expired": Each { form: ByNumber, items: expired },
-        "failed": Each { form: ByNumber, items: failed },
+        "expired": expired,
+        "failed": failed,
         "line": entry.line,
         "ok": word!("clocked"),
         "refunded": refunded,
-        "started": Each { form: ByNumber, items: started },
+        "started": started,
         "version": entry.version,
     );
     write_json(&object, out)
@@ -172,7 +171,7 @@ pub(crate) fn completed(
 {
     let object = object!(
         "caller": entry.caller,
-        "canceled": Each { form: ByNumber, items: canceled },
+        "canceled": canceled,
         "charged": charged,
         "line": entry.line,
         "ok": word!("completed"),
@@ -193,7 +192,7 @@ pub(crate) fn failed(
 {
     let object = object!(
         "caller": entry.caller,
-        "expired": Each { form: ByNumber, items: expired },
+        "expired": expired,
         "line": entry.line,
         "ok": word!("failed"),
         "refunded": refunded,

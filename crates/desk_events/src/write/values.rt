@@ -1,28 +1,11 @@
 // The items of a reply's lists.
 
-ghost use Rattle.plan_json.specs.Values.{whole};
 ghost use Rattle.desk_events.specs.Replied.{refund_data, balance_data, member_state_data};
 
 use crate::reply::{AccountBalance, GroupRefund, MemberState};
 use crate::write::words::{AccountWord, StateWord};
-use plan_base::RequestNo;
-use plan_json::{Form, Json, object};
+use plan_json::{Json, object};
 use std::alloc::AllocError;
-
-/// Requests by their numbers.
-#[derive(Drop)]
-pub(crate) struct ByNumber;
-
-impl Form<RequestNo> for ByNumber {
-    ghost value_of = { λ _ request. whole request.0 };
-
-    ghost levels = { 0 };
-
-    #[inline]
-    fn write_value(&self, request: &RequestNo, out: &mut Vec<u8>) -> Result<(), AllocError> {
-        request.0.write(out)
-    }
-}
 
 impl Json for GroupRefund {
     ghost value = { refund_data };

@@ -2,13 +2,12 @@
 
 ghost use Rattle.std.specs.Prelude.{◌≡◌};
 ghost use Rattle.serde_json.specs.Data.{string};
-ghost use Rattle.plan_json.specs.Member.{name_of};
 ghost use Rattle.desk_events.specs.Words.{state_word, account_word, full_word};
 
 use crate::refusal::FullOf;
 use allocations::Account;
 use plan_base::RequestState;
-use plan_json::{Json, Member};
+use plan_json::Json;
 use std::alloc::AllocError;
 
 fn state_word(state: RequestState) -> &'static str
@@ -83,19 +82,5 @@ impl Json for AccountWord {
 
     fn write(&self, out: &mut Vec<u8>) -> Result<(), AllocError> {
         account_word(self.0).write(out)
-    }
-}
-
-/// A member of a document by its name.
-#[derive(Drop)]
-pub(crate) struct MemberName(pub(crate) Member);
-
-impl Json for MemberName {
-    ghost value = { λ member. string (name_of member.0) };
-
-    ghost levels = { 0 };
-
-    fn write(&self, out: &mut Vec<u8>) -> Result<(), AllocError> {
-        self.0.name().write(out)
     }
 }

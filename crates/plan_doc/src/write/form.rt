@@ -3,11 +3,9 @@
 ghost use Rattle.std.specs.Prelude.{◌≡◌, option_map};
 ghost use Rattle.plan_json.specs.Values.{whole, list_of};
 ghost use Rattle.plan_doc.specs.Written.{placement_data, unless_empty, numbers_given, telescope_data};
-ghost use Rattle.plan_doc.specs.Written.{sky_data, telescope_number_data, target_number_data, request_data, group_data};
+ghost use Rattle.plan_doc.specs.Written.{sky_data, request_data, group_data};
 
-use plan_base::{
-    GroupPart, ListOf, Placement, RequestPart, Sky, TargetNo, TelescopeNo, TelescopePart,
-};
+use plan_base::{GroupPart, Placement, RequestPart, Sky, TelescopePart};
 use plan_json::{Each, Form, Json, above_0, object};
 use std::alloc::AllocError;
 
@@ -28,28 +26,6 @@ impl Form<Placement> for InDocument {
             placement.slice.0,
         )
             .write(out)
-    }
-}
-
-impl Form<TelescopeNo> for InDocument {
-    ghost value_of = { λ _. telescope_number_data };
-
-    ghost levels = { 0 };
-
-    #[inline]
-    fn write_value(&self, telescope: &TelescopeNo, out: &mut Vec<u8>) -> Result<(), AllocError> {
-        telescope.0.write(out)
-    }
-}
-
-impl Form<TargetNo> for InDocument {
-    ghost value_of = { λ _. target_number_data };
-
-    ghost levels = { 0 };
-
-    #[inline]
-    fn write_value(&self, target: &TargetNo, out: &mut Vec<u8>) -> Result<(), AllocError> {
-        target.0.write(out)
     }
 }
 
@@ -84,8 +60,8 @@ impl Form<RequestPart> for InDocument {
             "fade"?: &fade,
             "request": request.request.0,
             "seconds": request.seconds,
-            "targets": Each { form: InDocument, items: &request.targets },
-            "telescopes": Each { form: InDocument, items: &request.telescopes },
+            "targets": &request.targets,
+            "telescopes": &request.telescopes,
             "value": request.value,
             "windows": &request.windows,
         )

@@ -5,11 +5,13 @@ ghost use Rattle.std.specs.Prelude.{◌≡◌, ℕ, IsTrue, option_map, unwrap_o
 ghost use Rattle.serde_json.specs.Data.{Data, null, boolean, string};
 ghost use Rattle.plan_json.specs.Adds.{AddsNested};
 ghost use Rattle.plan_json.specs.Literals.{word_in, is_word};
+ghost use Rattle.plan_json.specs.Member.{name_of};
 ghost use Rattle.plan_json.specs.Values.{whole, integer, above_0};
 
+use crate::member::Member;
 use crate::write::bytes::{put, put_number, put_signed};
 use crate::write::quoted::put_quoted;
-use plan_base::{Name, Sec};
+use plan_base::{Name, RequestNo, Sec, TargetNo, TelescopeNo};
 use std::alloc::AllocError;
 
 /// What is written as a JSON value. A type implements it by the value as data, and by how deep its lists and objects
@@ -128,6 +130,53 @@ impl Json for Sec {
     #[inline]
     fn write(&self, out: &mut Vec<u8>) -> Result<(), AllocError> {
         self.0.write(out)
+    }
+}
+
+/// A request is written as its number.
+impl Json for RequestNo {
+    ghost value = { λ request. whole request.0 };
+
+    ghost levels = { 0 };
+
+    #[inline]
+    fn write(&self, out: &mut Vec<u8>) -> Result<(), AllocError> {
+        self.0.write(out)
+    }
+}
+
+/// A telescope is written as its number.
+impl Json for TelescopeNo {
+    ghost value = { λ telescope. whole telescope.0 };
+
+    ghost levels = { 0 };
+
+    #[inline]
+    fn write(&self, out: &mut Vec<u8>) -> Result<(), AllocError> {
+        self.0.write(out)
+    }
+}
+
+/// A target is written as its number.
+impl Json for TargetNo {
+    ghost value = { λ target. whole target.0 };
+
+    ghost levels = { 0 };
+
+    #[inline]
+    fn write(&self, out: &mut Vec<u8>) -> Result<(), AllocError> {
+        self.0.write(out)
+    }
+}
+
+/// A member is written as its name.
+impl Json for Member {
+    ghost value = { λ member. string (name_of member) };
+
+    ghost levels = { 0 };
+
+    fn write(&self, out: &mut Vec<u8>) -> Result<(), AllocError> {
+        self.name().write(out)
     }
 }
 
