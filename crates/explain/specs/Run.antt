@@ -10,7 +10,7 @@ use Rattle.plan_doc.specs.Publication.{publication_of_bytes}
 use Rattle.plan_doc.specs.Check.{IsRefused}
 use Rattle.plan_doc.specs.Reason.{verdict_data}
 use Rattle.plan_doc.specs.Refusal.{fault_data}
-use Rattle.plan_doc.specs.Line.{line_of}
+use Rattle.plan_json.specs.Line.{line_of}
 use Rattle.explain.specs.declared.answer.Left.{Left}
 use Rattle.explain.specs.declared.answer.ExplainAnswer.{ExplainAnswer}
 use Rattle.explain.specs.declared.answer.ExplainAnswer.TheVariants.{Explained, No}

@@ -3,7 +3,7 @@ use Rattle.std.specs.Prelude.{ℕ, List, [], ◌∷◌, codes}
 use Rattle.std.specs.List.{flat_map}
 use Rattle.serde_json.specs.Data.{Data, null, boolean}
 use Rattle.plan_json.specs.Values.{whole, integer, list_of, has, object_of}
-use Rattle.plan_doc.specs.Line.{line_of}
+use Rattle.plan_json.specs.Line.{line_of}
 use Rattle.plan_doc.specs.Written.{placement_data}
 use Rattle.explain.specs.declared.answer.Forced.{Forced}
 use Rattle.explain.specs.declared.answer.Forced.TheVariants.{NoStart, Bound}

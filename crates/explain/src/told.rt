@@ -1,7 +1,7 @@
 // What is said of the requests that a claim leaves out, as it is written.
 
 ghost use Rattle.std.specs.Prelude.{◌≡◌, ◌++◌, OnOk, IfOk};
-ghost use Rattle.plan_doc.specs.Line.{line_of};
+ghost use Rattle.plan_json.specs.Line.{line_of};
 ghost use Rattle.plan_base.specs.declared.verdict.Verdict.TheVariants as judged;
 ghost use Rattle.plan_doc.specs.Reason.{verdict_data};
 ghost use Rattle.plan_io.specs.declared.document.Said.TheVariants as said;
@@ -10,9 +10,9 @@ ghost use Rattle.explain.specs.Told.{forced_data, left_data, lines_of_lefts};
 
 use crate::answer::{Explanation, Forced, Left};
 use plan_base::{Claim, Verdict};
-use plan_doc::{InDocument, VerdictDoc, add_line};
+use plan_doc::{InDocument, VerdictDoc};
 use plan_io::{Answer, Said};
-use plan_json::{Each, Json, object};
+use plan_json::{Each, Json, add_line, object};
 use std::alloc::{AllocError, Global};
 
 /// What is said of a request, beside the value of the claim that leaves it out, as an object.

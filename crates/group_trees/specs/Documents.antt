@@ -16,7 +16,7 @@ use Rattle.plan_doc.specs.Fault.{in_document}
 use Rattle.plan_doc.specs.Claim.{claim_of}
 use Rattle.plan_doc.specs.Snapshot.{snapshot_of}
 use Rattle.plan_doc.specs.Refusal.{fault_data}
-use Rattle.plan_doc.specs.Line.{line_of}
+use Rattle.plan_json.specs.Line.{line_of}
 use Rattle.group_trees.specs.declared.fault.ForestFault.{ForestFault}
 use Rattle.group_trees.specs.declared.fault.ForestFault.TheVariants as fault
 use Rattle.group_trees.specs.declared.asked.AskFault.{AskFault}

@@ -15,7 +15,7 @@ use Rattle.plan_doc.specs.declared.publication.Publication.{Publication}
 use Rattle.plan_doc.specs.Publication.{publication_of_bytes}
 use Rattle.plan_doc.specs.Reason.{verdict_data}
 use Rattle.plan_doc.specs.Refusal.{fault_data}
-use Rattle.plan_doc.specs.Line.{line_of}
+use Rattle.plan_json.specs.Line.{line_of}
 
 -- no feasible plan is worth more than the bound of a Yes
 abbrev pub IsBounding : Publication → Verdict → Type 0

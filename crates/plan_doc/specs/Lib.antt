@@ -7,5 +7,4 @@ pub mod Ranges
 pub mod Laws
 pub mod Reason
 pub mod Refusal
-pub mod Line
 pub mod Check

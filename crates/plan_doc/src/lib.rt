@@ -20,6 +20,4 @@ pub use laws::{
 pub use publication::Publication;
 pub use read::{read_claim, read_groups, read_publication, read_publication_bytes, read_snapshot};
 pub use reason::{ReasonFields, VerdictDoc, reason_fields, reason_name};
-pub use write::{
-    ClaimDoc, InDocument, SnapshotDoc, add_line, answer_line, write_claim, write_snapshot,
-};
+pub use write::{ClaimDoc, InDocument, SnapshotDoc, answer_line, write_claim, write_snapshot};

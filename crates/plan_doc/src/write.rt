@@ -7,5 +7,5 @@ mod snapshot;
 
 pub use claim::{ClaimDoc, write_claim};
 pub use form::InDocument;
-pub use line::{add_line, answer_line};
+pub use line::answer_line;
 pub use snapshot::{SnapshotDoc, write_snapshot};

@@ -21,6 +21,7 @@ pub use list::DocList;
 pub use member::Member;
 pub use moment::moments_are_read;
 pub use write::{
-    Each, End, Form, Json, Members, Named, Object, Perhaps, Word, above_0, json_text, write_json,
+    Each, End, Form, Json, Members, Named, Object, Perhaps, Word, above_0, add_line, json_text,
+    line_text, write_json,
 };
 pub use writer::Writer;

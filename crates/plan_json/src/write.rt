@@ -9,5 +9,5 @@ mod value;
 
 pub use list::{Each, Form};
 pub use object::{End, Members, Named, Object, Perhaps};
-pub use text::{json_text, write_json};
+pub use text::{add_line, json_text, line_text, write_json};
 pub use value::{Json, Word, above_0};

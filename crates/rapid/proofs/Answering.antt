@@ -9,7 +9,7 @@ use Rattle.plan_io.specs.declared.document.Said.{Said}
 use Rattle.plan_io.specs.declared.document.Said.TheVariants as said
 use Rattle.plan_io.specs.declared.document.Answer.{Answer}
 use Rattle.plan_doc.specs.Reason.{reason_data}
-use Rattle.plan_doc.specs.Line.{line_of}
+use Rattle.plan_json.specs.Line.{line_of}
 use Rattle.rapid.specs.declared.document.RapidDocument.{RapidDocument}
 use Rattle.rapid.specs.declared.rapid.RapidAnswer.{RapidAnswer}
 use Rattle.rapid.specs.declared.rapid.RapidAnswer.TheVariants.{Ready, No}

@@ -4,7 +4,7 @@ use Rattle.plan_base.specs.declared.parts.GroupPart.{GroupPart}
 use Rattle.plan_io.specs.declared.document.Answer.{Answer}
 use Rattle.plan_io.specs.declared.document.Said.{Said}
 use Rattle.plan_io.specs.declared.document.Said.TheVariants as said
-use Rattle.plan_doc.specs.Line.{line_of}
+use Rattle.plan_json.specs.Line.{line_of}
 use Rattle.rapid.specs.declared.fault.RapidFault.{RapidFault}
 use Rattle.rapid.specs.declared.fault.RapidFault.TheVariants.{NoMemory}
 use Rattle.rapid.specs.declared.inserted.Inserted.{Inserted}

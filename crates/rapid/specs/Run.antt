@@ -10,7 +10,7 @@ use Rattle.plan_doc.specs.declared.fault.DocFault.{DocFault}
 use Rattle.plan_doc.specs.declared.fault.DocFault.TheVariants as doc
 use Rattle.plan_doc.specs.Reason.{reason_data}
 use Rattle.plan_doc.specs.Refusal.{fault_data}
-use Rattle.plan_doc.specs.Line.{line_of}
+use Rattle.plan_json.specs.Line.{line_of}
 use Rattle.rapid.specs.declared.fault.RapidFault.{RapidFault}
 use Rattle.rapid.specs.declared.inserted.Inserted.{Inserted}
 use Rattle.rapid.specs.declared.document.RapidDocument.{RapidDocument}

@@ -13,8 +13,9 @@ use crate::fault::RapidFault;
 use crate::rapid::{Rapid, RapidAnswer};
 use crate::written::InsertedDoc;
 use plan_base::{GroupPart, Verdict};
-use plan_doc::{DocFault, VerdictDoc, add_line, answer_line};
+use plan_doc::{DocFault, VerdictDoc, answer_line};
 use plan_io::{Answer, Answers, Said, Sink, Source, Status, run_document};
+use plan_json::add_line;
 use std::alloc::{AllocError, Global};
 
 /// Inserts a group, and adds the line of that.

@@ -16,7 +16,7 @@ use Rattle.plan_io.specs.Words.{IsOneWord}
 use Rattle.plan_io.specs.Reading.{ReadsAll, ReadsFirst}
 use Rattle.plan_io.specs.Sink.{Adds, Puts}
 use Rattle.plan_json.specs.declared.member.Member.TheVariants as member
-use Rattle.plan_json.specs.Adds.{text_of}
+use Rattle.plan_json.specs.Line.{line_of}
 use Rattle.plan_json.specs.Object.{document_of, member_of}
 use Rattle.plan_json.specs.Values.{has, whole, object_of}
 use Rattle.plan_json.specs.Whole.{number_in}
@@ -85,7 +85,7 @@ no_caller_data number = object_of (has (codes "line") (whole number) ∷ has (co
 
 -- its text, one line
 abbrev pub no_caller_text : ℕ → List ℕ
-no_caller_text number = text_of (no_caller_data number) ++ 10 ∷ []
+no_caller_text number = line_of (no_caller_data number)
 
 -- ---- both
 

@@ -1,10 +1,10 @@
 -- The summary of what was replied to the lines of a workload.
-use Rattle.std.specs.Prelude.{◌≡◌, ℕ, ◌+◌, List, [], ◌∷◌, ◌++◌, length, map, count_by, sum_by, Bool, true, false, Option, Some, None, codes}
+use Rattle.std.specs.Prelude.{◌≡◌, ℕ, ◌+◌, List, [], ◌∷◌, length, map, count_by, sum_by, Bool, true, false, Option, Some, None, codes}
 use Rattle.std.specs.List.{filter_map, last_or}
 use Rattle.std.specs.Option.{option_map_or}
 use Rattle.serde_json.specs.Data.{Data}
 use Rattle.plan_base.specs.declared.claim.Claim.{Claim}
-use Rattle.plan_json.specs.Adds.{text_of}
+use Rattle.plan_json.specs.Line.{line_of}
 use Rattle.plan_json.specs.Values.{has, whole, object_of}
 use Rattle.plan_io.specs.declared.lines.ScriptLine.{ScriptLine}
 use Rattle.plan_io.specs.declared.lines.ScriptLine.TheVariants.{Bytes}
@@ -67,7 +67,7 @@ summary_data s =
 
 -- one line
 abbrev pub summary_text : Summary → List ℕ
-summary_text s = text_of (summary_data s) ++ 10 ∷ []
+summary_text s = line_of (summary_data s)
 
 -- ---- a workload
 

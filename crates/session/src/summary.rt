@@ -1,10 +1,9 @@
 //! What was replied to the lines of a workload, in one line.
 ghost use Rattle.std.specs.Prelude.{◌≡◌, ◌+◌, IfOk};
-ghost use Rattle.plan_json.specs.Adds.{text_of};
 ghost use Rattle.session.specs.Summary.{summary_data, summary_text, with_reply, with_line};
 
 use desk_events::Reply;
-use plan_json::{json_text, object};
+use plan_json::{line_text, object};
 use std::alloc::{AllocError, Global};
 
 /// What was replied to some lines.
@@ -72,10 +71,10 @@ pub(crate) fn with_line(summary: Summary, reply: &Reply) -> Result<Summary, Allo
     with_reply(Summary { lines, ..summary }, reply)
 }
 
-/// The summary as an object.
+/// The summary as a line, with its newline.
 #[tactic(auto, unfolding(crate::specs::Summary::summary_data))]
-fn object_text(alloc: Global, summary: Summary) -> Result<Vec<u8>, AllocError>
-    ensures { IfOk result (λ text. text.items ≡ text_of (summary_data summary)) }
+pub(crate) fn summary_text(alloc: Global, summary: Summary) -> Result<Vec<u8>, AllocError>
+    ensures { IfOk result (λ text. text.items ≡ summary_text summary) }
 {
     let object = object!(
         "bound": summary.bound,
@@ -84,14 +83,5 @@ fn object_text(alloc: Global, summary: Summary) -> Result<Vec<u8>, AllocError>
         "requests": summary.requests,
         "value": summary.value,
     );
-    json_text(alloc, &object)
-}
-
-/// The summary as a line, with its newline.
-pub(crate) fn summary_text(alloc: Global, summary: Summary) -> Result<Vec<u8>, AllocError>
-    ensures { IfOk result (λ text. text.items ≡ summary_text summary) }
-{
-    let mut text = object_text(alloc, summary)?;
-    text.push(b'\n')?;
-    Ok(text)
+    line_text(alloc, &object)
 }

@@ -1,7 +1,6 @@
 //! What is written of a history, and of a line that names no caller.
 ghost use Rattle.std.specs.Prelude.{◌≡◌, ℕ, ◌<◌, [], length, IfOk, OnOk, OnErr};
 ghost use Rattle.plan_io.specs.Sink.{IsPutCause};
-ghost use Rattle.plan_json.specs.Adds.{text_of};
 ghost use Rattle.desk_core.specs.Kept.{IsState};
 ghost use Rattle.desk_book.specs.Kept.{IsBook};
 ghost use Rattle.desk_book.specs.Seen.{IsOver};
@@ -13,28 +12,19 @@ use crate::replies::{write_many, write_replies};
 use desk_book::Book;
 use desk_events::write_entry;
 use plan_io::{PutAnswer, Sink, Status, put};
-use plan_json::{json_text, object};
+use plan_json::{line_text, object};
 use std::alloc::{AllocError, Global};
 
-/// The object that says which line names no caller.
+/// The line that says which line names no caller, with its newline.
 #[tactic(auto, unfolding(crate::specs::Live::no_caller_data))]
-fn no_caller_object(alloc: Global, number: u32) -> Result<Vec<u8>, AllocError>
-    ensures { IfOk result (λ text. text.items ≡ text_of (no_caller_data number)) }
+fn no_caller_text(alloc: Global, number: u32) -> Result<Vec<u8>, AllocError>
+    ensures { IfOk result (λ text. text.items ≡ no_caller_text number) }
 {
     let object = object!(
         "line": number,
         "no": Status::NoCaller.number(),
     );
-    json_text(alloc, &object)
-}
-
-/// The line that says which line names no caller, with its newline.
-fn no_caller_text(alloc: Global, number: u32) -> Result<Vec<u8>, AllocError>
-    ensures { IfOk result (λ text. text.items ≡ no_caller_text number) }
-{
-    let mut text = no_caller_object(alloc, number)?;
-    text.push(b'\n')?;
-    Ok(text)
+    line_text(alloc, &object)
 }
 
 /// Writes which line names no caller.

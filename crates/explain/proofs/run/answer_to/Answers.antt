@@ -2,7 +2,7 @@ use Rattle.std.proofs.Common.{◌≡◌, Result, Ok, Err, IfOk, sym, subst}
 use Rattle.plan_base.specs.declared.verdict.Verdict.TheVariants as judged
 use Rattle.plan_io.specs.declared.document.Said.{Said}
 use Rattle.plan_io.specs.declared.document.Said.TheVariants as said
-use Rattle.plan_doc.specs.Line.{line_of}
+use Rattle.plan_json.specs.Line.{line_of}
 use Rattle.plan_doc.specs.Reason.{verdict_data}
 use Rattle.explain.specs.declared.answer.ExplainAnswer.TheVariants.{No}
 use Rattle.explain.specs.Left.{IsExplainAnswer}
