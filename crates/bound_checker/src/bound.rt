@@ -61,8 +61,9 @@ fn best_sum(alloc: Global, snapshot: &Snapshot, prices: &Prices) -> Result<i64, 
     Ok(sum.value)
 }
 
-/// The sum of the rebates of all groups.
-fn rebate_sum(snapshot: &Snapshot, prices: &Prices, quota_prices: &QuotaPrices) -> i64
+/// The sum of the rebates of all groups, from 0 to 1,048,576,000,000,000,000. There is one price for each request, from
+/// -10^12 to 10^12, and no quota price is above 200,000; what is missing in the list of quota prices stands for 0.
+pub fn rebate_sum(snapshot: &Snapshot, prices: &Prices, quota_prices: &QuotaPrices) -> i64
     requires count { length prices.now.0 ≡ length (listed snapshot.now) }
     requires range { All IsPriceInRange prices.now.0 }
     requires quota_range { All (λ u. u ≤ most_quota_price) quota_prices.now.0 }

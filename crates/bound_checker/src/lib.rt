@@ -20,7 +20,7 @@ mod verdict;
 mod worth;
 
 pub use best::best_of;
-pub use bound::bound_of;
+pub use bound::{bound_of, rebate_sum};
 pub use known::{known_group, request_of};
 pub use nets::{cost_of, price_of};
 pub use quotas::known_quota;

@@ -1,6 +1,6 @@
 // Whether a placement is a possible start, by whole observations inside single spans.
 
-ghost use Rattle.std.specs.Prelude.{◌≡◌, ◌<◌, ◌≤◌, ◌+◌, ◌*◌, ◌↔◌, ◌^◌, length, All, Contains, MatchOption, IsTrue};
+ghost use Rattle.std.specs.Prelude.{◌≡◌, ◌<◌, ◌≤◌, ◌+◌, ◌*◌, ◌↔◌, ◌^◌, length, All, MatchOption, IsTrue};
 ghost use Rattle.plan_base.specs.Limits.{most_seconds};
 ghost use Rattle.plan_base.specs.Requests.{IsKnown};
 ghost use Rattle.plan_base.specs.Starts.{IsPossibleStart, slices_for};
@@ -12,6 +12,7 @@ ghost use Rattle.bound_checker.specs.Claims.{IsEachKnown, CanObserve};
 
 use crate::known::request_of;
 use crate::sight::find_sky;
+use crate::starts::has_telescope;
 use crate::stretches::first_to;
 use plan_base::{
     Parts, Placement, RequestPart, Sec, SiteNo, SliceNo, Snapshot, Span, TargetNo, TelescopeNo,
@@ -38,7 +39,7 @@ fn is_possible(snapshot: &Snapshot, placement: Placement) -> bool
 {
     let parts = snapshot.parts();
     let request = request_of(snapshot, placement.request);
-    if !is_able(request, placement.telescope) {
+    if !has_telescope(request.telescopes.as_slice(), placement.telescope) {
         return false;
     }
     if !is_within_horizon(parts, request, placement.slice) {
@@ -46,13 +47,6 @@ fn is_possible(snapshot: &Snapshot, placement: Placement) -> bool
     }
     let observed = observed_span(parts, request, placement.slice);
     can_observe(parts, request, placement.telescope, observed)
-}
-
-/// Whether the telescope is one of the request's.
-fn is_able(request: &RequestPart, telescope: TelescopeNo) -> bool
-    ensures { IsTrue result ↔ Contains request.now.telescopes telescope }
-{
-    request.telescopes.as_slice().contains(&telescope)
 }
 
 /// Whether the slices of the request lie within the horizon where it begins at this one.

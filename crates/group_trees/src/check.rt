@@ -1,11 +1,10 @@
 // The verdict on a claim with a forest.
 
-ghost use Rattle.std.specs.Prelude.{◌≡◌, ◌≤◌, ◌<◌, ◌^◌, ℕ, pos, ◌+ℤ◌, ◌≤ℤ◌, List, length, All, IfOk};
+ghost use Rattle.std.specs.Prelude.{◌≡◌, ◌≤◌, ◌<◌, ℕ, pos, ◌+ℤ◌, ◌≤ℤ◌, List, length, All, IfOk};
 ghost use Rattle.plan_base.specs.declared.claim.Placement.{Placement};
-ghost use Rattle.plan_base.specs.Limits.{most_quota_price};
+ghost use Rattle.plan_base.specs.Limits.{bound_limit};
 ghost use Rattle.plan_base.specs.Requests.{listed};
 ghost use Rattle.plan_base.specs.Starts.{value_of_plan};
-ghost use Rattle.plan_base.specs.Bound.{net_price, IsRebate};
 ghost use Rattle.plan_base.specs.Verdict.{IsPriceInRange};
 ghost use Rattle.bound_checker.specs.Summed.{IsSummed, IsPartSum};
 ghost use Rattle.group_trees.specs.Plans.{IsForestFeasible};
@@ -20,8 +19,8 @@ use crate::rebate::tree_rebate;
 use crate::standing::first_not_allowed;
 use crate::turned::{Turned, turn};
 use crate::verdict::{ForestReason, ForestVerdict};
-use bound_checker::{check, rebate_of};
-use plan_base::{Claim, Prices, QuotaPrices, Snapshot, Sum, bound_limit};
+use bound_checker::{check, rebate_sum};
+use plan_base::{Claim, Prices, Snapshot, Sum, bound_limit};
 use std::alloc::{AllocError, Global};
 
 /// Whether a claim is certified for a forest: Yes with its value and bound, or No with the first reason against it, in the
@@ -127,36 +126,20 @@ fn forest_bound(forest: &Forest<'_>, claim: &Claim, found: u64) -> u64
     forest.recall_sound();
     let snapshot = forest.snapshot();
     bound_limit(snapshot, &claim.prices, &claim.quota_prices);
-    let groups = group_rebates(snapshot, &claim.prices, &claim.quota_prices);
+    let groups = rebate_sum(snapshot, &claim.prices, &claim.quota_prices);
     let trees = tree_rebates(forest, &claim.prices);
     replaced(found, groups, trees)
 }
 
 /// A bound with other rebates than it had.
-fn replaced(bound: u64, old: Sum, new: Sum) -> u64
-    requires bound { bound < 10 ^ 17 }
-    requires old { pos 0 ≤ℤ old.value }
-    requires within { old.value ≤ℤ pos bound }
+fn replaced(bound: u64, old: i64, new: Sum) -> u64
+    requires bound { bound < bound_limit }
+    requires old { pos 0 ≤ℤ old }
+    requires within { old ≤ℤ pos bound }
     requires new { IsPartSum new.value }
-    ensures { pos result +ℤ old.value ≡ pos bound +ℤ new.value }
+    ensures { pos result +ℤ old ≡ pos bound +ℤ new.value }
 {
-    (bound as i64 - old.value + new.value) as u64
-}
-
-/// The sum of the rebates of all groups.
-fn group_rebates(snapshot: &Snapshot, prices: &Prices, quota_prices: &QuotaPrices) -> Sum
-    requires count { length prices.now.0 ≡ length (listed snapshot.now) }
-    requires range { All IsPriceInRange prices.now.0 }
-    requires quota_range { All (λ u. u ≤ most_quota_price) quota_prices.now.0 }
-    ensures { IsSummed (length snapshot.now.groups)
-        (IsRebate snapshot.now (net_price snapshot.now prices.now.0 quota_prices.now.0)) 1024000000000000 result.value }
-{
-    let mut sum = Sum { value: 0 };
-    for group in 0..snapshot.parts().groups.len() {
-        snapshot.recall_valid();
-        sum.value += rebate_of(snapshot, group, prices, quota_prices);
-    }
-    sum
+    (bound as i64 - old + new.value) as u64
 }
 
 /// The sum of the rebates of all trees.

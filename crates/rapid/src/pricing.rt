@@ -1,6 +1,7 @@
 // The price of a new request, and the bound with it.
 
-ghost use Rattle.std.specs.Prelude.{◌≡◌, ◌∷◌, ◌++◌, ◌<◌, ◌^◌, [], ℤ, pos, ◌+ℤ◌, ◌-ℤ◌, ◌≤ℤ◌, IfOk};
+ghost use Rattle.std.specs.Prelude.{◌≡◌, ◌∷◌, ◌++◌, ◌<◌, [], ℤ, pos, ◌+ℤ◌, ◌-ℤ◌, ◌≤ℤ◌, IfOk};
+ghost use Rattle.plan_base.specs.Limits.{bound_limit};
 ghost use Rattle.plan_base.specs.Bound.{IsBound};
 ghost use Rattle.plan_base.specs.Verdict.{IsPriceInRange};
 ghost use Rattle.bound_checker.specs.Summed.{IsPartSum};
@@ -35,7 +36,7 @@ fn with_price(alloc: Global, prices: &Prices, price: i64) -> Result<Prices, Allo
 
 /// The bound where the sum of the bests is a new one, and one more group has a rebate.
 fn mended_bound(bound: u64, old: i64, new: i64, rebate: i64) -> u64
-    requires bound { bound < 10 ^ 17 }
+    requires bound { bound < bound_limit }
     requires old { IsPartSum old }
     requires new { IsPartSum new }
     requires rebate { IsPartSum rebate }

@@ -14,7 +14,8 @@ pub can_observe-requires-clause-telescope : goal.can_observe-requires-clause-tel
 can_observe-requires-clause-telescope c =
     subst (λ (s : Parts). c.args.placement.telescope.0 < length s.telescopes) (sym c.parts-parts.ensures.value)
     (All-contains (λ t. t.0 < length c.args.snapshot.now.telescopes) c.request_of-request.result.now.telescopes c.args.placement.telescope
-    c.request_of-request.ensures.ranges.telescopes (c.is_able.ensures.0 c.if-not-is_able.false))
+    c.request_of-request.ensures.ranges.telescopes (subst (λ (ts : List TelescopeNo). Contains ts c.args.placement.telescope) c.as_slice.ensures
+    (c.has_telescope.ensures.0 c.if-not-has_telescope.false)))
 
 pub returns : goal.returns
 returns c =
@@ -31,7 +32,7 @@ returns c =
     (c.is_within_horizon.ensures.0 c.if-not-is_within_horizon.false)
     in (
       λ yes. possible_from_tests s p q a b c.requires c.request_of-request.ensures.is from to record {
-        able = c.is_able.ensures.0 c.if-not-is_able.false;
+        able = subst (λ (ts : List TelescopeNo). Contains ts p.telescope) c.as_slice.ensures (c.has_telescope.ensures.0 c.if-not-has_telescope.false);
         begins = horizon.0;
         ends = horizon.1;
         observed = subst (λ (x : Parts). CanObserve x q p.telescope.0 a b) same (c.can_observe.ensures.0 yes);
@@ -41,13 +42,14 @@ returns c =
           (tests_from_possible s p q a b c.requires c.request_of-request.ensures.is from to c.parts-parts.ensures.orderly possible).observed),
     )
 
-pub returns-then-not-is_able : goal.returns-then-not-is_able
-returns-then-not-is_able c = (
+pub returns-then-not-has_telescope : goal.returns-then-not-has_telescope
+returns-then-not-has_telescope c = (
   λ yes. absurd (cc),
   λ possible.
       let able : Contains c.request_of-request.result.now.telescopes c.args.placement.telescope =
       subst (λ (ts : List TelescopeNo). Contains ts c.args.placement.telescope) c.request_of-request.ensures.is.telescopes possible.able in
-      sym c.if-not-is_able.true ∙ c.is_able.ensures.1 able,
+      sym c.if-not-has_telescope.true
+      ∙ c.has_telescope.ensures.1 (subst (λ (ts : List TelescopeNo). Contains ts c.args.placement.telescope) (sym c.as_slice.ensures) able),
 )
 
 pub returns-then-not-is_within_horizon : goal.returns-then-not-is_within_horizon
