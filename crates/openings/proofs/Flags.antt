@@ -1,17 +1,18 @@
 -- Flags that say where something holds, and those of a request's starts on a telescope.
-use Rattle.std.proofs.Common.{◌≡◌, ◌↔◌, ℕ, ◌+◌, ◌-◌, ◌<◌, ◌≤◌, ◌⊎◌, inl, inr, Bool, true, false, min, ℤ, pos, List, [], ◌∷◌, ◌++◌, length}
+use Rattle.std.proofs.Common.{◌≡◌, ◌↔◌, ℕ, ◌+◌, ◌-◌, ◌<◌, ◌≤◌, ◌⊎◌, inl, inr, Bool, true, false, min, ℤ, pos, List, [], ◌∷◌, ◌++◌, map, length}
 use Rattle.std.proofs.Common.{length-append, replicate, slice_index_or, Contains, Result, Ok, Err, IfOk, refl, sym, ◌∙◌, ap, subst, arith}
 use Rattle.std.proofs.lemmas.Bool.{false≢true}
 use Rattle.std.proofs.lemmas.List.{get_or_default, get_or_append_left, get_or_push, length_push, get_or-append_right, get_or_past, get_or-replicate}
 use Rattle.std.proofs.lemmas.List.{length-replicate}
 use Rattle.plan_base.specs.declared.parts.Parts.{Parts}
 use Rattle.plan_base.specs.declared.parts.RequestPart.{RequestPart}
+use Rattle.plan_base.specs.declared.span.Span.{Span}
 use Rattle.plan_base.specs.declared.claim.Placement.{Placement}
 use Rattle.plan_base.specs.declared.number.SiteNo.{SiteNo}
 use Rattle.plan_base.specs.declared.number.TelescopeNo.{TelescopeNo}
 use Rattle.plan_base.specs.Snapshot.{IsOrderly}
-use Rattle.plan_base.specs.Requests.{place_of, IsKnown}
-use Rattle.plan_base.specs.Starts.{slices_for, size_of, IsPossibleStart}
+use Rattle.plan_base.specs.Requests.{place_of, IsKnown, seconds_of, request_value, fade_of, windows_of}
+use Rattle.plan_base.specs.Starts.{slices_for, size_of, least_of, IsPossibleStart}
 use Rattle.plan_base.specs.Tables.{row}
 use Rattle.plan_base.proofs.Here.{IsHere}
 use Rattle.bound_checker.specs.declared.worth.Offer.{Offer}
@@ -84,6 +85,12 @@ number_here s r place q here known at = same_number s q.request.0 r here.known k
 pub offer_is : (s : Parts) (prices : List ℤ) (r place : ℕ) (q : RequestPart) (o : Offer) → IsHere s place q → q.request.0 ≡ r
     → IsOffer s.len q (slice_index_or prices place (pos 0)) o → IsOfferRange o → IsOfferOf s prices r o
 offer_is s prices r place q o here same offer range = record {
+  len = offer.len;
+  seconds = offer.seconds ∙ sym here.seconds ∙ ap (seconds_of s) same;
+  price = offer.price ∙ ap (λ (n : ℕ). slice_index_or prices n (pos 0)) (sym here.at ∙ ap (place_of s) same);
+  value = offer.value ∙ sym here.value ∙ ap (request_value s) same;
+  fade = offer.fade ∙ sym here.fade ∙ ap (fade_of s) same;
+  earliest = offer.earliest ∙ ap (λ (ws : List Span). slices_for s.len (least_of (map (λ w. w.from.0) ws))) (sym here.windows ∙ ap (windows_of s) same);
   size = offer.size ∙ ap (slices_for s.len) (sym here.seconds) ∙ ap (size_of s) same;
   weighs = λ p is from.
       let at : p.slice.0 ≡ s.first.0 + (p.slice.0 - s.first.0) = omega arith in

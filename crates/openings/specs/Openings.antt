@@ -2,9 +2,9 @@
 use Rattle.std.specs.Prelude.{◌≡◌, ◌↔◌, ℕ, ◌+◌, ◌≤◌, ◌<◌, ℤ, Bool, true, false, List, length, slice_index_or}
 use Rattle.plan_base.specs.declared.parts.Parts.{Parts}
 use Rattle.plan_base.specs.declared.claim.Placement.{Placement}
-use Rattle.plan_base.specs.Requests.{IsKnown}
-use Rattle.plan_base.specs.Starts.{size_of, IsPossibleStart}
-use Rattle.plan_base.specs.Bound.{weight}
+use Rattle.plan_base.specs.Requests.{IsKnown, seconds_of, request_value, fade_of}
+use Rattle.plan_base.specs.Starts.{size_of, earliest_slice, IsPossibleStart}
+use Rattle.plan_base.specs.Bound.{price, weight}
 use Rattle.plan_base.specs.Tables.{row}
 use Rattle.bound_checker.specs.declared.worth.Offer.{Offer}
 use Rattle.bound_checker.specs.Offers.{IsOfferRange, offer_weight}
@@ -41,9 +41,15 @@ CanStartAt s t r k = (p : Placement) × IsStartAt s t r p × (p.slice.0 ≡ k)
 abbrev pub IsOpenRow : Parts → ℕ → ℕ → List Bool → Type 0
 IsOpenRow s t r flags = IsFlagged (λ i. CanStartAt s t r (s.first.0 + i)) s.slices flags
 
--- what request r offers at the prices
+-- what request r offers at the prices: its length, its price, and what it is worth from the first slice of its windows on
 pub record IsOfferOf (s : Parts) (prices : List ℤ) (r : ℕ) (o : Offer) : Type 0 where
+  pub len : o.observation.len ≡ s.len
+  pub seconds : o.observation.seconds ≡ seconds_of s r
   pub size : o.size ≡ size_of s r
+  pub price : o.price ≡ price s prices r
+  pub value : o.value ≡ request_value s r
+  pub fade : o.fade ≡ fade_of s r
+  pub earliest : o.earliest ≡ earliest_slice s r
   pub weighs : (p : Placement) → p.request.0 ≡ r → s.first.0 ≤ p.slice.0 → offer_weight o p.slice.0 ≡ weight s prices p
   pub range : IsOfferRange o
 
