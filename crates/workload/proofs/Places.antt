@@ -16,6 +16,7 @@ use Rattle.workload.specs.Requests.{class_drawn}
 use Rattle.workload.specs.Subjects.{subjects, draws_of}
 use Rattle.workload.proofs.Numbers.{number_after-more}
 use Rattle.workload.specs.Lines.{WorkloadSeen, number_before, line_at, workload_lines, line_next, one_given, HasSoManyLines}
+use Rattle.workload.specs.Lines.{HasSoManyRequests}
 
 -- what the line at a place is about
 abbrev pub by_place : ℕ → Subject
@@ -100,6 +101,10 @@ subjects_count = refl
 
 pub so_many_lines : HasSoManyLines
 so_many_lines number workers = length-map-range_with_len (line_at number workers) 0 (length subjects) ∙ subjects_count
+
+pub so_many_requests : HasSoManyRequests
+unfolding subjects
+so_many_requests = refl
 
 -- ---- one place more
 

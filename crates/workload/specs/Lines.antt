@@ -6,7 +6,7 @@ use Rattle.plan_json.specs.Adds.{text_of}
 use Rattle.plan_json.specs.Object.{data_of}
 use Rattle.workload.specs.declared.subject.Subject.TheVariants.{Plan}
 use Rattle.workload.specs.Generator.{number_after}
-use Rattle.workload.specs.Subjects.{subjects, draws_of}
+use Rattle.workload.specs.Subjects.{subjects, requests_of, draws_of}
 use Rattle.workload.specs.Documents.{document}
 
 -- a workload: what its generator begins with, how many workers its desk has, and how many of its lines were given
@@ -42,6 +42,10 @@ one_given w = record w { given = min (w.given + 1) (length subjects) }
 -- a workload has 211 lines
 abbrev pub HasSoManyLines : Type 0
 HasSoManyLines = (number workers : ℕ) → length (workload_lines number workers) ≡ 211
+
+-- its groups have 120 requests in all
+abbrev pub HasSoManyRequests : Type 0
+HasSoManyRequests = sum_by requests_of subjects ≡ 120
 
 -- each line is read as the document that it is the text of
 abbrev pub AreReadBack : Type 0

@@ -37,6 +37,11 @@ shape_at rest = if nat_lt rest 4 then (Single, 1) else (if rest == 4 then (Many,
 abbrev pub shape_of : ℕ → Op × ℕ
 shape_of group = shape_at (group % 7)
 
+-- how many requests a line submits
+abbrev pub requests_of : Subject → ℕ
+requests_of (Submit group) = (shape_of group).1
+requests_of _ = 0
+
 -- how many draws a line makes: two for a sky, and for a group one and five for each of its requests
 abbrev pub draws_of : Subject → ℕ
 draws_of (Visibility target site) = 2

@@ -11,5 +11,5 @@ mod request;
 mod subject;
 mod workload;
 
-pub use laws::{lines_are_read_back, so_many_lines};
+pub use laws::{lines_are_read_back, so_many_lines, so_many_requests};
 pub use workload::Workload;
