@@ -1,6 +1,6 @@
 -- The fields of a book after each call.
-use Rattle.std.proofs.Common.{◌≡◌, ℕ, ◌+◌, ◌-◌, ◌<◌, List, [], ◌∷◌, ◌++◌, length, take, set, get_or, cond, sym, ◌∙◌, ap, subst, arith, inl, inr}
-use Rattle.std.proofs.Common.{Some, None, Result, Ok, Err, is_ok, IfOk, OnErr, get_or-set_same, length-append}
+use Rattle.std.proofs.Common.{◌≡◌, ℕ, ◌+◌, ◌-◌, ◌<◌, List, [], ◌∷◌, ◌++◌, length, take, set, get_or, sym, ◌∙◌, ap, subst, arith, inl, inr}
+use Rattle.std.proofs.Common.{Some, None, Result, Ok, Err, IfOk, OnErr, get_or-set_same, length-append}
 use Rattle.std.specs.declared.option.Option.{Option}
 use Rattle.std.specs.Prelude.{slice_set}
 use Rattle.std.proofs.Math.Seq.{take-append_seam}
@@ -32,10 +32,8 @@ use Rattle.desk_book.proofs.Stepping.{bounded_claim}
 -- ---- the entry that is added
 
 -- an element that was added where there was room
-pub pushed : {A U E : Type 0} (r : Result U E) (u : U) (base old new : List A) (x : A) → r ≡ Ok u → new ≡ cond (is_ok r) (old ++ x ∷ []) old
-    → old ≡ base → new ≡ base ++ x ∷ []
-pushed (Ok v) u base old new x is h same = h ∙ ap (λ xs. xs ++ x ∷ []) same
-pushed (Err e) u base old new x is h same = cc
+pub pushed : {A : Type 0} (base old new : List A) (x : A) → new ≡ old ++ x ∷ [] → old ≡ base → new ≡ base ++ x ∷ []
+pushed base old new x is same = is ∙ ap (λ xs. xs ++ x ∷ []) same
 
 -- the number that stands for a caller is how many lines it has done
 counted_at : (b : BookSeen) (done : List ℕ) (caller n : ℕ) → AreCounted b done → caller < length b.scripts → n ≡ get_or done caller n → n ≡ get_or done caller 0

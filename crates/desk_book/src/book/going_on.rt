@@ -62,7 +62,7 @@ impl Book {
             version,
             reply,
         };
-        self.history.push(entry).unwrap();
+        self.history.push_reserved(entry);
         self.done[place] = line;
         Ok(())
     }
@@ -91,7 +91,7 @@ impl Book {
             version: self.state.version(),
             reply: Reply::Taken,
         };
-        self.history.push(entry).unwrap();
+        self.history.push_reserved(entry);
         self.takes[place] = Some(kept);
         Ok(taken)
     }

@@ -55,7 +55,7 @@ impl Book {
             version,
             reply,
         };
-        self.history.push(entry).unwrap();
+        self.history.push_reserved(entry);
         self.done[place] = line;
         self.takes[place] = None;
         Ok(EventEntry {

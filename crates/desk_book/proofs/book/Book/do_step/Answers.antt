@@ -24,9 +24,9 @@ invariant_of-self-2 c =
     let at : c.index.result.now ≡ get_or c.self.inside.done.items c.args.caller c.index.result.now =
     subst (λ (k : ℕ). c.index.result.now ≡ get_or c.self.inside.done.items k c.index.result.now) place c.index.ensures in
     let x = step_fields b c.self.inside.done.items c.args.caller c.index.result.now c.version-version.result c.args.read c.in_ok-reply.reply
-    c.apply_read.new.state c.push.new.self.items
+    c.apply_read.new.state c.push_reserved.new.self.items
     c.self.invariant.sound c.self.invariant.counted low at shut next c.in_ok-reply.ensures.done c.version-version.ensures.version
-    (pushed c.push.result c.unwrap.result c.self.inside.history.items c.reserve.new.self.items c.push.new.self.items _ c.unwrap.ensures
-    c.push.ensures.items c.in_ok-reserve.ensures.items) in
-    let now : BookSeen = book_with b c.push.new.self.items c.apply_read.new.state b.takes in
+    (pushed c.self.inside.history.items c.reserve.new.self.items c.push_reserved.new.self.items _
+    c.push_reserved.ensures.items c.in_ok-reserve.ensures.items) in
+    let now : BookSeen = book_with b c.push_reserved.new.self.items c.apply_read.new.state b.takes in
     record { sound = x.0; counted = subst (λ (k : ℕ). AreCounted now (set c.self.inside.done.items k (c.index.result.now + 1))) (sym place) x.1 }

@@ -70,16 +70,16 @@ invariant_of-self-2 c =
       version = c.version-version.result;
       reply = c.in_ok-reply.reply;
     } in
-    let more : c.push.new.self.items ≡ b.history ++ entry taken.caller ∷ [] =
-    subst (λ (k : ℕ). c.push.new.self.items ≡ b.history ++ entry k ∷ []) caller
-    (pushed c.push.result c.unwrap.result c.self.inside.history.items c.reserve.new.self.items c.push.new.self.items _ c.unwrap.ensures
-    c.push.ensures.items c.in_ok-reserve.ensures.items) in
+    let more : c.push_reserved.new.self.items ≡ b.history ++ entry taken.caller ∷ [] =
+    subst (λ (k : ℕ). c.push_reserved.new.self.items ≡ b.history ++ entry k ∷ []) caller
+    (pushed c.self.inside.history.items c.reserve.new.self.items c.push_reserved.new.self.items _
+    c.push_reserved.ensures.items c.in_ok-reserve.ensures.items) in
     let x = publish_fields b c.self.inside.done.items taken c.index.result.now c.version-version.result c.in_ok-reply.reply
-    c.publish_found.new.state c.push.new.self.items
+    c.publish_found.new.state c.push_reserved.new.self.items
     c.self.invariant.sound c.self.invariant.counted low at opens c.in_ok-reply.ensures.publication c.in_ok-reply.ensures.claims
     c.in_ok-reply.ensures.left c.version-version.ensures.version
     more in
-    let now : ℕ → BookSeen = λ k. book_with b c.push.new.self.items c.publish_found.new.state (set b.takes k None) in
+    let now : ℕ → BookSeen = λ k. book_with b c.push_reserved.new.self.items c.publish_found.new.state (set b.takes k None) in
     record {
       sound = subst (λ (k : ℕ). IsSound (now k)) (sym place) x.0;
       counted = subst (λ (k : ℕ). AreCounted (now k) (set c.self.inside.done.items k (c.index.result.now + 1))) (sym place) x.1;
@@ -109,14 +109,14 @@ returns-clause-ok c =
       version = c.version-version.result;
       reply = c.in_ok-reply.reply;
     } in
-    let more : c.push.new.self.items ≡ b.history ++ entry taken.caller ∷ [] =
-    subst (λ (k : ℕ). c.push.new.self.items ≡ b.history ++ entry k ∷ []) caller
-    (pushed c.push.result c.unwrap.result c.self.inside.history.items c.reserve.new.self.items c.push.new.self.items _ c.unwrap.ensures
-    c.push.ensures.items c.in_ok-reserve.ensures.items) in
+    let more : c.push_reserved.new.self.items ≡ b.history ++ entry taken.caller ∷ [] =
+    subst (λ (k : ℕ). c.push_reserved.new.self.items ≡ b.history ++ entry k ∷ []) caller
+    (pushed c.self.inside.history.items c.reserve.new.self.items c.push_reserved.new.self.items _
+    c.push_reserved.ensures.items c.in_ok-reserve.ensures.items) in
     let x =
     published_fields b c.self.inside.done.items taken c.into_parts-taken.result.1 c.index.result.now c.version-version.result
     c.in_ok-reply.reply c.in_ok-told.told
-    c.publish_found.new.state c.push.new.self.items
+    c.publish_found.new.state c.push_reserved.new.self.items
     c.self.invariant.counted low at opens c.in_ok-reply.ensures.reply
     (told ∙ sym c.in_ok-reply.ensures.reply) c.in_ok-reply.ensures.left c.version-version.ensures.version
     more in
@@ -127,7 +127,7 @@ returns-clause-ok c =
       version = c.version-version.result;
       reply = c.in_ok-told.told;
     } in
-    let now : ℕ → BookSeen = λ k. book_with b c.push.new.self.items c.publish_found.new.state (set b.takes k None) in
+    let now : ℕ → BookSeen = λ k. book_with b c.push_reserved.new.self.items c.publish_found.new.state (set b.takes k None) in
     let mine : IsPublished b c.args.solved (e taken.caller) (now taken.caller) =
     subst (λ (p : SolvedTake). IsPublished b p (e taken.caller) (now taken.caller)) whole x in
     let there : IsPublished b c.args.solved (e taken.caller) (now c.from-place.result) =
