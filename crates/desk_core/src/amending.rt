@@ -31,7 +31,7 @@ use plan_base::{GroupNo, ListOf, RequestNo};
 use request_model::GroupDoc;
 use std::alloc::{AllocError, Global};
 
-// The first of the requests that is running or completed.
+/// The first of the requests that is running or completed.
 fn first_begun(runs: &Runs, requests: &[Request]) -> Option<RequestNo>
     ensures { result ≡ option_map (λ q. q.number) (find (λ q. is_placed runs.now.running q.number || is_completed q.state) requests.now) }
 {
@@ -41,7 +41,7 @@ fn first_begun(runs: &Runs, requests: &[Request]) -> Option<RequestNo>
         .map(|q| q.number)
 }
 
-// The refund of an ipp charge, where there was one.
+/// The refund of an ipp charge, where there was one.
 fn refund_for(
     alloc: Global,
     number: GroupNo,
@@ -60,7 +60,7 @@ fn refund_for(
 }
 
 impl Desk {
-    // Whether a group may be amended: it is there, it is open, and no member is running or completed.
+    /// Whether a group may be amended: it is there, it is open, and no member is running or completed.
     fn check_amendment(&self, number: GroupNo) -> Result<(), Refusal>
         ensures none { OnOk result (ending_refusal (begun_member (seen self.now)) (group_at self.now.runs.groups number) ≡ None) }
         ensures may { OnOk result (IsAmendable number self.now.runs) }
@@ -73,7 +73,7 @@ impl Desk {
         }
     }
 
-    // What is given back of the ipp charge of a group.
+    /// What is given back of the ipp charge of a group.
     fn refunded(&self, alloc: Global, number: GroupNo) -> Result<ListOf<GroupRefund>, AllocError>
         requires { (1 ≤ number.0) × (number.0 ≤ length self.now.submitted.items) }
         ensures { (w : Submitted) → slice_get self.now.submitted.items (number.0 - 1) ≡ Some w
@@ -82,8 +82,8 @@ impl Desk {
         refund_for(alloc, number, self.submission(number).charged)
     }
 
-    // Withdraws a group, and books a new one in its place, which was entered. The refusals are those of the ledger, once what
-    // the old group held is freed. An error changes nothing.
+    /// Withdraws a group, and books a new one in its place, which was entered. The refusals are those of the ledger, once what
+    /// the old group held is freed. An error changes nothing.
     fn replace(&mut self, old: GroupNo, new: &NewGroup) -> Result<(), CommandFault>
         requires may { IsWithdrawable old self.old.runs }
         requires holds { IsHoldList new.now.holds }
@@ -106,7 +106,7 @@ impl Desk {
         Ok(())
     }
 
-    // Submits a document with the requests that it makes, in the place of a group.
+    /// Submits a document with the requests that it makes, in the place of a group.
     fn amend_made(
         &mut self,
         alloc: Global,

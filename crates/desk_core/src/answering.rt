@@ -148,7 +148,7 @@ pub(crate) fn changes(command: &Command) -> u64
     }
 }
 
-// Whether a command says what there is.
+/// Whether a command says what there is.
 fn is_registering(command: &Command) -> bool
     ensures { result ≡ is_registering command.now }
 {
@@ -164,7 +164,7 @@ fn is_registering(command: &Command) -> bool
     )
 }
 
-// Whether a command only shows what there is.
+/// Whether a command only shows what there is.
 fn is_showing(command: &Command) -> bool
     ensures { result ≡ is_showing command.now }
 {
@@ -174,7 +174,7 @@ fn is_showing(command: &Command) -> bool
     )
 }
 
-// What an instrument type takes beside exposures, of at most a day each.
+/// What an instrument type takes beside exposures, of at most a day each.
 fn times_of(front_ms: u32, config_ms: u32, readout_ms: u32, change_ms: u32) -> InstrumentTimes
     requires front { front_ms ≤ most_ms }
     requires config { config_ms ≤ most_ms }
@@ -190,7 +190,7 @@ fn times_of(front_ms: u32, config_ms: u32, readout_ms: u32, change_ms: u32) -> I
     }
 }
 
-// The code of a telescope.
+/// The code of a telescope.
 fn code_of(site: &Name, enclosure: &Name, telescope: &Name) -> Result<Code, AllocError>
     ensures { IfOk result (λ code. code ≡ record { site = site.now; enclosure = enclosure.now; telescope = telescope.now }) }
 {

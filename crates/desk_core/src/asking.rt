@@ -31,7 +31,7 @@ pub(crate) struct Made<'a> {
     pub windows: ListOf<Span>,
 }
 
-// The overheads of an instrument type, as a duration takes them.
+/// The overheads of an instrument type, as a duration takes them.
 fn overheads(times: InstrumentTimes) -> Instrument
     ensures same { result ≡ overheads times }
     ensures range { IsOverhead result }
@@ -44,7 +44,7 @@ fn overheads(times: InstrumentTimes) -> Instrument
     }
 }
 
-// How long the request at a place takes.
+/// How long the request at a place takes.
 fn seconds_for(network: &Network, index: u32, request: &RequestDoc) -> Result<u32, CommandFault>
     requires { AreConfigurations request.now.configurations }
     ensures { Says (λ seconds. seconds) (seconds_for network.now.registry index request.now) result }
@@ -58,7 +58,7 @@ fn seconds_for(network: &Network, index: u32, request: &RequestDoc) -> Result<u3
     }
 }
 
-// A list of one list of windows.
+/// A list of one list of windows.
 fn one_list(alloc: Global, windows: &[Span]) -> Result<Vec<ListOf<Span>>, AllocError>
     ensures { IfOk result (λ lists. lists.items ≡ windows.now ∷ []) }
 {
@@ -68,7 +68,7 @@ fn one_list(alloc: Global, windows: &[Span]) -> Result<Vec<ListOf<Span>>, AllocE
     Ok(lists)
 }
 
-// Each window in a list of its own.
+/// Each window in a list of its own.
 fn each_alone(alloc: Global, windows: &[Span]) -> Result<Vec<ListOf<Span>>, AllocError>
     ensures { IfOk result (λ lists. lists.items ≡ map (λ w. w ∷ []) windows.now) }
 {
@@ -80,7 +80,7 @@ fn each_alone(alloc: Global, windows: &[Span]) -> Result<Vec<ListOf<Span>>, Allo
     Ok(lists)
 }
 
-// The windows of the requests that a cadence makes.
+/// The windows of the requests that a cadence makes.
 fn windows_of_cadence(
     alloc: Global,
     index: u32,
@@ -97,7 +97,7 @@ fn windows_of_cadence(
     }
 }
 
-// The windows of the requests that are made from the one at a place.
+/// The windows of the requests that are made from the one at a place.
 fn windows_for(
     alloc: Global,
     op: Op,
@@ -120,42 +120,42 @@ fn windows_for(
     }
 }
 
-// Whether a window is inside the semester.
+/// Whether a window is inside the semester.
 fn is_inside(semester: Span, window: Span) -> bool
     ensures { result ≡ is_inside semester window }
 {
     semester.from <= window.from && window.to <= semester.to
 }
 
-// Whether a window lies outside the semester, in part or whole.
+/// Whether a window lies outside the semester, in part or whole.
 fn has_outside(semester: Span, windows: &[Span]) -> bool
     ensures { result ≡ list_any (λ w. not (is_inside semester w)) windows.now }
 {
     windows.iter().any(|w| !is_inside(semester, *w))
 }
 
-// Whether a request has such a window.
+/// Whether a request has such a window.
 fn is_outside(semester: Span, lists: &[ListOf<Span>]) -> bool
     ensures { result ≡ is_outside semester lists.now }
 {
     lists.iter().any(|ws| has_outside(semester, ws.as_slice()))
 }
 
-// Whether all windows end at or before now.
+/// Whether all windows end at or before now.
 fn is_past(now: Sec, windows: &[Span]) -> bool
     ensures { result ≡ is_past now windows.now }
 {
     windows.iter().all(|w| w.to <= now)
 }
 
-// Whether all windows of one of the requests have ended.
+/// Whether all windows of one of the requests have ended.
 fn has_past(now: Sec, lists: &[ListOf<Span>]) -> bool
     ensures { result ≡ list_any (is_past now) lists.now }
 {
     lists.iter().any(|ws| is_past(now, ws.as_slice()))
 }
 
-// Whether a telescope that is registered so far fits the request.
+/// Whether a telescope that is registered so far fits the request.
 fn is_fitted(network: &Network, request: &RequestDoc) -> bool
     ensures { result ≡ is_fitted network.now.registry request.now }
 {
@@ -172,7 +172,7 @@ fn is_fitted(network: &Network, request: &RequestDoc) -> bool
     false
 }
 
-// The requests with these windows.
+/// The requests with these windows.
 fn made_with<'a>(
     alloc: Global,
     asked: &'a RequestDoc,
@@ -193,7 +193,7 @@ fn made_with<'a>(
 }
 
 impl Desk {
-    // The requests with these windows, if nothing refuses them.
+    /// The requests with these windows, if nothing refuses them.
     fn tested<'a>(
         &self,
         alloc: Global,
@@ -216,7 +216,7 @@ impl Desk {
         Ok(made_with(alloc, asked, seconds, lists)?)
     }
 
-    // The requests that are made from the one at a place.
+    /// The requests that are made from the one at a place.
     fn made_from<'a>(
         &self,
         alloc: Global,

@@ -18,7 +18,7 @@ use desk_runs::{Group, Request, Runs};
 use plan_base::{GroupNo, RequestNo};
 use std::alloc::Global;
 
-// The first of the requests that is running.
+/// The first of the requests that is running.
 fn first_running(runs: &Runs, requests: &[Request]) -> Option<RequestNo>
     ensures { result ≡ option_map (λ q. q.number) (find (λ q. is_placed runs.now.running q.number) requests.now) }
 {
@@ -47,7 +47,7 @@ impl Desk {
         Ok(group)
     }
 
-    // Whether a group may be withdrawn: it is there, it is open, and no member is running.
+    /// Whether a group may be withdrawn: it is there, it is open, and no member is running.
     fn check_withdrawal(&self, number: GroupNo) -> Result<(), Refusal>
         ensures none { OnOk result (ending_refusal (running_member (seen self.now)) (group_at self.now.runs.groups number) ≡ None) }
         ensures may { OnOk result (IsWithdrawable number self.now.runs) }

@@ -24,14 +24,14 @@ pub(crate) struct Ending {
     pub refund: Option<Hold>,
 }
 
-// Whether a group stops being pending with no member completed.
+/// Whether a group stops being pending with no member completed.
 fn is_refunded(before: &Group, after: &Group) -> bool
     ensures { result ≡ is_refunded before.now after.now }
 {
     before.is_open() && !after.is_open() && !after.has_state(RequestState::Completed)
 }
 
-// The ipp charge of a group, where there is one.
+/// The ipp charge of a group, where there is one.
 fn standing(alloc: Global, submitted: &Submitted) -> Result<Option<Hold>, AllocError>
     ensures { IfOk result (λ charge. charge ≡ standing submitted.now.document.proposal submitted.now.charged) }
 {
@@ -45,7 +45,7 @@ fn standing(alloc: Global, submitted: &Submitted) -> Result<Option<Hold>, AllocE
     }))
 }
 
-// The ipp charge of a group, where it is given back.
+/// The ipp charge of a group, where it is given back.
 fn refund(
     alloc: Global,
     submitted: &Submitted,
@@ -87,7 +87,7 @@ pub(crate) fn find_ending(
     })
 }
 
-// Adds what is told of an ending.
+/// Adds what is told of an ending.
 fn push_refund(refunds: &mut Vec<GroupRefund>, ending: &Ending) -> Result<(), AllocError>
     ensures { OnOk result (refunds.new.items ≡ refunds.old.items ++ refunds_in (ending.now ∷ [])) }
 {
@@ -114,7 +114,7 @@ pub(crate) fn refunds_in(
     Ok(ListOf::from_vec(refunds))
 }
 
-// Ends what a group holds.
+/// Ends what a group holds.
 fn end_group(ledger: &mut Ledger, ending: &Ending)
     requires can { CanEnd ledger.old.books ending.now }
     requires spare { length (refunds_in (ending.now ∷ [])) ≤ ledger.old.spare }

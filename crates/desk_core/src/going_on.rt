@@ -19,7 +19,7 @@ use plan_base::ListOf;
 use std::alloc::{AllocError, Global};
 
 impl Desk {
-    // Adds what becomes of what a group holds that has gone on, if it was open.
+    /// Adds what becomes of what a group holds that has gone on, if it was open.
     fn push_ending(
         &self,
         alloc: Global,
@@ -40,7 +40,7 @@ impl Desk {
         Ok(())
     }
 
-    // What becomes of what open groups hold that a change tells.
+    /// What becomes of what open groups hold that a change tells.
     fn endings(&self, alloc: Global, change: &Change) -> Result<Vec<Ending>, AllocError>
         requires desk { IsDesk (seen self.now) }
         requires can { CanChange self.now.runs change.now }

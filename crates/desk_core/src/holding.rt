@@ -15,7 +15,7 @@ use request_model::{GroupDoc, ObsKind};
 use std::alloc::{AllocError, Global};
 use std::collections::BTreeSet;
 
-// The account of an observation type.
+/// The account of an observation type.
 fn account_of(kind: ObsKind) -> Account
     ensures { result ≡ account_of kind }
 {
@@ -37,7 +37,7 @@ pub(crate) fn key_of(document: &GroupDoc, wanted: &Wanted) -> Result<Key, AllocE
     })
 }
 
-// Adds what a request needs, if it is pending.
+/// Adds what a request needs, if it is pending.
 fn push_need(
     needs: &mut Vec<Hold>,
     document: &GroupDoc,
@@ -58,7 +58,7 @@ fn push_need(
         .map_err(AllocError::from)
 }
 
-// What the pending ones of these requests need.
+/// What the pending ones of these requests need.
 fn needs_of(
     alloc: Global,
     document: &GroupDoc,
@@ -75,7 +75,7 @@ fn needs_of(
     Ok(needs)
 }
 
-// The accounts that are needed.
+/// The accounts that are needed.
 fn keys_in(alloc: Global, needs: &[Hold]) -> Result<BTreeSet<Key>, AllocError>
     ensures { IfOk result (λ keys. keys.keys ≡ keys_in needs.now) }
 {
@@ -86,14 +86,14 @@ fn keys_in(alloc: Global, needs: &[Hold]) -> Result<BTreeSet<Key>, AllocError>
     Ok(keys)
 }
 
-// What a need adds to an account.
+/// What a need adds to an account.
 fn seconds_on(key: &Key, need: &Hold) -> u64
     ensures { result ≡ (if is_key need.now.key key.now then need.now.seconds else 0) }
 {
     if need.key.is(key) { need.seconds } else { 0 }
 }
 
-// The sum of the needs of an account.
+/// The sum of the needs of an account.
 fn held_in(key: &Key, needs: &[Hold]) -> u64
     requires { held_in key.now needs.now < 2 ^ 64 }
     ensures { result ≡ held_in key.now needs.now }
@@ -101,7 +101,7 @@ fn held_in(key: &Key, needs: &[Hold]) -> u64
     needs.iter().map(|need| seconds_on(key, need)).sum()
 }
 
-// The greater of what is known and a need of an account.
+/// The greater of what is known and a need of an account.
 fn greater(key: &Key, most: u64, need: &Hold) -> u64
     ensures { result ≡ (if is_key need.now.key key.now then max most need.now.seconds else most) }
 {
@@ -112,7 +112,7 @@ fn greater(key: &Key, most: u64, need: &Hold) -> u64
     }
 }
 
-// The greatest need of an account.
+/// The greatest need of an account.
 fn greatest_in(key: &Key, needs: &[Hold]) -> u64
     ensures { result ≡ greatest_in key.now needs.now }
 {
@@ -123,7 +123,7 @@ fn greatest_in(key: &Key, needs: &[Hold]) -> u64
     most
 }
 
-// What is held of an account.
+/// What is held of an account.
 fn held_for(op: Op, key: &Key, needs: &[Hold]) -> u64
     requires { held_in key.now needs.now < 2 ^ 64 }
     ensures { result ≡ held_for op needs.now key.now }
@@ -135,7 +135,7 @@ fn held_for(op: Op, key: &Key, needs: &[Hold]) -> u64
     }
 }
 
-// What is held for needs, of each account.
+/// What is held for needs, of each account.
 fn holds_of(alloc: Global, op: Op, needs: &[Hold]) -> Result<Vec<Hold>, AllocError>
     requires { seconds_of_holds needs.now < 2 ^ 64 }
     ensures { IfOk result (λ holds. holds.items ≡ holds_of op needs.now) }
@@ -164,7 +164,7 @@ pub(crate) fn held(
     holds_of(alloc, group.op, needs.as_slice())
 }
 
-// The seconds of holds.
+/// The seconds of holds.
 fn seconds_of_holds(holds: &[Hold]) -> u64
     requires { seconds_of_holds holds.now < 2 ^ 64 }
     ensures { result ≡ seconds_of_holds holds.now }

@@ -27,7 +27,7 @@ impl Desk {
         SliceNo(slices_for(u64::from(self.opening.slice), self.runs.now().0) as u32)
     }
 
-    // The span of the horizon.
+    /// The span of the horizon.
     fn horizon_span(&self) -> Span
         requires { IsDesk (seen self.now) }
         ensures { result ≡ horizon_span (seen self.now) }
@@ -49,7 +49,7 @@ impl Desk {
         Spans::from_list(alloc, &[self.horizon_span()])
     }
 
-    // The seconds of the observations that run on a telescope.
+    /// The seconds of the observations that run on a telescope.
     fn observed_on(&self, alloc: Global, telescope: TelescopeNo) -> Result<Spans, AllocError>
         requires { IsDesk (seen self.now) }
         ensures { IfOk result (IsSetOf (has (observed_on (seen self.now) telescope.0))) }
@@ -59,7 +59,7 @@ impl Desk {
         Spans::from_list(alloc, spans.as_slice())
     }
 
-    // The seconds of the horizon in which a telescope may observe and nothing runs on it.
+    /// The seconds of the horizon in which a telescope may observe and nothing runs on it.
     fn usable(
         &self,
         alloc: Global,
@@ -79,7 +79,7 @@ impl Desk {
         free.meet(alloc, horizon)
     }
 
-    // The part of a telescope.
+    /// The part of a telescope.
     fn telescope_part(
         &self,
         alloc: Global,
@@ -118,7 +118,7 @@ impl Desk {
         Ok(parts)
     }
 
-    // The sky of a target at a site inside the horizon, none where it has no second there.
+    /// The sky of a target at a site inside the horizon, none where it has no second there.
     fn sky_part(
         &self,
         alloc: Global,
@@ -142,7 +142,7 @@ impl Desk {
         }))
     }
 
-    // Adds the skies of a target, by site.
+    /// Adds the skies of a target, by site.
     fn add_skies(
         &self,
         alloc: Global,
@@ -181,7 +181,7 @@ impl Desk {
     }
 }
 
-// The span of an observation.
+/// The span of an observation.
 fn span_of(observation: &Observation, len: u32) -> Span
     ensures { result ≡ observation_span len observation.now }
 {
@@ -191,7 +191,7 @@ fn span_of(observation: &Observation, len: u32) -> Span
     }
 }
 
-// The spans of the observations of a telescope.
+/// The spans of the observations of a telescope.
 fn spans_on(
     alloc: Global,
     observations: &[Observation],

@@ -17,7 +17,7 @@ use plan_base::{GroupNo, ListOf, RequestPart, TelescopeNo};
 use std::alloc::{AllocError, Global};
 
 impl Desk {
-    // Whether a member of a group is running.
+    /// Whether a member of a group is running.
     fn has_running(&self, group: &Group) -> bool
         ensures { result ≡ has_running (seen self.now) group.now }
     {
@@ -28,7 +28,7 @@ impl Desk {
             .any(|q| self.runs.is_running(q.number))
     }
 
-    // Whether a member of a group is pending and isn't running.
+    /// Whether a member of a group is pending and isn't running.
     fn has_waiting(&self, group: &Group) -> bool
         ensures { result ≡ list_any (is_waiting self.now.runs.running) group.now.requests }
     {
@@ -40,14 +40,14 @@ impl Desk {
             .any(|q| q.is_waiting(running))
     }
 
-    // Whether a group is a `ONEOF` with a running member.
+    /// Whether a group is a `ONEOF` with a running member.
     fn is_blocked(&self, group: &Group) -> bool
         ensures { result ≡ (is_oneof group.now.op && has_running (seen self.now) group.now) }
     {
         group.op.is_oneof() && self.has_running(group)
     }
 
-    // Whether a group is listed.
+    /// Whether a group is listed.
     fn is_listed(&self, number: GroupNo) -> bool
         requires desk { IsDesk (seen self.now) }
         requires number { IsGroupNo (seen self.now) number }
@@ -71,7 +71,7 @@ impl Desk {
         Ok(listed)
     }
 
-    // The telescopes that fit a request, rising.
+    /// The telescopes that fit a request, rising.
     fn telescopes_for(
         &self,
         alloc: Global,
@@ -93,7 +93,7 @@ impl Desk {
         Ok(telescopes)
     }
 
-    // The part of a request.
+    /// The part of a request.
     fn request_part(
         &self,
         alloc: Global,

@@ -56,8 +56,8 @@ impl Desk {
         }
     }
 
-    // Publishes a claim that is certified for the desk's snapshot, and says so. Fails only for want of memory, and then changes
-    // nothing.
+    /// Publishes a claim that is certified for the desk's snapshot, and says so. Fails only for want of memory, and then changes
+    /// nothing.
     fn publish_told(
         &mut self,
         alloc: Global,
@@ -99,7 +99,7 @@ impl Desk {
         Ok(())
     }
 
-    // Recalls that the desk's snapshot has a document. It does nothing.
+    /// Recalls that the desk's snapshot has a document. It does nothing.
     fn recall_document(&self, snapshot: &Snapshot)
         requires desk { IsDesk (seen self.now) }
         requires few { length self.now.runs.groups ≤ most_version }
@@ -110,7 +110,7 @@ impl Desk {
         snapshot.recall_valid();
     }
 
-    // What is kept of a claim. Fails only for want of memory.
+    /// What is kept of a claim. Fails only for want of memory.
     fn copies_for(&self, alloc: Global, claim: &Claim) -> Result<Copies, AllocError>
         ensures observations { IfOk result (λ copies. copies.observations ≡ map (observed (seen self.now)) claim.now.placements) }
         ensures kept { IfOk result (λ copies. copies.kept ≡ claim.now) }
@@ -121,7 +121,7 @@ impl Desk {
         })
     }
 
-    // How long a request takes; nothing where there is none with the number.
+    /// How long a request takes; nothing where there is none with the number.
     fn seconds_of(&self, number: RequestNo) -> u32
         ensures { result ≡ option_map_or (λ q. q.seconds) (find (is_request number) (requests_of self.now.runs.groups)) 0 }
     {
@@ -131,7 +131,7 @@ impl Desk {
         }
     }
 
-    // A placement with the seconds of its request.
+    /// A placement with the seconds of its request.
     fn observed(&self, placement: &Placement) -> Observation
         ensures { result ≡ observed (seen self.now) placement.now }
     {
@@ -143,7 +143,7 @@ impl Desk {
         }
     }
 
-    // Placements with the seconds of their requests.
+    /// Placements with the seconds of their requests.
     fn observations(
         &self,
         alloc: Global,
@@ -159,7 +159,7 @@ impl Desk {
     }
 }
 
-// How long the request with a number takes.
+/// How long the request with a number takes.
 fn seconds_in(requests: &[Request], number: RequestNo) -> Option<u32>
     ensures { result ≡ option_map (λ q. q.seconds) (find (is_request number) requests.now) }
 {

@@ -120,7 +120,7 @@ impl Desk {
         Ok(Reply::Granted { balance })
     }
 
-    // Whether an account is on an instrument type that is registered, or on none.
+    /// Whether an account is on an instrument type that is registered, or on none.
     fn has_instrument_of(&self, key: &Key) -> bool
         ensures { result ≡ not (instrument_lacks (seen self.now) key.now) }
     {

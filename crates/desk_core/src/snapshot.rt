@@ -40,7 +40,7 @@ impl Desk {
         faultless(alloc, parts)
     }
 
-    // The parts of the snapshot, which have no fault.
+    /// The parts of the snapshot, which have no fault.
     fn parts(&self, alloc: Global, version: u64) -> Result<Parts, AllocError>
         requires desk { IsDesk (seen self.now) }
         requires version { version ≤ most_version }
@@ -64,7 +64,7 @@ impl Desk {
         })
     }
 
-    // The parts that come of listed groups.
+    /// The parts that come of listed groups.
     fn listed_parts(&self, alloc: Global) -> Result<ListedParts, AllocError>
         requires { IsDesk (seen self.now) }
         ensures groups { IfOk result (λ parts. parts.groups ≡ map (group_part (seen self.now)) (listed_groups (seen self.now))) }
@@ -78,7 +78,7 @@ impl Desk {
         })
     }
 
-    // The skies of the targets of listed groups.
+    /// The skies of the targets of listed groups.
     fn listed_skies(
         &self,
         alloc: Global,
@@ -106,7 +106,7 @@ impl Desk {
         }
     }
 
-    // The proposals of listed groups, each once, in their order.
+    /// The proposals of listed groups, each once, in their order.
     fn proposals(&self, alloc: Global, listed: &[GroupNo]) -> Result<IndexSet<Name>, AllocError>
         requires desk { IsDesk (seen self.now) }
         requires listed { listed.now ≡ map (λ p. p.1.number) (listed_groups (seen self.now)) }
@@ -119,7 +119,7 @@ impl Desk {
         Ok(proposals)
     }
 
-    // The place of a proposal's quota, where the desk has one.
+    /// The place of a proposal's quota, where the desk has one.
     fn quota_place(&self, proposals: &IndexSet<Name>, proposal: &Name) -> Option<u16>
         requires few { length proposals.now.keys ≤ 1024 }
         requires proposals { proposals.now.keys ≡ proposals_of (seen self.now) }
@@ -131,7 +131,7 @@ impl Desk {
         }
     }
 
-    // The part of a listed group.
+    /// The part of a listed group.
     fn group_part(
         &self,
         alloc: Global,
@@ -153,7 +153,7 @@ impl Desk {
         })
     }
 
-    // The parts of listed groups.
+    /// The parts of listed groups.
     fn group_parts(
         &self,
         alloc: Global,
@@ -172,7 +172,7 @@ impl Desk {
         Ok(parts)
     }
 
-    // The quota once for each of so many proposals, where the desk has one.
+    /// The quota once for each of so many proposals, where the desk has one.
     fn quotas(&self, alloc: Global, count: usize) -> Result<ListOf<u64>, AllocError>
         requires { count ≡ length (proposals_of (seen self.now)) }
         ensures { IfOk result (λ quotas. quotas ≡ quotas_of (seen self.now) self.now.opening.quota) }
@@ -184,7 +184,7 @@ impl Desk {
     }
 }
 
-// Adds a name, of which a copy is made only where it is new.
+/// Adds a name, of which a copy is made only where it is new.
 fn add_name(names: &mut IndexSet<Name>, name: &Name) -> Result<(), AllocError>
     ensures { OnOk result (names.new.keys ≡ numbered names.old.keys name.now) }
 {
@@ -194,7 +194,7 @@ fn add_name(names: &mut IndexSet<Name>, name: &Name) -> Result<(), AllocError>
     Ok(())
 }
 
-// The place of a name.
+/// The place of a name.
 fn place_of(names: &IndexSet<Name>, name: &Name) -> Option<u16>
     requires { length names.now.keys ≤ 1024 }
     ensures { result ≡ number_of names.now.keys name.now }
@@ -203,7 +203,7 @@ fn place_of(names: &IndexSet<Name>, name: &Name) -> Option<u16>
     Some(place as u16)
 }
 
-// The snapshot of parts without a fault.
+/// The snapshot of parts without a fault.
 fn faultless(alloc: Global, parts: Parts) -> Result<Snapshot, AllocError>
     requires { IsSnapshot parts }
     ensures { IfOk result (λ snapshot. snapshot ≡ parts) }
@@ -215,7 +215,7 @@ fn faultless(alloc: Global, parts: Parts) -> Result<Snapshot, AllocError>
     }
 }
 
-// Adds targets to a set of their numbers.
+/// Adds targets to a set of their numbers.
 fn add_targets(numbers: &mut BTreeSet<u16>, targets: &[TargetNo]) -> Result<(), AllocError>
     ensures { OnOk result (numbers.new.keys ≡ with_numbers_of numbers.old.keys targets.now) }
 {
@@ -225,7 +225,7 @@ fn add_targets(numbers: &mut BTreeSet<u16>, targets: &[TargetNo]) -> Result<(), 
     Ok(())
 }
 
-// Adds the targets of the requests of a group.
+/// Adds the targets of the requests of a group.
 fn add_targets_of(numbers: &mut BTreeSet<u16>, group: &GroupPart) -> Result<(), AllocError>
     ensures { OnOk result (numbers.new.keys ≡ with_numbers_of numbers.old.keys (group_targets group.now)) }
 {
@@ -235,7 +235,7 @@ fn add_targets_of(numbers: &mut BTreeSet<u16>, group: &GroupPart) -> Result<(), 
     Ok(())
 }
 
-// The numbers of the targets of all groups.
+/// The numbers of the targets of all groups.
 fn numbers_in(alloc: Global, groups: &[GroupPart]) -> Result<BTreeSet<u16>, AllocError>
     ensures { IfOk result (λ numbers. numbers.keys ≡ with_numbers_of [] (part_targets groups.now)) }
 {
@@ -246,7 +246,7 @@ fn numbers_in(alloc: Global, groups: &[GroupPart]) -> Result<BTreeSet<u16>, Allo
     Ok(numbers)
 }
 
-// The targets of all groups, each once, rising.
+/// The targets of all groups, each once, rising.
 fn targets_in(alloc: Global, groups: &[GroupPart]) -> Result<Vec<TargetNo>, AllocError>
     ensures { IfOk result (λ targets. targets.items ≡ map (λ n. record { 0 = n }) (with_numbers_of [] (part_targets groups.now))) }
 {

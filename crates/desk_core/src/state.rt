@@ -154,7 +154,7 @@ impl State {
         }
     }
 
-    // What is replied to a command, or why there is no reply.
+    /// What is replied to a command, or why there is no reply.
     fn answer(&mut self, command: &Command) -> Result<Reply, CommandFault>
         requires version { self.old.version < most_version }
         requires ranges { IsCommand command.now }
@@ -169,7 +169,7 @@ impl State {
         Ok(reply)
     }
 
-    // What is replied before the desk is opened.
+    /// What is replied before the desk is opened.
     fn answer_unopened(&mut self, command: &Command) -> Result<Reply, CommandFault>
         requires closed { self.old.desk ≡ None }
         requires version { self.old.version < most_version }
@@ -204,7 +204,7 @@ impl State {
         Ok(Reply::Opened)
     }
 
-    // Opens the desk, which isn't opened.
+    /// Opens the desk, which isn't opened.
     fn open(&mut self, opening: Opening, now: Sec) -> Result<(), AllocError>
         requires closed { self.old.desk ≡ None }
         requires opening { IsOpenedWith opening }

@@ -57,14 +57,14 @@ pub(crate) struct Booked {
     pub requests: ListOf<RequestNo>,
 }
 
-// The later of a moment and the end of a window.
+/// The later of a moment and the end of a window.
 fn later(last: Sec, window: Span) -> Sec
     ensures { result.0 ≡ last_of (record { from = record { 0 = 0 }; to = last } ∷ window ∷ []) }
 {
     Sec(last.0.max(window.to.0))
 }
 
-// The greatest end of windows.
+/// The greatest end of windows.
 fn last_of(windows: &[Span]) -> Sec
     ensures { result.0 ≡ last_of windows.now }
 {
@@ -75,7 +75,7 @@ fn last_of(windows: &[Span]) -> Sec
     last
 }
 
-// The value of a request: priority times ipp times minutes, rounded up.
+/// The value of a request: priority times ipp times minutes, rounded up.
 fn value_of(document: &GroupDoc, seconds: u32) -> u32
     requires document { IsGroup document.now }
     requires seconds { seconds ≤ 86400 }
@@ -84,7 +84,7 @@ fn value_of(document: &GroupDoc, seconds: u32) -> u32
     u32::from(document.priority) * u32::from(document.ipp) * seconds.div_ceil(60)
 }
 
-// What is wanted of a request that is made.
+/// What is wanted of a request that is made.
 fn wanted_of(
     alloc: Global,
     network: &Network,
@@ -112,7 +112,7 @@ fn wanted_of(
     })
 }
 
-// What is wanted of the requests that are made.
+/// What is wanted of the requests that are made.
 fn wanted_for(
     alloc: Global,
     network: &Network,
@@ -131,7 +131,7 @@ fn wanted_for(
     Ok(ListOf::from_vec(wanted))
 }
 
-// What is asked for with a request that is made.
+/// What is asked for with a request that is made.
 fn ask_of(made: &Made) -> Ask
     ensures { result ≡ record { seconds = made.now.seconds; last = record { 0 = last_of made.now.windows } } }
 {
@@ -141,7 +141,7 @@ fn ask_of(made: &Made) -> Ask
     }
 }
 
-// What is asked for.
+/// What is asked for.
 fn asks_of(alloc: Global, made: &[Made]) -> Result<Vec<Ask>, AllocError>
     ensures { IfOk result (λ asks. asks.items ≡ asks_of (map seen_made made.now)) }
 {
@@ -152,7 +152,7 @@ fn asks_of(alloc: Global, made: &[Made]) -> Result<Vec<Ask>, AllocError>
     Ok(asks)
 }
 
-// The operator of a group of so many requests: a cadence that makes more than one makes a `MANY`.
+/// The operator of a group of so many requests: a cadence that makes more than one makes a `MANY`.
 fn op_of(op: Op, count: usize) -> Op
     ensures { result ≡ (if is_single op && nat_lt 1 count then Many else op) }
 {
@@ -163,7 +163,7 @@ fn op_of(op: Op, count: usize) -> Op
 }
 
 impl NewGroup {
-    // A group of a document, of which these requests are wanted.
+    /// A group of a document, of which these requests are wanted.
     fn of(
         alloc: Global,
         document: GroupDoc,
@@ -191,7 +191,7 @@ impl NewGroup {
     }
 }
 
-// The numbers of requests.
+/// The numbers of requests.
 fn numbers_of(alloc: Global, requests: &[Request]) -> Result<Vec<RequestNo>, AllocError>
     ensures { IfOk result (λ numbers. numbers.items ≡ map (λ q. q.number) requests.now) }
 {
@@ -199,7 +199,7 @@ fn numbers_of(alloc: Global, requests: &[Request]) -> Result<Vec<RequestNo>, All
 }
 
 impl Desk {
-    // The group with a number that was just added, of which these requests are wanted.
+    /// The group with a number that was just added, of which these requests are wanted.
     fn new_group(
         &self,
         alloc: Global,
@@ -216,8 +216,8 @@ impl Desk {
         NewGroup::of(alloc, document, wanted, self.runs.known(number))
     }
 
-    // Adds the group of a document, whose targets have numbers, with the requests that it makes. Fails only for want of
-    // memory, and then changes nothing.
+    /// Adds the group of a document, whose targets have numbers, with the requests that it makes. Fails only for want of
+    /// memory, and then changes nothing.
     fn draft(
         &mut self,
         alloc: Global,
@@ -311,7 +311,7 @@ impl Desk {
         }
     }
 
-    // Submits a document with the requests that it makes.
+    /// Submits a document with the requests that it makes.
     fn submit_made(
         &mut self,
         alloc: Global,

@@ -11,7 +11,7 @@ use site_model::{Network, SiteFault};
 use std::alloc::{AllocError, Global};
 use std::collections::BTreeSet;
 
-// Numbers the targets of configurations. An error leaves those numbered that came before.
+/// Numbers the targets of configurations. An error leaves those numbered that came before.
 fn number_each(network: &mut Network, configurations: &[ConfigDoc]) -> Result<(), SiteFault>
     ensures { Numbers (names_of configurations.now) network.old network.new result }
 {
@@ -21,7 +21,7 @@ fn number_each(network: &mut Network, configurations: &[ConfigDoc]) -> Result<()
     Ok(())
 }
 
-// Numbers the targets of requests. An error leaves those numbered that came before.
+/// Numbers the targets of requests. An error leaves those numbered that came before.
 fn number_requests(network: &mut Network, requests: &[RequestDoc]) -> Result<(), SiteFault>
     ensures { Numbers (target_names requests.now) network.old network.new result }
 {
@@ -53,7 +53,7 @@ pub(crate) fn number_targets(
     Ok(())
 }
 
-// The numbers of the targets of configurations.
+/// The numbers of the targets of configurations.
 fn numbers_of(
     alloc: Global,
     network: &Network,

@@ -27,7 +27,7 @@ struct Place {
     member: usize,
 }
 
-// At which place the request with a number is.
+/// At which place the request with a number is.
 fn member_at(requests: &[Request], number: RequestNo) -> Option<usize>
     ensures { result ≡ position (is_request number) requests.now }
 {
@@ -60,7 +60,7 @@ impl Desk {
         })
     }
 
-    // Where the request with a number stands, if there is one.
+    /// Where the request with a number stands, if there is one.
     fn find_request(&self, number: RequestNo) -> Option<Place>
         requires { IsDesk (seen self.now) }
         ensures { MatchOption result (request_with (seen self.now) number ≡ None) (IsFoundAt (seen self.now) number) }
@@ -77,7 +77,7 @@ impl Desk {
         })
     }
 
-    // A report on a running request of which too little was taken.
+    /// A report on a running request of which too little was taken.
     fn fail(&mut self, alloc: Global, number: RequestNo) -> Result<Reply, CommandFault>
         requires desk { IsDesk (seen self.old) }
         requires room { IsRoomy self.old.ledger.books }
@@ -93,7 +93,7 @@ impl Desk {
         Ok(Reply::Failed { expired, refunded })
     }
 
-    // A report on a running request of which enough was taken.
+    /// A report on a running request of which enough was taken.
     fn complete(
         &mut self,
         alloc: Global,
@@ -125,7 +125,7 @@ impl Desk {
         })
     }
 
-    // How long the request at a place takes.
+    /// How long the request at a place takes.
     fn seconds_at(&self, place: Place) -> u64
         requires { (number : RequestNo) × IsFoundAt (seen self.now) number place }
         ensures { (number : RequestNo) (h : IsFoundAt (seen self.now) number place) → result ≡ h.request.seconds }
@@ -134,7 +134,7 @@ impl Desk {
         u64::from(group.requests.as_slice()[place.member].seconds)
     }
 
-    // How much of the request at a place has to be taken, in percent.
+    /// How much of the request at a place has to be taken, in percent.
     fn threshold_at(&self, place: Place) -> u8
         requires { (number : RequestNo) × IsFoundAt (seen self.now) number place }
         ensures { (number : RequestNo) (h : IsFoundAt (seen self.now) number place) → result ≡ h.wanted.threshold }
@@ -143,7 +143,7 @@ impl Desk {
         submitted.requests.as_slice()[place.member].threshold
     }
 
-    // The account of the request at a place.
+    /// The account of the request at a place.
     fn key_at(&self, place: Place) -> Result<Key, AllocError>
         requires { (number : RequestNo) × IsFoundAt (seen self.now) number place }
         ensures { (number : RequestNo) (h : IsFoundAt (seen self.now) number place) → IfOk result (λ key. key ≡ key_of h.submitted.document h.wanted) }
