@@ -1,5 +1,5 @@
 use Rattle.std.proofs.Common.{◌≡◌, ◌<◌, ℕ, ℤ, List, length, All, sym, ◌∙◌, ap, subst, arith}
-use Rattle.std.proofs.lemmas.Grind.{common_steps, elements}
+use Rattle.std.proofs.lemmas.Grind.{elements}
 use Rattle.plan_base.specs.declared.number.RequestNo.{RequestNo}
 use Rattle.plan_base.specs.Tables.{row}
 use Rattle.bound_checker.specs.Tables.{IsEntry}
@@ -58,7 +58,9 @@ returns c =
     subst (IsTableOf x.snapshot.now c.args.prices.now.0 t) (sym (c.from_vec.ensures ∙ c.in_ok-table.ensures.items ∙ same)) stays
 
 pub raises-requires-clause-range : goal.raises-requires-clause-range
-raises-requires-clause-range c = grind (arith, common_steps)
+raises-requires-clause-range c =
+    range_more c.args.extension.now c.requires.priceable c.recall_valid.ensures.orderly c.recall_valid-2.ensures.orderly c.requires.prices.0
+    c.args.prices.now.0 c.requires.prices.1
 
 pub raises-requires-clause-count : goal.raises-requires-clause-count
 raises-requires-clause-count c = grind (arith, elements)
