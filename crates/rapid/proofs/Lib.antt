@@ -26,3 +26,5 @@ pub mod Writing
 pub mod Deciding
 pub mod Answering
 pub mod Inserting
+pub mod Lines
+pub mod Checked

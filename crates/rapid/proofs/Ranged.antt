@@ -15,11 +15,12 @@ use Rattle.rapid.specs.Insertion.{with_group}
 use Rattle.rapid.specs.Refused.{IsGroupInRanges}
 use Rattle.rapid.proofs.Appended.{listed_after}
 
-all_left : {X : Type 0} (P : X → Type 0) (xs ys : List X) → All P (xs ++ ys) → All P xs
+-- what holds of all of two lists holds of all of each
+pub all_left : {X : Type 0} (P : X → Type 0) (xs ys : List X) → All P (xs ++ ys) → All P xs
 all_left P xs ys all i d l = let count : length (xs ++ ys) ≡ length xs + length ys = length-append xs ys in
     subst P (get_or_append_left xs ys d i l) (all i d (omega arith))
 
-all_right : {X : Type 0} (P : X → Type 0) (xs ys : List X) → All P (xs ++ ys) → All P ys
+pub all_right : {X : Type 0} (P : X → Type 0) (xs ys : List X) → All P (xs ++ ys) → All P ys
 all_right P xs ys all i d l = let count : length (xs ++ ys) ≡ length xs + length ys = length-append xs ys in
     subst P (get_or-append-add xs ys i d) (all (length xs + i) d (omega arith))
 

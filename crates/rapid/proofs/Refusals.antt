@@ -5,6 +5,7 @@ use Rattle.plan_base.specs.declared.parts.Parts.{Parts}
 use Rattle.plan_base.specs.declared.parts.GroupPart.{GroupPart}
 use Rattle.plan_base.specs.declared.parts.Op.{Op}
 use Rattle.plan_base.specs.declared.parts.Op.TheVariants.{Single, Many, OneOf, And}
+use Rattle.plan_base.specs.declared.fault.SnapshotFault.{SnapshotFault}
 use Rattle.plan_base.specs.Snapshot.{fault_of}
 use Rattle.rapid.specs.declared.fault.RapidFault.{RapidFault}
 use Rattle.rapid.specs.declared.fault.RapidFault.TheVariants.{NotSingle, Snapshot}
@@ -34,3 +35,13 @@ single_from false o fault e = cc
 pub accepted_single : (s : Parts) (group : GroupPart) → refusal_of s group ≡ None → group.op ≡ Single
 accepted_single s group e = single_by group.op
     (single_from (is_single group.op) (option_map (λ f. Snapshot f) (fault_of (with_group s group))) (NotSingle group.group) e)
+
+faultless_from : (b : Bool) (found : Option SnapshotFault) (fault : RapidFault) → cond b (option_map (λ f. Snapshot f) found) (Some fault) ≡ None
+    → found ≡ None
+faultless_from true None fault e = refl
+faultless_from true (Some other) fault e = cc
+faultless_from false found fault e = cc
+
+-- with what isn't refused the parts have no fault
+pub accepted_faultless : (s : Parts) (group : GroupPart) → refusal_of s group ≡ None → fault_of (with_group s group) ≡ None
+accepted_faultless s group e = faultless_from (is_single group.op) (fault_of (with_group s group)) (NotSingle group.group) e

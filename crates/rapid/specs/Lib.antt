@@ -14,3 +14,4 @@ pub mod Document
 pub mod Written
 pub mod Run
 pub mod Lines
+pub mod Laws

@@ -20,6 +20,6 @@ mod written;
 
 pub use fault::RapidFault;
 pub use inserted::Inserted;
-pub use laws::{insertions_are_certified, refusals_decide};
+pub use laws::{insertions_are_certified, insertions_are_checked, refusals_decide};
 pub use rapid::{Rapid, RapidAnswer};
 pub use run::run_rapid;
