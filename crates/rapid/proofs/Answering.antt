@@ -34,17 +34,15 @@ answer_is d text said.No open_d h = absurd h
 answer_is d text said.NoDocument open_d h = (open_d, h)
 
 -- where the claim is certified
-pub ready_answer : {E : Type 0} (d : RapidDocument) (claim : Claim) (answer : RapidAnswer) (rapid : Standing) (groups : List GroupPart)
-    (r : Result Answer E) → claim ≡ d.publication.claim → IsAnswer d.publication.snapshot claim answer → answer ≡ Ready rapid
-    → groups ≡ d.groups → IfOk r (λ a. IsAnswerFrom rapid groups a.text.items a.said) → IfOk r (λ a. IsAnswerTo d a.text.items a.said)
-ready_answer d claim answer rapid groups r same h e listed ok =
+pub ready_answer : {E : Type 0} (d : RapidDocument) (claim : Claim) (answer : RapidAnswer) (rapid : Standing) (r : Result Answer E)
+    → claim ≡ d.publication.claim → IsAnswer d.publication.snapshot claim answer → answer ≡ Ready rapid
+    → IfOk r (λ a. IsAnswerFrom rapid d.groups a.text.items a.said) → IfOk r (λ a. IsAnswerTo d a.text.items a.said)
+ready_answer d claim answer rapid r same h e ok =
     let ready : IsAnswer d.publication.snapshot d.publication.claim (Ready rapid) =
     subst (λ (c : Claim). IsAnswer d.publication.snapshot c (Ready rapid)) same (subst (IsAnswer d.publication.snapshot claim) e h) in
-    both_ok (λ (a : Answer). IsAnswerFrom rapid groups a.text.items a.said) (λ (a : Answer). IsAnswerFrom rapid groups a.text.items a.said)
+    both_ok (λ (a : Answer). IsAnswerFrom rapid d.groups a.text.items a.said) (λ (a : Answer). IsAnswerFrom rapid d.groups a.text.items a.said)
     (λ (a : Answer). IsAnswerTo d a.text.items a.said) r ok ok
-    (λ a p q. answer_is d a.text.items a.said ready.1
-    (subst (λ (gs : List GroupPart). IsAnswerFrom (opening d.publication.snapshot d.publication.claim) gs a.text.items a.said) listed
-    (subst (λ (b : Standing). IsAnswerFrom b groups a.text.items a.said) ready.0 p)))
+    (λ a p q. answer_is d a.text.items a.said ready.1 (subst (λ (b : Standing). IsAnswerFrom b d.groups a.text.items a.said) ready.0 p))
 
 -- where it isn't
 pub no_answer : {E : Type 0} (d : RapidDocument) (claim : Claim) (answer : RapidAnswer) (reason : Reason) (r : Result Answer E)

@@ -12,20 +12,19 @@ use crate::document::{RapidDocument, read_bytes};
 use crate::fault::RapidFault;
 use crate::rapid::{Rapid, RapidAnswer};
 use crate::written::InsertedDoc;
-use plan_base::{GroupPart, Verdict};
+use plan_base::{GroupPart, ListOf, Verdict};
 use plan_doc::{DocFault, VerdictDoc, answer_line};
 use plan_io::{Answer, Answers, Said, Sink, Source, Status, run_document};
 use plan_json::add_line;
 use std::alloc::{AllocError, Global};
 
 /// Inserts a group, and adds the line of that.
-fn insert_one(rapid: &mut Rapid, group: &GroupPart, text: &mut Vec<u8>) -> Result<(), RapidFault>
-    requires { IsGroupInRanges group.now }
-    ensures ok { OnOk result (IsLineOf rapid.old group.now rapid.new text.old.items text.new.items) }
-    ensures refused { IfErr result (λ fault. fault ≢ NoMemory → refusal_of rapid.old.snapshot group.now ≡ Some fault) }
+fn insert_one(rapid: &mut Rapid, group: GroupPart, text: &mut Vec<u8>) -> Result<(), RapidFault>
+    requires { IsGroupInRanges group }
+    ensures ok { OnOk result (IsLineOf rapid.old group rapid.new text.old.items text.new.items) }
+    ensures refused { IfErr result (λ fault. fault ≢ NoMemory → refusal_of rapid.old.snapshot group ≡ Some fault) }
     ensures kept { IfErr result (λ fault. fault ≢ NoMemory → text.new.items ≡ text.old.items) }
 {
-    let group = group.clone()?;
     let inserted = rapid.insert(group)?;
     let line = InsertedDoc {
         claim: rapid.claim(),
@@ -39,14 +38,14 @@ fn insert_one(rapid: &mut Rapid, group: &GroupPart, text: &mut Vec<u8>) -> Resul
 /// Inserts groups one after another, and adds the lines of that. Stops at one that is refused.
 fn insert_each(
     rapid: &mut Rapid,
-    groups: &[GroupPart],
+    groups: ListOf<GroupPart>,
     text: &mut Vec<u8>,
 ) -> Result<(), RapidFault>
-    requires { All IsGroupInRanges groups.now }
-    ensures ok { OnOk result (AreLinesOf rapid.old groups.now rapid.new text.old.items text.new.items) }
-    ensures fault { IfErr result (λ fault. fault ≢ NoMemory → IsStoppedAt rapid.old groups.now fault text.old.items text.new.items) }
+    requires { All IsGroupInRanges groups }
+    ensures ok { OnOk result (AreLinesOf rapid.old groups rapid.new text.old.items text.new.items) }
+    ensures fault { IfErr result (λ fault. fault ≢ NoMemory → IsStoppedAt rapid.old groups fault text.old.items text.new.items) }
 {
-    for group in groups {
+    for group in groups.into_vec() {
         if let Err(fault) = insert_one(rapid, group, text) {
             return Err(fault);
         }
@@ -77,9 +76,13 @@ fn with_refusal(text: Vec<u8>, fault: RapidFault) -> Result<Answer, AllocError>
 }
 
 /// What is written where groups are inserted.
-fn answer_from(alloc: Global, rapid: &mut Rapid, groups: &[GroupPart]) -> Result<Answer, AllocError>
-    requires { All IsGroupInRanges groups.now }
-    ensures { IfOk result (λ a. IsAnswerFrom rapid.old groups.now a.text.items a.said) }
+fn answer_from(
+    alloc: Global,
+    rapid: &mut Rapid,
+    groups: ListOf<GroupPart>,
+) -> Result<Answer, AllocError>
+    requires { All IsGroupInRanges groups }
+    ensures { IfOk result (λ a. IsAnswerFrom rapid.old groups a.text.items a.said) }
 {
     let mut text = Vec::new(alloc);
     match insert_each(rapid, groups, &mut text) {
@@ -92,16 +95,17 @@ fn answer_from(alloc: Global, rapid: &mut Rapid, groups: &[GroupPart]) -> Result
 }
 
 /// What is written of a document.
-fn answer_to(alloc: Global, document: &RapidDocument) -> Result<Answer, AllocError>
-    requires { All IsGroupInRanges document.now.groups }
-    ensures { IfOk result (λ a. IsAnswerTo document.now a.text.items a.said) }
+fn answer_to(alloc: Global, document: RapidDocument) -> Result<Answer, AllocError>
+    requires { All IsGroupInRanges document.groups }
+    ensures { IfOk result (λ a. IsAnswerTo document a.text.items a.said) }
 {
-    let publication = &document.publication;
+    let RapidDocument {
+        publication,
+        groups,
+    } = document;
     let claim = publication.claim.copy()?;
     match Rapid::new(alloc, &publication.snapshot, claim)? {
-        RapidAnswer::Ready(mut rapid) => {
-            answer_from(alloc, &mut rapid, document.groups.as_slice())
-        }
+        RapidAnswer::Ready(mut rapid) => answer_from(alloc, &mut rapid, groups),
         RapidAnswer::No(reason) => answer_line(alloc, &VerdictDoc(Verdict::No(reason)), Said::No),
     }
 }
@@ -114,7 +118,7 @@ impl Answers for Insert {
 
     fn answer(&self, alloc: Global, input: &[u8]) -> Result<Answer, AllocError> {
         match read_bytes(alloc, input) {
-            Ok(document) => answer_to(alloc, &document),
+            Ok(document) => answer_to(alloc, document),
             Err(DocFault::NoMemory) => Err(AllocError),
             Err(fault) => answer_line(alloc, &fault, Said::NoDocument),
         }
