@@ -88,6 +88,17 @@ def test_a_torn_reply_is_none_even_where_a_letter_is_torn(resume) -> None:
     assert resume(torn, joined(LINES))[1] == LINES[:7]
 
 
+def test_a_line_that_is_not_utf_8_stays_as_it_was(tmp_path: Path, monkeypatch: pytest.MonkeyPatch, capfdbinary) -> None:
+    monkeypatch.chdir(tmp_path)
+    for line in (b"\xff", b'{"do":"plan","x":"\xed\xa0\x80\xff"}'):
+        refused = '{"caller":0,"line":10,"no":1,"refused":"NotJson","version":7}'
+        Path("output.jsonl").write_text(joined([*REPLIES, refused]), encoding="utf-8")
+        for end in (b"\n", b""):
+            Path("script.jsonl").write_bytes(joined(LINES).encode() + line + end)
+            assert cli.main(["resume", "output.jsonl", "--script", "script.jsonl"]) == 0
+            assert capfdbinary.readouterr().out == joined([*LINES[:7], PUBLISH, LINES[8]]).encode() + line + b"\n"
+
+
 def test_a_torn_line_counts_only_where_it_was_replied_to(resume) -> None:
     script = joined(LINES[:8]) + LINES[8]
     assert resume(joined(REPLIES), script)[1] == [*LINES[:7], PUBLISH, LINES[8]]

@@ -3,6 +3,8 @@
 from __future__ import annotations
 
 import argparse
+import io
+import sys
 
 from purvelj.cli.words import Commands, put, tell
 from purvelj.documents import decoded, read_bytes, source_of
@@ -29,7 +31,10 @@ def run_resume(options: argparse.Namespace) -> int:
     output, _ = pieces(read_bytes(options.output))
     script, torn = pieces(read_bytes(options.script))
     replies = [text for text in decoded(output, source).split("\n") if text.strip()]
-    lines = decoded(script, source_of(options.script)).split("\n")[:-1]
+    # A session refuses a line that isn't UTF-8. So does the new one, which is to get the same bytes.
+    lines = decoded(script, source_of(options.script), "surrogateescape").split("\n")[:-1]
+    if isinstance(sys.stdout, io.TextIOWrapper):
+        sys.stdout.reconfigure(errors="surrogateescape")
     found = stopped(replies, lines, torn, source)
     size = 0
     for exchange in found.done:
