@@ -34,10 +34,10 @@ pub fn refusals_decide()
         → first_refusal before.snapshot groups ≡ Some cut.refusal }
 {}
 
-/// What is written of groups is what is written of each in turn. Where the claim of a document is certified, each of its lines is
-/// read as an object, whose member `claim` is the claim that then stands, as it is written. An object that has this beside the
-/// snapshot with the groups so far at its end is read as these two, and the verdict on them is Yes, with the claim's value and bound:
-/// where the snapshot is as it is written, and in whatever other way it is read as that.
+/// What is written of groups is what is written of each in turn. Where the claim of a document is certified, each line of an
+/// insertion is read as an object, whose member `claim` is the claim that then stands, as it is written. An object that has this
+/// beside the snapshot with the groups so far at its end is read as these two, and the verdict on them is Yes, with the claim's value
+/// and bound: where the snapshot is as it is written, and in whatever other way it is read as that.
 pub fn insertions_are_checked()
     ensures turns { WritesInTurn }
     ensures lines { LinesHaveClaims }
