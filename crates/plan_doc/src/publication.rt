@@ -1,5 +1,7 @@
 // A snapshot with a claim on it.
 
+ghost use Rattle.std.specs.Prelude.{◌≡◌};
+
 use plan_base::{Claim, Snapshot};
 
 /// A snapshot, and a claim that was made on it: what an `export` line of a desk replies, and what a check reads.
@@ -16,5 +18,16 @@ impl Drop for Publication {
             snapshot: _,
             claim: _,
         } = self;
+    }
+}
+
+impl Publication {
+    /// Both apart.
+    pub fn into_parts(self) -> (Snapshot, Claim)
+        ensures same_snapshot { result.0 ≡ self.snapshot }
+        ensures same_claim { result.1 ≡ self.claim }
+    {
+        let Publication { snapshot, claim } = self;
+        (snapshot, claim)
     }
 }

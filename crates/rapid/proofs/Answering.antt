@@ -1,5 +1,6 @@
 -- What is written of a document.
 use Rattle.std.proofs.Common.{◌≡◌, ℕ, List, [], ◌++◌, Result, Ok, Err, IfOk, sym, ◌∙◌, ap, subst}
+use Rattle.plan_base.specs.declared.parts.Parts.{Parts}
 use Rattle.plan_base.specs.declared.parts.GroupPart.{GroupPart}
 use Rattle.plan_base.specs.declared.claim.Claim.{Claim}
 use Rattle.plan_base.specs.declared.verdict.Reason.{Reason}
@@ -33,24 +34,30 @@ answer_is d text said.Yes open_d h = (open_d, h.0, h.1)
 answer_is d text said.No open_d h = absurd h
 answer_is d text said.NoDocument open_d h = (open_d, h)
 
+-- an answer to the parts of a publication is one to the publication
+parted : (d : RapidDocument) (s : Parts) (claim : Claim) (answer one : RapidAnswer)
+    → s ≡ d.publication.snapshot → claim ≡ d.publication.claim → IsAnswer s claim answer → answer ≡ one
+    → IsAnswer d.publication.snapshot d.publication.claim one
+parted d s claim answer one same_s same h e =
+    subst (λ (x : Parts). IsAnswer x d.publication.claim one) same_s
+    (subst (λ (c : Claim). IsAnswer s c one) same (subst (IsAnswer s claim) e h))
+
 -- where the claim is certified
-pub ready_answer : {E : Type 0} (d : RapidDocument) (claim : Claim) (answer : RapidAnswer) (rapid : Standing) (r : Result Answer E)
-    → claim ≡ d.publication.claim → IsAnswer d.publication.snapshot claim answer → answer ≡ Ready rapid
+pub ready_answer : {E : Type 0} (d : RapidDocument) (s : Parts) (claim : Claim) (answer : RapidAnswer) (rapid : Standing) (r : Result Answer E)
+    → s ≡ d.publication.snapshot → claim ≡ d.publication.claim → IsAnswer s claim answer → answer ≡ Ready rapid
     → IfOk r (λ a. IsAnswerFrom rapid d.groups a.text.items a.said) → IfOk r (λ a. IsAnswerTo d a.text.items a.said)
-ready_answer d claim answer rapid r same h e ok =
-    let ready : IsAnswer d.publication.snapshot d.publication.claim (Ready rapid) =
-    subst (λ (c : Claim). IsAnswer d.publication.snapshot c (Ready rapid)) same (subst (IsAnswer d.publication.snapshot claim) e h) in
+ready_answer d s claim answer rapid r same_s same h e ok =
+    let ready : IsAnswer d.publication.snapshot d.publication.claim (Ready rapid) = parted d s claim answer (Ready rapid) same_s same h e in
     both_ok (λ (a : Answer). IsAnswerFrom rapid d.groups a.text.items a.said) (λ (a : Answer). IsAnswerFrom rapid d.groups a.text.items a.said)
     (λ (a : Answer). IsAnswerTo d a.text.items a.said) r ok ok
     (λ a p q. answer_is d a.text.items a.said ready.1 (subst (λ (b : Standing). IsAnswerFrom b d.groups a.text.items a.said) ready.0 p))
 
 -- where it isn't
-pub no_answer : {E : Type 0} (d : RapidDocument) (claim : Claim) (answer : RapidAnswer) (reason : Reason) (r : Result Answer E)
-    → claim ≡ d.publication.claim → IsAnswer d.publication.snapshot claim answer → answer ≡ No reason
+pub no_answer : {E : Type 0} (d : RapidDocument) (s : Parts) (claim : Claim) (answer : RapidAnswer) (reason : Reason) (r : Result Answer E)
+    → s ≡ d.publication.snapshot → claim ≡ d.publication.claim → IsAnswer s claim answer → answer ≡ No reason
     → IfOk r (λ a. a.text.items ≡ line_of (reason_data reason)) → IfOk r (λ a. a.said ≡ said.No) → IfOk r (λ a. IsAnswerTo d a.text.items a.said)
-no_answer d claim answer reason r same h e text what =
-    let no : IsVerdict d.publication.snapshot d.publication.claim (judged.No reason) =
-    subst (λ (c : Claim). IsVerdict d.publication.snapshot c (judged.No reason)) same (subst (IsAnswer d.publication.snapshot claim) e h) in
+no_answer d s claim answer reason r same_s same h e text what =
+    let no : IsVerdict d.publication.snapshot d.publication.claim (judged.No reason) = parted d s claim answer (No reason) same_s same h e in
     both_ok (λ (a : Answer). a.text.items ≡ line_of (reason_data reason)) (λ (a : Answer). a.said ≡ said.No)
     (λ (a : Answer). IsAnswerTo d a.text.items a.said) r text what
     (λ a t w. subst (λ (x : Said). IsAnswerTo d a.text.items x) (sym w) (reason, no, t))

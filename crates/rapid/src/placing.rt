@@ -61,21 +61,26 @@ fn with_start(
     snapshot: &Snapshot,
     held: &[Held],
     request: RequestNo,
-    found: &Found,
+    found: Found,
 ) -> Result<Placing, AllocError>
     requires stage { IsStage snapshot.now request.0 held.now }
-    requires earliest { IsEarliestFound snapshot.now held.now request.0 found.now }
+    requires earliest { IsEarliestFound snapshot.now held.now request.0 found }
     ensures { IfOk result (IsPlacedSo snapshot.now (plan_of held.now) request.0) }
 {
     snapshot.recall_valid();
-    let displaced = rising_requests(alloc, found.gone.as_slice())?;
-    let mut plan = Vec::from_slice(alloc, found.kept.as_slice())?;
-    plan.push(found.start)?;
+    let Found {
+        start,
+        gone,
+        kept: mut plan,
+        gain,
+    } = found;
+    let displaced = rising_requests(alloc, gone.as_slice())?;
+    plan.push(start)?;
     Ok(Placing {
-        inserted: Inserted::Placed(found.start),
+        inserted: Inserted::Placed(start),
         placements: listing_of(plan),
         displaced,
-        gain: found.gain,
+        gain,
     })
 }
 
@@ -112,7 +117,7 @@ pub(crate) fn place(
     snapshot.recall_valid();
     let held = held_plan(alloc, snapshot, known_quota(snapshot, request), plan)?;
     match earliest(alloc, snapshot, held.as_slice(), request)? {
-        Some(found) => with_start(alloc, snapshot, held.as_slice(), request, &found),
+        Some(found) => with_start(alloc, snapshot, held.as_slice(), request, found),
         None => without_start(alloc, snapshot, plan, request),
     }
 }

@@ -103,8 +103,8 @@ fn answer_to(alloc: Global, document: RapidDocument) -> Result<Answer, AllocErro
         publication,
         groups,
     } = document;
-    let claim = publication.claim.copy()?;
-    match Rapid::new(alloc, &publication.snapshot, claim)? {
+    let (snapshot, claim) = publication.into_parts();
+    match Rapid::new(alloc, &snapshot, claim)? {
         RapidAnswer::Ready(mut rapid) => answer_from(alloc, &mut rapid, groups),
         RapidAnswer::No(reason) => answer_line(alloc, &VerdictDoc(Verdict::No(reason)), Said::No),
     }
