@@ -1,6 +1,6 @@
 -- Groups and requests at the places of their numbers.
 use Rattle.std.proofs.Common.{◌≡◌, ◌≢◌, ℕ, zero, suc, ◌+◌, ◌-◌, ◌<◌, ◌≤◌, ◌==◌, Bool, true, false, cond, List, [], ◌∷◌, ◌++◌, length, map, filter, All}
-use Rattle.std.proofs.Common.{get_or, refl, sym, ◌∙◌, ap, subst, arith, inl, inr, Option, Some, None}
+use Rattle.std.proofs.Common.{get_or, refl, sym, ◌∙◌, ap, subst, arith, inl, inr, Option, Some, None, MatchOption}
 use Rattle.std.specs.List.{slice_get, list_any, fold}
 use Rattle.std.proofs.lemmas.Bool.{cases_lt, eqb-true, eq-eqb, false_from_ne_true}
 use Rattle.std.proofs.lemmas.List.{append_assoc, length-map, length_push, get_or-map, get_or_default, get_or_append_left, get_or-append_right}
@@ -183,6 +183,13 @@ owners_length p (g ∷ gs) =
     let c : length (owners_from (p + 1) gs) ≡ length (requests_of gs) = owners_length (p + 1) gs in
     let d : length (g.requests ++ requests_of gs) ≡ length g.requests + length (requests_of gs) = length-append g.requests (requests_of gs) in
     omega arith
+
+-- what is looked up stands within the list or beyond it
+pub match_get : (P : Type 0) (Q : ℕ → Type 0) (l : List ℕ) (i d : ℕ) → (length l ≤ i → P) → (i < length l → Q (get_or l i d))
+    → MatchOption (slice_get l i) P Q
+match_get P Q [] i d far near = far (omega arith)
+match_get P Q (x ∷ l) zero d far near = near (omega arith)
+match_get P Q (x ∷ l) (suc i) d far near = match_get P Q l i d (λ h. far (omega (arith, h))) (λ h. near (omega (arith, h)))
 
 -- no group has a request of a number at or below that after which they go on
 pub with_none : (b : ℕ) (number : RequestNo) (gs : List Group) → IsCountedFrom b (map (λ q. q.number.0) (requests_of gs)) → number.0 ≤ b

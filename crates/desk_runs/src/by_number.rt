@@ -1,6 +1,6 @@
 // Groups at the places of their numbers.
 
-ghost use Rattle.std.specs.Prelude.{◌≡◌, ◌+◌, ◌≤◌, ◌<◌, ◌^◌, All, slice_get, length, filter, fold, sum_by};
+ghost use Rattle.std.specs.Prelude.{◌≡◌, ◌-◌, ◌≤◌, ◌<◌, ◌^◌, All, slice_get, length, filter, fold, sum_by, SomeIff};
 ghost use Rattle.std.specs.Option.{option_copied};
 ghost use Rattle.desk_runs.specs.Changes.{put};
 ghost use Rattle.desk_runs.specs.Owners.{pending_of};
@@ -9,11 +9,18 @@ ghost use Rattle.desk_runs.specs.Turning.{group_of, is_open_at};
 use crate::group::Group;
 use plan_base::GroupNo;
 
-/// The group at a place, if there is one.
-pub(crate) fn at_place(groups: &[Group], place: usize) -> Option<&Group>
-    ensures { option_copied result ≡ slice_get groups.now place }
+/// The place of a number, from 0; 0 has none.
+pub(crate) fn place_of(number: u32) -> Option<usize>
+    ensures { SomeIff result (1 ≤ number) (number - 1) }
 {
-    groups.get(place)
+    (number as usize).checked_sub(1)
+}
+
+/// What stands at a place, if anything does.
+pub(crate) fn at_place<T: Drop>(items: &[T], place: usize) -> Option<&T>
+    ensures { option_copied result ≡ slice_get items.now place }
+{
+    items.get(place)
 }
 
 /// The group at the place of a number.
@@ -36,14 +43,14 @@ pub(crate) fn put_groups(groups: &mut Vec<Group>, changed: Vec<Group>)
     }
 }
 
-// Whether the group with a number is open.
+/// Whether the group with a number is open.
 fn is_open_at(groups: &[Group], number: GroupNo) -> bool
     ensures { result ≡ is_open_at groups.now number }
 {
-    if number.0 == 0 {
+    let Some(place) = place_of(number.0) else {
         return false;
-    }
-    match groups.get((number.0 - 1) as usize) {
+    };
+    match groups.get(place) {
         Some(group) => group.is_open(),
         None => false,
     }

@@ -15,7 +15,7 @@ ghost use Rattle.desk_runs.specs.Changes.{changed};
 ghost use Rattle.desk_runs.specs.Sound.{IsSound, IsWithdrawable, CanChange};
 ghost use Rattle.desk_runs.specs.Reports.{withdrawn, reported};
 
-use crate::by_number::{at_place, count_pending, group_of, keep_open, put_groups};
+use crate::by_number::{at_place, count_pending, group_of, keep_open, place_of, put_groups};
 use crate::change::{Change, Moved, Reported};
 use crate::changing::canceled;
 use crate::expiry::expire;
@@ -155,10 +155,8 @@ impl Runs {
         ensures { option_copied result ≡ group_at self.now.groups number }
     {
         let groups = self.groups.as_slice();
-        if number.0 == 0 {
-            return None;
-        }
-        at_place(groups, (number.0 - 1) as usize)
+        let place = place_of(number.0)?;
+        at_place(groups, place)
     }
 
     /// The group with a number, from 1 to that of the last group.
@@ -169,30 +167,22 @@ impl Runs {
         group_of(self.groups.as_slice(), number)
     }
 
-    // The place of the group of a request, if there is a request with the number.
+    /// The place of the group of a request, if there is a request with the number.
     fn place_with(&self, number: RequestNo) -> Option<usize>
         ensures { MatchOption result (group_with self.now.groups number ≡ None)
             (λ place. (place < length self.now.groups) × (group_with self.now.groups number ≡ Some (slice_index_or self.now.groups place no_group))) }
     {
         let owners = self.owners.as_slice();
-        if number.0 == 0 {
-            return None;
-        }
-        let place = (number.0 - 1) as usize;
-        if place >= owners.len() {
-            return None;
-        }
-        Some(owners[place])
+        let place = place_of(number.0)?;
+        at_place(owners, place).copied()
     }
 
     /// The group of a request, if there is a request with the number.
     pub fn group_with(&self, number: RequestNo) -> Option<&Group>
         ensures { option_copied result ≡ group_with self.now.groups number }
     {
-        match self.place_with(number) {
-            Some(place) => at_place(self.groups.as_slice(), place),
-            None => None,
-        }
+        let place = self.place_with(number)?;
+        at_place(self.groups.as_slice(), place)
     }
 
     /// What another moment does: observations begin and end, and requests become window expired. Fails only for want of
@@ -225,7 +215,7 @@ impl Runs {
         })
     }
 
-    // The group of a request that is running.
+    /// The group of a request that is running.
     fn group_of_running(&self, number: RequestNo) -> &Group
         requires { is_placed self.now.running number ≡ true }
         ensures { group_with self.now.groups number ≡ Some result.now }
