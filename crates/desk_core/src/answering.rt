@@ -142,10 +142,7 @@ pub(crate) fn changes(command: &Command) -> u64
     ensures count { result ≡ changes command.now }
     ensures few { result ≤ 1 }
 {
-    match command {
-        Command::Export | Command::Balances | Command::Show { .. } => 0,
-        _ => 1,
-    }
+    u64::from(!is_showing(command))
 }
 
 /// Whether a command says what there is.

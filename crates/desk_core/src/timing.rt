@@ -65,12 +65,8 @@ impl Desk {
         requires { IsDesk (seen self.now) }
         ensures { MatchOption result (request_with (seen self.now) number ≡ None) (IsFoundAt (seen self.now) number) }
     {
-        let Some(group) = self.runs.group_with(number) else {
-            return None;
-        };
-        let Some(member) = member_at(group.requests.as_slice(), number) else {
-            return None;
-        };
+        let group = self.runs.group_with(number)?;
+        let member = member_at(group.requests.as_slice(), number)?;
         Some(Place {
             group: group.number,
             member,

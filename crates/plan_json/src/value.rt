@@ -88,10 +88,8 @@ pub(crate) fn moment_in(value: &Value, member: Member) -> Result<Sec, JsonFault>
     ensures { result ≡ moment_in member (view value.now) }
 {
     if let Some(text) = value.as_str() {
-        return match second_of(text.as_bytes()) {
-            Some(second) => Ok(Sec(second)),
-            None => Err(JsonFault::BadMoment { member }),
-        };
+        let second = second_of(text.as_bytes()).ok_or(JsonFault::BadMoment { member })?;
+        return Ok(Sec(second));
     }
     let second = whole_in(value, member, 0, LAST_MOMENT)?;
     Ok(Sec(second as u64))
@@ -102,10 +100,8 @@ pub(crate) fn moment_in(value: &Value, member: Member) -> Result<Sec, JsonFault>
 pub(crate) fn elements_in(value: &Value, member: Member) -> Result<&[Value], JsonFault>
     ensures { result_map (λ items. map view items.now) result ≡ elements_in member (view value.now) }
 {
-    match value.as_array() {
-        Some(items) => Ok(items.as_slice()),
-        None => Err(JsonFault::WrongKind { member }),
-    }
+    let items = value.as_array().ok_or(JsonFault::WrongKind { member })?;
+    Ok(items.as_slice())
 }
 
 /// The elements of the list, if there are `least` to `most`.
@@ -148,8 +144,5 @@ pub(crate) fn object_in(value: &Value, member: Member) -> Result<&Map<String, Va
     ensures { result_map (λ found. members_view found.now.entries) result
         ≡ object_in member (view value.now) }
 {
-    match value.as_object() {
-        Some(members) => Ok(members),
-        None => Err(JsonFault::WrongKind { member }),
-    }
+    value.as_object().ok_or(JsonFault::WrongKind { member })
 }

@@ -42,9 +42,9 @@ impl Element<Placement> for Placements {
 
     fn read(&self, _alloc: Global, list: &DocList, index: u32) -> Result<Placement, JsonFault> {
         let triple = list.list(index, 3)?;
-        let request = number_at(&triple, 0, 4_294_967_295)?;
-        let telescope = number_at(&triple, 1, 65_535)?;
-        let slice = number_at(&triple, 2, 4_294_967_295)?;
+        let request = number_at(&triple, 0, u64::from(u32::MAX))?;
+        let telescope = number_at(&triple, 1, u64::from(u16::MAX))?;
+        let slice = number_at(&triple, 2, u64::from(u32::MAX))?;
         Ok(Placement {
             request: RequestNo(request as u32),
             telescope: TelescopeNo(telescope as u16),

@@ -87,10 +87,8 @@ impl Element<RequestPart> for Requests {
 fn read_quota(doc: &Doc) -> Result<Option<u16>, JsonFault>
     ensures { result ≡ if_there (number_in 0 65535) (members_of doc.now) key.Quota }
 {
-    match doc.optional_number(Member::Quota, 0, HIGHEST_NUMBER)? {
-        Some(place) => Ok(Some(place as u16)),
-        None => Ok(None),
-    }
+    let place = doc.optional_number(Member::Quota, 0, HIGHEST_NUMBER)?;
+    Ok(place.map(|place| place as u16))
 }
 
 fn read_group(alloc: Global, doc: &Doc) -> Result<GroupPart, JsonFault>
