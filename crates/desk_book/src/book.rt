@@ -21,8 +21,8 @@ use std::alloc::{AllocError, Global};
 use std::marker::Model;
 
 /// What the callers of a desk send, what was done of it in which order, and the state that this leaves. Callers are counted
-/// from 0, and one that is handed in is below `callers()`, except that `kept` answers None of a caller that isn't there. `line` takes a
-/// line's place from 0; an entry names it from 1.
+/// from 0, and one that is handed in is below `callers()`, except that of one that isn't there `kept` answers None and `publish`
+/// that nothing was taken. `line` takes a line's place from 0; an entry names it from 1.
 ///
 /// Each call fails only for want of memory, and then the book is as before.
 pub struct Book {

@@ -87,7 +87,7 @@ IsForTake v solved = (t : OpenTake) × (v.take ≡ Some t) × (solved.taken ≡ 
 abbrev pub IsFoundReply : SolvedTake → EventEntry → Type 0
 IsFoundReply solved e = (s : StateSeen) × (s.version ≡ e.version) × (e.reply ≡ publish_reply s solved)
 
--- what was found for the pass's open Take is published, or told to be stale, with the line of this Take
+-- what was found for the pass's open Take is published, or told to be stale or to have too many starts, with the line of this Take
 abbrev pub IsPublished : PassView → SolvedTake → ℕ → PassView → Type 0
 IsPublished v solved place w =
     (t : OpenTake) × (v.take ≡ Some t)

@@ -57,7 +57,7 @@ fn publish_open(book: &mut Book, solved: Solved) -> Result<(), AllocError>
 type PassSeat = Seat<Option<Book>, PassView>;
 
 impl SharedDesk {
-    // Waits for the turn, which takes the slot with the book.
+    /// Waits for the turn, which takes the slot with the book.
     fn take_turn<R: Wait>(&self, rt: &R, seat: &mut PassSeat)
         requires desk { seat.old.table_id ≡ self.now.table.shared.table_id }
         requires no_slot { seat.old.me.1 ≡ [] }
@@ -77,7 +77,7 @@ impl SharedDesk {
         }
     }
 
-    // Waits for the turn, and takes the book out of the slot.
+    /// Waits for the turn, and takes the book out of the slot.
     fn take_book<R: Wait>(&self, rt: &R, seat: &mut PassSeat) -> Book
         requires desk { seat.old.table_id ≡ self.now.table.shared.table_id }
         requires no_slot { seat.old.me.1 ≡ [] }
@@ -92,7 +92,7 @@ impl SharedDesk {
         book
     }
 
-    // Puts the book into the slot, which is empty.
+    /// Puts the book into the slot, which is empty.
     fn put_book(&self, seat: &mut PassSeat, book: Book)
         requires desk { seat.old.table_id ≡ self.now.table.shared.table_id }
         requires empty { seat.old.me.1 ≡ (0, None) ∷ [] }
@@ -104,7 +104,7 @@ impl SharedDesk {
         };
     }
 
-    // Gives the book and the turn back, as they were taken.
+    /// Gives the book and the turn back, as they were taken.
     fn give_back(&self, seat: &mut PassSeat, book: Book)
         requires desk { seat.old.table_id ≡ self.now.table.shared.table_id }
         requires empty { seat.old.me.1 ≡ (0, None) ∷ [] }
@@ -117,7 +117,7 @@ impl SharedDesk {
         self.table.shared.swap::<GiveTurn>(seat, TURN, 0);
     }
 
-    // Counts the entry that the book has more now, and gives the book and the turn back. Answers the entry's place.
+    /// Counts the entry that the book has more now, and gives the book and the turn back. Answers the entry's place.
     fn count_and_give_back(&self, seat: &mut PassSeat, caller: u8, book: Book) -> u64
         requires desk { seat.old.table_id ≡ self.now.table.shared.table_id }
         requires empty { seat.old.me.1 ≡ (0, None) ∷ [] }
@@ -169,10 +169,10 @@ impl SharedDesk {
         }
     }
 
-    /// Publishes what was found for the pass's open Take, or says that it is stale, since a change was accepted meanwhile, and
-    /// answers where this entry stands. Waits for the turn as [`call`](SharedDesk::call) does. Fails only for want of memory: then
-    /// the desk is as before, and the pass, which may have seen more, may be used again; what was found is lost, so a copy of the
-    /// Take is needed to seek anew.
+    /// Publishes what was found for the pass's open Take, or says that it is stale, since a change was accepted meanwhile, or
+    /// that there are too many possible starts, and answers where this entry stands. Waits for the turn as
+    /// [`call`](SharedDesk::call) does. Fails only for want of memory: then the desk is as before, and the pass, which may have
+    /// seen more, may be used again; what was found is lost, so a copy of the Take is needed to seek anew.
     pub fn publish<R: Wait>(
         &self,
         rt: &R,

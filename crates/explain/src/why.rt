@@ -1,6 +1,6 @@
 // Why a claim leaves requests out.
 
-ghost use Rattle.std.specs.Prelude.{◌≡◌, ◌+◌, ◌<◌, ℕ, IfOk, OnOk, length};
+ghost use Rattle.std.specs.Prelude.{◌+◌, ◌<◌, IfOk, OnOk, length};
 ghost use Rattle.plan_base.specs.Requests.{listed};
 ghost use Rattle.plan_base.specs.Verdict.{IsCertified};
 ghost use Rattle.explain.specs.Left.{IsExplanation, IsExplainAnswer, AreExclusionsSound};
@@ -22,8 +22,9 @@ use std::alloc::{AllocError, Global};
 ///
 /// One table forward and one backward for each telescope serve all requests. Beside the claim's check it costs time for
 /// the windows, the spans and the possible starts of each telescope, once, and for each request a walk over the claim's
-/// placements, and, where it is left out, over its telescopes' slices; and memory for the possible starts of a telescope,
-/// and two numbers for each telescope and slice.
+/// placements, and, where it is left out, another one and a walk over the windows, the spans and the slices of its
+/// telescopes; and memory for the possible starts of a telescope, two numbers for each telescope and slice, and a flag for
+/// each slice of a request's telescopes.
 ///
 /// [`check`]: bound_checker::check
 pub fn explain(

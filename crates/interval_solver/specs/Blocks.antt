@@ -11,7 +11,7 @@ later j x = record { worth = x.worth; place = x.place; after = x.after + j }
 abbrev pub IsWholeAt : List Start → ℕ → Start → Type 0
 IsWholeAt wholes j x = (w : Start) × Contains wholes w × (x ≡ later j w)
 
--- each start of the rows is single or stands in a whole one, which ends after its block
+-- each start of the rows is single or stands in a whole one, which ends no earlier than its block
 pub record IsCover (rows wholes singles : List (List Start)) : Type 0 where
   pub count : length singles ≡ length rows
   pub blocks : 4 * length wholes ≤ length rows
@@ -20,7 +20,7 @@ pub record IsCover (rows wholes singles : List (List Start)) : Type 0 where
   pub apart : (b : ℕ) (w : Start) → Contains (row wholes b) w → 4 * b + 4 ≤ w.after
   pub complete : (b j : ℕ) (x : Start) → j < 4 → Contains (row rows (4 * b + j)) x → Contains (row singles (4 * b + j)) x ⊎ IsWholeAt (row wholes b) j x
 
--- the start and what it stands for are in the rows of block b, after which it ends
+-- the start and what it stands for are in the rows of block b, and it ends no earlier than the block
 pub record IsWholeIn (rows : List (List Start)) (b : ℕ) (w : Start) : Type 0 where
   pub apart : 4 * b + 4 ≤ w.after
   pub all : (j : ℕ) → j < 4 → Contains (row rows (4 * b + j)) (later j w)

@@ -8,8 +8,8 @@ use crate::row_list::RowList;
 use crate::start::Start;
 use std::alloc::{AllocError, Global};
 
-/// For each block of four slices the starts that are there at each slice and end after the block. Fails only for want
-/// of memory.
+/// For each block of four slices the starts that are there at each slice and end no earlier than the block. Fails only for
+/// want of memory.
 pub(crate) fn wholes_of(alloc: Global, rows: &RowList) -> Result<RowList, AllocError>
     ensures { IfOk result (λ wholes. AreWholes rows.now wholes (length rows.now / 4)) }
 {
@@ -39,7 +39,7 @@ fn list_wholes(rows: &RowList, block: usize, found: &mut Vec<Start>) -> Result<(
 }
 
 /// Whether a start at a block's first slice stands at the block's other slices too, each time as many slices later, and ends
-/// after the block.
+/// no earlier than the block.
 fn is_whole(rows: &RowList, block: usize, start: Start) -> bool
     requires block { 4 * block + 4 ≤ length rows.now }
     requires start { Contains (row rows.now (4 * block)) start }

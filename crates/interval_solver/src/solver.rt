@@ -75,8 +75,8 @@ impl<'a> Solver<'a> {
 
     /// The greatest sum, over all lists of possible starts of the telescope of which no two share a slice, of what the
     /// starts are worth less the prices of their requests. A request may stand in a list more than once, and the empty
-    /// list is one, so the sum is not negative. There is one price for each request, from -10^12 to 10^12. It costs at
-    /// most one step for each possible start of the telescope and each slice, and takes no memory.
+    /// list is one, so the sum is not negative. There is one price for each request, from -10^12 to 10^12. It costs a
+    /// few steps for each request of the snapshot, each slice and each possible start of the telescope, and takes no memory.
     pub fn solve(&mut self, prices: &Prices) -> i64
         requires count { length prices.now.0 ≡ length (listed self.old.snapshot) }
         requires range { All IsPriceInRange prices.now.0 }

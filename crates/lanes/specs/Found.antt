@@ -31,7 +31,7 @@ nothing s value = record {
   plan = [];
 }
 
--- what was found is forgotten, but for the prices, which no bound gives
+-- what was found is forgotten, but for the prices, of whose bound nothing is said
 abbrev pub cleared : FoundSeen → FoundSeen
 cleared f = record f { bound = no_bound; value = 0; plan = [] }
 

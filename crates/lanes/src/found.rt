@@ -74,7 +74,7 @@ impl Found {
         self.value
     }
 
-    /// Forgets bound, value and plan; the prices stay, and no bound gives them.
+    /// Forgets bound, value and plan; the prices stay, and nothing is said of their bound.
     pub(crate) fn clear(&mut self)
         ensures { self.new ≡ cleared self.old }
     {

@@ -231,7 +231,7 @@ fn founds_of(alloc: Global, snapshot: &Snapshot, count: usize) -> Result<Vec<Lan
     Ok(founds)
 }
 
-/// Has each worker work in a thread of its own.
+/// Has each worker work in a thread of its own where one can be made; one alone works in the caller's.
 fn work_all<'a, const L: usize, R: Threads + Sync, G: Gate>(
     rt: &R,
     board: &Board,

@@ -1,5 +1,5 @@
-// Tasks that are run at once, each in a thread of its own. They are generic, since the prover takes no closure over a
-// worker, which borrows the snapshot.
+// Tasks that are run at once, each in a thread of its own where one can be made. They are generic, since the prover takes
+// no closure over a worker, which borrows the snapshot.
 
 ghost use Rattle.std.specs.Prelude.{◌≡◌, ℕ, ◌<◌, length, slice_index_or, All};
 ghost use Rattle.board.specs.declared.board.Board.{Board};
@@ -32,7 +32,7 @@ pub(crate) trait Task<W: Way>: Send {
         ensures { run_gives board.now self.old self.new };
 }
 
-/// Runs each task in a thread of its own.
+/// Runs each task in a thread of its own where one can be made; one alone is run in the caller's.
 pub(crate) fn run_all<T: Task<W>, R: Threads + Sync, W: Way + Sync>(
     rt: &R,
     board: &Board,

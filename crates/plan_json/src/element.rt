@@ -22,7 +22,7 @@ pub trait Element<T> {
     /// What a value is read as, its faults naming a member.
     ghost element_in: { Key → Data → Result T Fault };
 
-    /// The element at that place.
+    /// The element at that place. Fails where it can't be read so, or for want of memory.
     fn read(&self, alloc: Global, list: &DocList, index: u32) -> Result<T, JsonFault>
         requires { index < length (elements_of list.now) }
         ensures value { IfOk result (λ x. element_in (named_by list.now) (element_of list.now index) ≡ Ok x) }
@@ -60,7 +60,7 @@ impl Element<Span> for Spans {
 }
 
 /// The list of `least` to `most` elements that the member is, each read alike. Fails as [`Doc::list`] does, then as the
-/// first element that can't be read, its faults naming the member.
+/// first element that can't be read, its faults naming the member; or for want of memory.
 pub fn read_list<T: Drop, E: Element<T>>(
     alloc: Global,
     element: &E,

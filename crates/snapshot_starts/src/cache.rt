@@ -43,11 +43,11 @@ impl StartCache {
         StartCache { held: None }
     }
 
-    /// Has the cache hold this snapshot and its possible starts. Where a request, its telescope and the skies of its
-    /// targets are as in the snapshot before, its starts within both horizons are taken from there, unless the horizon
-    /// begins earlier than the one before or has gained more than 16 slices for it; all others are found. A cache with
-    /// another snapshot or none gives the same starts, only later. Fails as [`starts`](crate::starts) does, and is then as
-    /// before.
+    /// Has the cache hold this snapshot and its possible starts. Where slices are as long as in the snapshot before, and a
+    /// request, its telescope and the skies of its targets are as there, its starts within both horizons are taken from
+    /// there, unless the horizon begins earlier than the one before or has gained more than 16 slices for it; all others
+    /// are found. A cache with another snapshot or none gives the same starts, only later. Fails as
+    /// [`starts`](crate::starts) does, and is then as before.
     pub fn mend<R: Threads + Sync>(
         &mut self,
         rt: &R,
