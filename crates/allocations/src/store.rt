@@ -1,6 +1,6 @@
 // The books as they are kept: accounts, entries and holds by place, with sums beside them.
 
-ghost use Rattle.std.specs.Prelude.{◌≡◌, ◌+◌, ◌-◌, ◌^◌, ◌<◌, ◌≤◌, ◌++◌, ◌∷◌, [], ◌↔◌, Some, IsTrue, All, Any, Contains};
+ghost use Rattle.std.specs.Prelude.{◌≡◌, ◌+◌, ◌^◌, ◌<◌, ◌≤◌, ◌++◌, ◌∷◌, [], ◌↔◌, Some, IsTrue, All, Any, Contains};
 ghost use Rattle.std.specs.Prelude.{IfSome, MatchOption, IfOk, IfErr, OnOk, OnErr, length, slice_get, option_copied, vec_len, vec_capacity};
 ghost use Rattle.std.specs.List.{insert};
 ghost use Rattle.std.specs.Ordering.{nat_cmp};
@@ -311,7 +311,7 @@ impl Store {
     }
 }
 
-// Puts a group into its place, where there is room for it.
+/// Puts a group into its place, where there is room for it.
 fn insert_reserved(groups: &mut Vec<GroupState>, index: usize, state: GroupState)
     requires index { index ≤ vec_len groups.old }
     requires room { vec_len groups.old < vec_capacity groups.old }

@@ -1,6 +1,6 @@
 // What the pending requests of a group hold of its proposal's accounts.
 
-ghost use Rattle.std.specs.Prelude.{◌≡◌, ◌++◌, ◌∷◌, [], ◌≤◌, ◌<◌, ◌^◌, ◌*◌, if◌then◌else◌, max, length, All, IfOk, OnOk};
+ghost use Rattle.std.specs.Prelude.{◌≡◌, ◌++◌, ◌∷◌, [], ◌≤◌, ◌<◌, ◌^◌, if◌then◌else◌, max, length, All, IfOk, OnOk};
 ghost use Rattle.std.specs.List.{zip};
 ghost use Rattle.allocations.specs.Key.{is_key};
 ghost use Rattle.allocations.specs.Books.{held_in};

@@ -1,6 +1,6 @@
 // The snapshot of the desk, of which a plan is made.
 
-ghost use Rattle.std.specs.Prelude.{◌≡◌, ◌<◌, ◌≤◌, [], Some, None, IfOk, OnOk, length, map};
+ghost use Rattle.std.specs.Prelude.{◌≡◌, ◌≤◌, [], Some, IfOk, OnOk, length, map};
 ghost use Rattle.plan_base.specs.Limits.{most_version};
 ghost use Rattle.plan_base.specs.Snapshot.{IsSnapshot};
 ghost use Rattle.site_model.specs.Names.{number_of, numbered};

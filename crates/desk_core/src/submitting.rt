@@ -15,7 +15,7 @@ ghost use Rattle.desk_core.specs.Desk.{DeskSeen, seen, Decides};
 ghost use Rattle.desk_core.specs.Kept.{IsDesk, IsRoomy};
 ghost use Rattle.plan_base.specs.Operators.{is_single};
 ghost use Rattle.desk_core.specs.Asking.{last_of, seen_made};
-ghost use Rattle.desk_core.specs.Submitting.{value_of, wanted_of, asks_of, op_of, targets_with, on_submit, on_made};
+ghost use Rattle.desk_core.specs.Submitting.{value_of, wanted_of, asks_of, targets_with, on_submit, on_made};
 ghost use Rattle.desk_core.specs.Making.{AreMade, new_group, drafted, with_draft, with_numbers, with_entry, IsEntered};
 
 use crate::asking::Made;

@@ -1,6 +1,6 @@
 // A desk's passes and notes, and its end.
 
-ghost use Rattle.std.specs.Prelude.{◌≡◌, ◌≢◌, ◌<◌, ℕ, [], length, Some, None, IfOk};
+ghost use Rattle.std.specs.Prelude.{◌≡◌, ◌≢◌, ℕ, [], length, Some, IfOk};
 ghost use Rattle.desk_book.specs.Seen.{empty_book};
 ghost use Rattle.desk_passes.specs.declared.seen.PassPlace.TheVariants.{NotMade, Out};
 ghost use Rattle.desk_passes.specs.Seen.{log_of, of_caller, BeginsWith, EachHasEntry};
@@ -43,7 +43,7 @@ impl SharedDesk {
         }
     }
 
-    // Makes the pass of the caller that `C` names.
+    /// Makes the pass of the caller that `C` names.
     fn make_pass<C: Naming>(&self, root: &mut Root, caller: u8) -> Pass
         requires desk { IsRootOf self.now root.old }
         requires named { caller ≡ C.caller }

@@ -12,7 +12,7 @@ use crate::observation::Observation;
 use plan_base::{ListOf, RequestNo, RequestState, Sec};
 use std::alloc::{AllocError, Global};
 
-// The request, window expired where it is past.
+/// The request, window expired where it is past.
 fn expire_past(q: &Request, running: &[Observation], now: Sec) -> Request
     ensures { result ≡ (if is_past running.now now q.now then with_state WindowExpired q.now else q.now) }
 {
@@ -23,7 +23,7 @@ fn expire_past(q: &Request, running: &[Observation], now: Sec) -> Request
     }
 }
 
-// The request, window expired where it is waiting.
+/// The request, window expired where it is waiting.
 fn expire_waiting(q: &Request, running: &[Observation]) -> Request
     ensures { result ≡ (if is_waiting running.now q.now then with_state WindowExpired q.now else q.now) }
 {
@@ -34,7 +34,7 @@ fn expire_waiting(q: &Request, running: &[Observation]) -> Request
     }
 }
 
-// The request, canceled where it is pending.
+/// The request, canceled where it is pending.
 fn cancel_pending(q: &Request) -> Request
     ensures { result ≡ (if is_pending q.now.state then with_state Canceled q.now else q.now) }
 {
@@ -45,7 +45,7 @@ fn cancel_pending(q: &Request) -> Request
     }
 }
 
-// The request, completed where it has this number.
+/// The request, completed where it has this number.
 fn complete_one(q: &Request, number: RequestNo) -> Request
     ensures { result ≡ (if is_request number q.now then with_state Completed q.now else q.now) }
 {
@@ -56,7 +56,7 @@ fn complete_one(q: &Request, number: RequestNo) -> Request
     }
 }
 
-// The group with other requests.
+/// The group with other requests.
 fn with_requests(group: &Group, requests: Vec<Request>) -> Group
     ensures { result ≡ record group.now { requests = requests.items } }
 {
@@ -67,7 +67,7 @@ fn with_requests(group: &Group, requests: Vec<Request>) -> Group
     }
 }
 
-// The requests, those that are past window expired.
+/// The requests, those that are past window expired.
 fn with_past_expired(
     alloc: Global,
     requests: &[Request],
@@ -82,7 +82,7 @@ fn with_past_expired(
         .collect(alloc)
 }
 
-// The requests, those that are waiting window expired.
+/// The requests, those that are waiting window expired.
 fn with_waiting_expired(
     alloc: Global,
     requests: &[Request],
@@ -96,14 +96,14 @@ fn with_waiting_expired(
         .collect(alloc)
 }
 
-// The requests, those that are pending canceled.
+/// The requests, those that are pending canceled.
 fn with_pending_canceled(alloc: Global, requests: &[Request]) -> Result<Vec<Request>, AllocError>
     ensures { IfOk result (λ v. v.items ≡ map (λ q. if is_pending q.state then with_state Canceled q else q) requests.now) }
 {
     requests.iter().map(|q| cancel_pending(q)).collect(alloc)
 }
 
-// The requests, the one with this number completed.
+/// The requests, the one with this number completed.
 fn with_completed(
     alloc: Global,
     requests: &[Request],
@@ -153,7 +153,7 @@ pub(crate) fn canceled(alloc: Global, group: &Group) -> Result<Group, AllocError
     Ok(with_requests(group, requests))
 }
 
-// The group with a request completed.
+/// The group with a request completed.
 fn with_one_completed(alloc: Global, group: &Group, number: RequestNo) -> Result<Group, AllocError>
     ensures { IfOk result (λ g. g ≡ change_requests (is_request number) Completed group.now) }
 {

@@ -1,6 +1,6 @@
 // Requests whose windows have passed, in the groups that are open.
 
-ghost use Rattle.std.specs.Prelude.{◌≡◌, ◌+◌, ◌-◌, ◌≤◌, ◌++◌, ◌∷◌, [], ◌&&◌, if◌then◌else◌, IfOk, OnOk, All, length, map, filter};
+ghost use Rattle.std.specs.Prelude.{◌≡◌, ◌+◌, ◌≤◌, ◌++◌, ◌∷◌, [], ◌&&◌, if◌then◌else◌, IfOk, OnOk, All, length, map, filter};
 ghost use Rattle.std.specs.List.{flat_map, list_any};
 ghost use Rattle.plan_base.specs.States.{is_pending, is_in, is_over};
 ghost use Rattle.desk_runs.specs.Clock.{became, is_past, is_waiting};
@@ -35,14 +35,14 @@ pub(crate) fn turned(
     with_lost(alloc, past, running)
 }
 
-// Whether a moment may change a group.
+/// Whether a moment may change a group.
 fn is_touched(group: &Group, running: &[Observation], now: Sec) -> bool
     ensures { result ≡ is_touched running.now now group.now }
 {
     has_past(group, running, now) || (group.is_lost() && has_waiting(group, running))
 }
 
-// Whether a request of the group is past.
+/// Whether a request of the group is past.
 fn has_past(group: &Group, running: &[Observation], now: Sec) -> bool
     ensures { result ≡ list_any (is_past running.now now) group.now.requests }
 {
@@ -53,7 +53,7 @@ fn has_past(group: &Group, running: &[Observation], now: Sec) -> bool
         .any(|q| q.is_past(running, now))
 }
 
-// Whether a request of the group is waiting.
+/// Whether a request of the group is waiting.
 fn has_waiting(group: &Group, running: &[Observation]) -> bool
     ensures { result ≡ list_any (is_waiting running.now) group.now.requests }
 {
@@ -64,7 +64,7 @@ fn has_waiting(group: &Group, running: &[Observation]) -> bool
         .any(|q| q.is_waiting(running))
 }
 
-// Adds a request that was pending, where it now is in the state.
+/// Adds a request that was pending, where it now is in the state.
 fn push_became(
     requests: &mut Vec<RequestNo>,
     state: RequestState,
@@ -95,7 +95,7 @@ pub(crate) fn extend_became(
     Ok(())
 }
 
-// Adds a request that was pending, where it no longer is.
+/// Adds a request that was pending, where it no longer is.
 fn push_over(
     requests: &mut Vec<RequestNo>,
     before: Request,
@@ -124,7 +124,7 @@ pub(crate) fn extend_over(
     Ok(())
 }
 
-// Adds what a moment does to a group.
+/// Adds what a moment does to a group.
 fn turn_group(
     alloc: Global,
     expiry: &mut Expiry,

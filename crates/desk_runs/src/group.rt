@@ -97,7 +97,7 @@ impl Group {
             .any(|q| q.state.is_pending())
     }
 
-    // Whether all members are completed.
+    /// Whether all members are completed.
     fn is_all_completed(&self) -> bool
         ensures { result ≡ all_in is_completed self.now }
     {
@@ -107,7 +107,7 @@ impl Group {
             .all(|q| q.state.is_completed())
     }
 
-    // Whether all members of an `AND` are completed, or one of another group.
+    /// Whether all members of an `AND` are completed, or one of another group.
     fn is_done(&self) -> bool
         ensures { result ≡ is_done self.now }
     {

@@ -69,7 +69,7 @@ pub(crate) fn became_of(
     Ok(requests)
 }
 
-// A list of one group.
+/// A list of one group.
 fn one(alloc: Global, group: Group) -> Result<ListOf<Group>, AllocError>
     ensures { IfOk result (λ list. list ≡ group ∷ []) }
 {

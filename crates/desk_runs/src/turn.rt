@@ -73,7 +73,7 @@ pub(crate) fn not_ended(
         .collect(alloc)
 }
 
-// Whether a request is among those.
+/// Whether a request is among those.
 fn is_among(requests: &[RequestNo], number: RequestNo) -> bool
     ensures { result ≡ list_any (λ r. r.0 == number.0) requests.now }
 {
@@ -110,7 +110,7 @@ pub(crate) fn without_one(
         .collect(alloc)
 }
 
-// The numbers of the requests of observations.
+/// The numbers of the requests of observations.
 #[tactic(auto, using(std::proofs::lemmas::List::Sums::fold_more))]
 fn numbers_in(alloc: Global, observations: &[Observation]) -> Result<BTreeSet<u32>, AllocError>
     ensures { IfOk result (λ numbers. numbers.keys ≡ numbers_in observations.now) }
@@ -122,7 +122,7 @@ fn numbers_in(alloc: Global, observations: &[Observation]) -> Result<BTreeSet<u3
     Ok(numbers)
 }
 
-// The requests with these numbers.
+/// The requests with these numbers.
 fn listed(alloc: Global, numbers: &BTreeSet<u32>) -> Result<Vec<RequestNo>, AllocError>
     ensures { IfOk result (λ v. v.items ≡ map (λ n. record { 0 = n }) numbers.now.keys) }
 {
@@ -152,7 +152,7 @@ pub(crate) struct Started {
     pub requests: ListOf<RequestNo>,
 }
 
-// The running observations, and after them those that begin.
+/// The running observations, and after them those that begin.
 fn joined(
     alloc: Global,
     running: &[Observation],

@@ -1,6 +1,6 @@
 // A request on a telescope: how many starts it has there, and what the telescope gives through one of them.
 
-ghost use Rattle.std.specs.Prelude.{◌≡◌, ◌⊎◌, ◌+◌, ◌<◌, ◌≤◌, length, All, MatchOption};
+ghost use Rattle.std.specs.Prelude.{◌≡◌, ◌+◌, ◌<◌, ◌≤◌, length, All, MatchOption};
 ghost use Rattle.plan_base.specs.Limits.{most_slices};
 ghost use Rattle.plan_base.specs.Verdict.{IsPriceInRange};
 ghost use Rattle.explain.specs.Through.{IsThrough};

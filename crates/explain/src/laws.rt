@@ -1,6 +1,6 @@
 // What a bound on plans with a request is worth: a function with nothing to do, whose contract states the law.
 
-ghost use Rattle.std.specs.Prelude.{◌≡◌, ◌≤◌, ◌<◌, ℕ, ℤ, pos, ◌≤ℤ◌, List};
+ghost use Rattle.std.specs.Prelude.{ℕ, ℤ, pos, ◌≤ℤ◌, List};
 ghost use Rattle.plan_base.specs.Starts.{value_of_plan};
 ghost use Rattle.plan_base.specs.Bound.{IsBound};
 ghost use Rattle.plan_base.specs.declared.claim.Placement.{Placement};

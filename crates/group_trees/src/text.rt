@@ -1,6 +1,5 @@
 // Verdicts, as they are written.
 
-ghost use Rattle.std.specs.Prelude.{◌≡◌};
 ghost use Rattle.plan_json.specs.Adds.{AddsNested};
 ghost use Rattle.plan_doc.specs.Reason.{yes_data, reason_data};
 ghost use Rattle.group_trees.specs.Texts.{not_allowed_data, forest_reason_data, forest_verdict_data};

@@ -2,7 +2,7 @@
 
 ghost use Rattle.std.specs.Prelude.{◌≡◌};
 ghost use Rattle.plan_json.specs.Adds.{AddsNested};
-ghost use Rattle.plan_doc.specs.Reason.{number_of_reason, name_of_reason, no_fields, at_index};
+ghost use Rattle.plan_doc.specs.Reason.{number_of_reason, name_of_reason, at_index};
 ghost use Rattle.plan_doc.specs.Reason.{of_group, of_counts, of_difference, fields_of_reason, reason_at, reason_data, yes_data, verdict_data};
 
 use plan_base::{GroupNo, Reason, Verdict};

@@ -1,6 +1,6 @@
 // What is worked out of each placement of a plan before the starts of a new request are looked at.
 
-ghost use Rattle.std.specs.Prelude.{◌≡◌, ◌≤◌, ◌<◌, map, length, All, IfOk};
+ghost use Rattle.std.specs.Prelude.{◌≡◌, ◌≤◌, map, length, All, IfOk};
 ghost use Rattle.plan_base.specs.Limits.{most_seconds, most_value};
 ghost use Rattle.plan_base.specs.Requests.{IsKnown};
 ghost use Rattle.bound_checker.specs.Claims.{IsEachKnown};

@@ -1,7 +1,6 @@
 // Laws of insertions. Each is a function with nothing to do, whose contract states the law of its arguments.
 
-ghost use Rattle.std.specs.Prelude.{◌≡◌, ◌≤◌, ◌++◌, ℕ, ℤ, pos, List, None, Some};
-ghost use Rattle.plan_base.specs.declared.claim.Placement.{Placement};
+ghost use Rattle.std.specs.Prelude.{◌≡◌, ℕ, ℤ, pos, List, None, Some};
 ghost use Rattle.plan_base.specs.declared.parts.GroupPart.{GroupPart};
 ghost use Rattle.plan_base.specs.Bound.{IsBound};
 ghost use Rattle.plan_base.specs.Verdict.{IsCertified};

@@ -17,7 +17,7 @@ use crate::placing::{Placing, place};
 use crate::pricing::{Pricing, price};
 use crate::tables::Extension;
 use plan_base::{
-    Claim, GroupPart, ListOf, Op, QuotaPrices, RequestNo, RequestPart, Snapshot, value_limit,
+    Claim, GroupPart, ListOf, QuotaPrices, RequestNo, RequestPart, Snapshot, value_limit,
 };
 use std::alloc::{AllocError, Global};
 

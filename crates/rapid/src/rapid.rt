@@ -1,6 +1,6 @@
 // A snapshot with a certified claim, into which groups are inserted.
 
-ghost use Rattle.std.specs.Prelude.{◌≡◌, ◌≢◌, [], None, Some, IfOk, IfErr, OnOk, OnErr};
+ghost use Rattle.std.specs.Prelude.{◌≡◌, ◌≢◌, None, Some, IfOk, IfErr, OnOk, OnErr};
 ghost use Rattle.plan_base.specs.Verdict.{IsCertified};
 ghost use Rattle.rapid.specs.Refused.{refusal_of, IsGroupInRanges};
 ghost use Rattle.rapid.specs.Insertion.{IsInsertion};

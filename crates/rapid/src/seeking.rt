@@ -1,7 +1,6 @@
 // The earliest start of a request that qualifies.
 
 ghost use Rattle.std.specs.Prelude.{◌≡◌, ◌≤◌, ◌<◌, ◌↔◌, IsTrue, ℕ, length, MatchOption, IfOk, Some};
-ghost use Rattle.plan_base.specs.declared.claim.Placement.{Placement};
 ghost use Rattle.plan_base.specs.Feasible.{quota_at};
 ghost use Rattle.rapid.specs.Displaced.{Qualifies};
 ghost use Rattle.rapid.specs.Held.{plan_of};

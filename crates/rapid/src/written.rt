@@ -1,6 +1,5 @@
 // Insertions and their refusals, as they are written.
 
-ghost use Rattle.std.specs.Prelude.{◌≡◌};
 ghost use Rattle.serde_json.specs.Data.{null};
 ghost use Rattle.plan_json.specs.Adds.{AddsNested};
 ghost use Rattle.rapid.specs.Written.{placed_data, inserted_data, not_single_data, refusal_data};

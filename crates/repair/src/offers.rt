@@ -5,7 +5,7 @@ ghost use Rattle.plan_base.specs.Requests.{listed, place_of, IsKnown};
 ghost use Rattle.repair.specs.Worths.{AreOffers, AreOffersOf, IsOffer, IsOfferOf};
 
 use groups::Places;
-use plan_base::{Op, RequestNo, Snapshot, least_from, slices_for};
+use plan_base::{RequestNo, Snapshot, least_from, slices_for};
 use std::alloc::{AllocError, Global};
 
 /// What a request is worth, and how it fades.

@@ -3,7 +3,7 @@
 ghost use Rattle.std.specs.Prelude.{◌≡◌, ◌+◌, ◌≤◌, length, All, sum_by, IfOk};
 ghost use Rattle.plan_json.specs.Ranges.{IsBetween};
 ghost use Rattle.request_model.specs.Ranges.{IsExposure, AreConfigurations};
-ghost use Rattle.request_times.specs.Duration.{exposure_ms, configuration_ms, request_ms, duration, IsOverhead};
+ghost use Rattle.request_times.specs.Duration.{exposure_ms, request_ms, duration, IsOverhead};
 
 use crate::instrument::Instrument;
 use plan_base::MOST_SECONDS;

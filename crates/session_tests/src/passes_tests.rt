@@ -1,8 +1,8 @@
 //! Two callers of a desk, each with a pass: where their entries stand, what a note tells, a plan that is stale since the other
 //! caller's line came between its Take and its Publish, and calls of two threads that don't wait for each other.
-ghost use Rattle.std.specs.Prelude.{◌≡◌, ℕ, ◌+◌, ◌<◌, length, IfOk};
+ghost use Rattle.std.specs.Prelude.{◌≡◌, ◌<◌, length, IfOk};
 ghost use Rattle.desk_passes.specs.Calls.{IsPassOf, view};
-ghost use Rattle.session_tests.specs.Passes.{IsCallers, IsReady, MadeBoth};
+ghost use Rattle.session_tests.specs.Passes.{IsCallers, IsReady};
 
 use crate::between::Between;
 use crate::script::{PLAN, SETTINGS, SUBMIT, line_of};

@@ -154,7 +154,7 @@ impl Calendar {
     }
 }
 
-// A set without seconds for each of the first numbers. Fails only for want of memory.
+/// A set without seconds for each of the first numbers. Fails only for want of memory.
 fn no_sets(alloc: Global, count: usize) -> Result<Vec<Spans>, AllocError>
     ensures { IfOk result (λ sets. sets.items ≡ replicate count []) }
 {

@@ -4,7 +4,7 @@ ghost use Rattle.std.specs.Prelude.{◌≡◌, ◌≢◌, ◌<◌, ◌≤◌, le
 ghost use Rattle.site_model.specs.declared.fault.SiteFault.TheVariants.{NoMemory};
 ghost use Rattle.site_model.specs.declared.fault.FullOf.TheVariants.{Closures};
 ghost use Rattle.site_model.specs.Limits.{most_closures, full};
-ghost use Rattle.site_model.specs.Calendar.{set_at, IsChanged, PassesClosures, IsListed, IsFullClosure, AreChanges, with_changes};
+ghost use Rattle.site_model.specs.Calendar.{IsChanged, PassesClosures, IsListed, IsFullClosure, AreChanges, with_changes};
 
 use crate::fault::{FullOf, SiteFault};
 use interval_set::Spans;

@@ -293,7 +293,7 @@ impl Network {
         Some(TargetNo(place as u16))
     }
 
-    // The number of a site, none where no telescope is there.
+    /// The number of a site, none where no telescope is there.
     fn find_site(&self, name: &Name) -> Option<SiteNo>
         ensures number { result ≡ option_map (λ n. record { 0 = n }) (number_of self.now.registry.sites name.now) }
         ensures few { IfSome result (λ site. site.0 < most_sites) }
@@ -302,7 +302,7 @@ impl Network {
         Some(SiteNo(place as u16))
     }
 
-    // The number of a telescope, none where no telescope has this code.
+    /// The number of a telescope, none where no telescope has this code.
     fn find_telescope(&self, code: &Code) -> Option<TelescopeNo>
         ensures number { result ≡ option_map (λ n. record { 0 = n }) (code_number self.now.registry code.now) }
         ensures only { (t : ℕ) → slice_get (codes_of self.now.registry) t ≡ Some code.now → code_number self.now.registry code.now ≡ Some t }
@@ -312,8 +312,8 @@ impl Network {
         Some(TelescopeNo(place as u16))
     }
 
-    // The telescopes that a closure or a reopening is about, by rising numbers. `NoSuchTelescope` or `NoSuchSite` comes
-    // where its telescope or its site isn't registered.
+    /// The telescopes that a closure or a reopening is about, by rising numbers. `NoSuchTelescope` or `NoSuchSite` comes
+    /// where its telescope or its site isn't registered.
     fn telescopes_in(&self, scope: &Scope) -> Result<Vec<TelescopeNo>, SiteFault>
         ensures numbers { IfOk result (λ numbers. IsScopeList self.now.registry scope.now numbers.items) }
         ensures allowed { OnOk result (scope_refusal self.now.registry scope.now ≡ None) }

@@ -69,7 +69,7 @@ pub(crate) fn carries(
     }
 }
 
-// Whether a name is the one that is asked for, if one is.
+/// Whether a name is the one that is asked for, if one is.
 fn is_or_any(name: &Name, asked: Option<&Name>) -> bool
     ensures { result ≡ option_map_or (is_name name.now) (option_copied asked.entry) true }
 {

@@ -27,7 +27,7 @@ fn drop_last(alloc: Global, script: &mut ListOf<ScriptLine>)
 }
 
 impl Book {
-    // What the caller's next line says, none where no line is left.
+    /// What the caller's next line says, none where no line is left.
     fn read_next(&self, caller: u8) -> Result<Option<Result<Command, CommandFault>>, AllocError>
         requires { caller < length self.now.scripts }
         ensures next { IfOk result (λ found. MatchOption found (next_line self.now caller ≡ None) (SaysNext self.now caller)) }
@@ -40,7 +40,7 @@ impl Book {
         Ok(Some(read))
     }
 
-    // Does the caller's next line as one step.
+    /// Does the caller's next line as one step.
     fn do_step(&mut self, caller: u8, read: Result<Command, CommandFault>) -> Result<(), AllocError>
         requires caller { caller < length self.old.scripts }
         requires shut { take_of self.old.takes caller ≡ None }
@@ -67,7 +67,7 @@ impl Book {
         Ok(())
     }
 
-    // Takes the snapshot of the opened desk for the caller, whose next line asks for a plan.
+    /// Takes the snapshot of the opened desk for the caller, whose next line asks for a plan.
     fn do_take(
         &mut self,
         caller: u8,
@@ -96,7 +96,7 @@ impl Book {
         Ok(taken)
     }
 
-    // Does the caller's next line.
+    /// Does the caller's next line.
     fn do_next(
         &mut self,
         caller: u8,
@@ -117,7 +117,7 @@ impl Book {
         Ok(BookCall::Replied)
     }
 
-    // Takes back the line that was added last to the caller's script.
+    /// Takes back the line that was added last to the caller's script.
     fn take_back(&mut self, caller: u8)
         requires caller { caller < length self.old.scripts }
         requires sound { IsSound (with_lines self.old caller (length (script_of self.old.scripts caller) - 1)) }

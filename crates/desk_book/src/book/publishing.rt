@@ -13,7 +13,7 @@ use desk_events::{EventEntry, Refusal, Reply, What};
 use plan_base::{Outcome, Solved};
 use std::alloc::AllocError;
 
-// What is going to be replied to what was found for a Take.
+/// What is going to be replied to what was found for a Take.
 fn publish_reply(state: &State, solved: &Solved) -> Result<Reply, AllocError>
     ensures { IfOk result (λ reply. reply ≡ publish_reply state.now solved.now) }
 {
@@ -33,7 +33,7 @@ fn publish_reply(state: &State, solved: &Solved) -> Result<Reply, AllocError>
 }
 
 impl Book {
-    // Adds the entry of what was found for the caller's open Take.
+    /// Adds the entry of what was found for the caller's open Take.
     fn publish_kept(&mut self, solved: Solved) -> Result<EventEntry, AllocError>
         requires { take_of self.old.takes solved.taken.caller ≡ Some solved.taken }
         ensures ok { IfOk result (λ entry. IsPublished self.old solved entry self.new) }

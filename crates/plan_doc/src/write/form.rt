@@ -1,8 +1,6 @@
 // The parts of claims and snapshots, as they are written.
 
-ghost use Rattle.std.specs.Prelude.{◌≡◌, option_map};
-ghost use Rattle.plan_json.specs.Values.{whole, list_of};
-ghost use Rattle.plan_doc.specs.Written.{placement_data, unless_empty, numbers_given, telescope_data};
+ghost use Rattle.plan_doc.specs.Written.{placement_data, telescope_data};
 ghost use Rattle.plan_doc.specs.Written.{sky_data, request_data, group_data};
 
 use plan_base::{GroupPart, Placement, RequestPart, Sky, TelescopePart};

@@ -4,7 +4,7 @@
 ghost use Rattle.std.specs.Prelude.{ℕ, ◌∷◌, [], suc, max, map, true};
 ghost use Rattle.serde_json.specs.Data.{Data, array, item, no_items};
 ghost use Rattle.serde_json.specs.View.{items_of};
-ghost use Rattle.plan_json.specs.Adds.{Adds, AddsNested, AddsItem, AddsItems};
+ghost use Rattle.plan_json.specs.Adds.{AddsNested, AddsItem, AddsItems};
 ghost use Rattle.plan_json.specs.Values.{whole, list_of};
 
 use crate::write::bytes::put_byte;

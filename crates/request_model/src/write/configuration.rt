@@ -1,6 +1,5 @@
 // What is taken of one target, as it is written.
 
-ghost use Rattle.plan_base.specs.declared.name.Name.{Name};
 ghost use Rattle.request_model.specs.Written.{exposure_data, configuration_data};
 
 use crate::request::{ConfigDoc, Exposure};

@@ -1,5 +1,5 @@
 //! Lines that are called, each caller's from a thread of its own and through a pass of its own.
-ghost use Rattle.std.specs.Prelude.{◌≡◌, ◌<◌, ◌≤◌, ◌+◌, ℕ, length, None, Some, IfOk, OnOk};
+ghost use Rattle.std.specs.Prelude.{◌≡◌, ◌<◌, ◌≤◌, ◌+◌, ℕ, length, None, IfOk, OnOk};
 ghost use Rattle.desk_book.specs.Seen.{IsOver};
 ghost use Rattle.desk_passes.specs.Seen.{lines_done};
 ghost use Rattle.desk_passes.specs.Steps.{first_view};

@@ -1,5 +1,5 @@
 //! The lines of several callers, each in the script of the caller that it names.
-ghost use Rattle.std.specs.Prelude.{◌≡◌, ℕ, ◌<◌, ◌≤◌, length, IfOk, IfSome, OnErr};
+ghost use Rattle.std.specs.Prelude.{◌≡◌, ℕ, ◌<◌, length, IfOk, IfSome, OnErr};
 ghost use Rattle.plan_json.specs.Shown.{members_of};
 ghost use Rattle.desk_core.specs.History.{script_of};
 ghost use Rattle.desk_book.specs.Seen.{empty_book};
