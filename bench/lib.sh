@@ -4,9 +4,9 @@ work=$(mktemp -d)
 trap 'rm -rf "$work"' EXIT
 trap 'exit 1' INT TERM HUP
 
-# needs FILE PACKAGE: installs Debian's package where there is no such file.
+# needs PACKAGE: installs Debian's package where it isn't installed.
 needs() {
-    [ -e "$1" ] || { apt-get update && apt-get install -y --no-install-recommends "$2"; } >&2
+    dpkg -s "$1" > /dev/null 2>&1 || { apt-get update && apt-get install -y --no-install-recommends "$1"; } >&2
 }
 
 # rattle_program NAME CRATE..: proves and builds the program whose main.rt is standard input, over copies of this
@@ -41,7 +41,7 @@ rust_program() {
 
 # cargo_program NAME: builds the Rust program in the folder bench/NAME with Debian's serde_json, and prints where it is.
 cargo_program() {
-    needs /usr/share/cargo/registry librust-serde-json-dev
+    needs librust-serde-json-dev
     (cd "bench/$1" && CARGO_TARGET_DIR="$work/target" cargo build --release --offline) > "$work/log" 2>&1 || {
         cat "$work/log" >&2
         return 1
@@ -92,7 +92,7 @@ proved_program() (
 # compare_sessions RATTLE RUST: runs netsched, and the desk in plain Rust, over the lines of $work/whole and over those of $work/half.
 # Says how long each takes and how much memory. The replies have to be the same bytes.
 compare_sessions() {
-    needs /usr/bin/time time
+    needs time
     for part in whole half; do
         "$1" session < "$work/$part" > "$work/one"
         "$2" < "$work/$part" | cmp - "$work/one" || return 1

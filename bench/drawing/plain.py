@@ -19,7 +19,7 @@ def cargo():
 
 def build(target):
     """Builds the desk in plain Rust, with Debian's serde_json."""
-    if not REGISTRY.exists():
+    if not any(REGISTRY.glob("serde_json-*")):
         for words in (["update"], ["install", "-y", "--no-install-recommends", "librust-serde-json-dev"]):
             subprocess.run(["apt-get", *words], check=True, stdout=sys.stderr)
     words = [cargo(), "build", "--quiet", "--release", "--offline", "--target-dir", target]

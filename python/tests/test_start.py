@@ -69,6 +69,29 @@ def test_a_start_that_fails_has_a_status_of_its_own(top: Path) -> None:
     assert done.stderr == "netsched: not proved for the sources as they are: bin/prove does that\n"
 
 
+@pytest.mark.parametrize("word", ["--help", "-h", "--version"])
+@pytest.mark.parametrize("name", ["netsched", "netsched_live", "plancheck"])
+def test_help_and_version_that_cannot_be_written_end_with_3(name: str, word: str) -> None:
+    with open("/dev/full", "w", encoding="utf-8") as full:
+        done = subprocess.run([TOP / "bin" / name, word], stdout=full, stderr=subprocess.DEVNULL, check=False)
+    assert done.returncode == 3
+
+
+def test_a_build_is_found_where_letters_are_sorted_otherwise(top: Path, monkeypatch: pytest.MonkeyPatch) -> None:
+    """English sorts small letters among the large ones, which is not the order of their bytes."""
+    made = ["localedef", "-i", "en_US", "-f", "UTF-8", str(top / "en_US.UTF-8")]
+    if shutil.which("localedef") is None or subprocess.run(made, capture_output=True, check=False).returncode:
+        pytest.skip("no other locale can be made here")
+    for name in ("Zone.rt", "area.rt"):
+        (top / "crates" / "netsched" / "src" / name).write_text(f"// {name}\n")
+    monkeypatch.setenv("LC_ALL", "C")
+    build(top, "proved")
+    monkeypatch.setenv("LOCPATH", str(top))
+    monkeypatch.setenv("LC_ALL", "en_US.UTF-8")
+    done = start(top / "bin" / "netsched", "--proved", "session")
+    assert (done.returncode, done.stdout, done.stderr) == (5, "netsched session\n", "")
+
+
 def test_a_link_runs_the_package(tmp_path: Path) -> None:
     (tmp_path / "purvelj").symlink_to(TOP / "python" / "run")
     done = start(tmp_path / "purvelj", "--version")
