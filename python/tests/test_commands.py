@@ -193,7 +193,7 @@ FILES = {
 BAD = [
     (("nights", "nowhere.json", *HORIZON), 3, "nowhere.json: can't be read: No such file or directory"),
     (("nights", ".", *HORIZON), 3, ".: can't be read: Is a directory"),
-    (("nights", "empty.json", *HORIZON), 3, "empty.json: not JSON: it ends in the middle, after 0 characters"),
+    (("nights", "empty.json", *HORIZON), 3, "empty.json: not JSON: it is empty"),
     (("nights", "list.json", *HORIZON), 4, "list.json: 0 elements, where 1 to 100000 may be"),
     (("nights", "pole.json", *HORIZON), 4, "pole.json: sites[0].latitude: -91.3 is out of -90 to 90"),
     (("nights", "place.json", *HORIZON), 4, "place.json: sites[0].latitude: is missing"),
@@ -291,7 +291,6 @@ BAD = [
     (("chart", "output.jsonl", "--plan", "p.svg"), 4, "there is no reply to an `export` line to take a plan from"),
     (("list", "output.jsonl"), 4, "there is no reply to an `export` line to take a plan from"),
     (("chart", "export.json", "--accounts", "p.svg"), 4, "there is no reply to a `balances` line to draw shares"),
-    (("chart", "export.json", "--plan", "p.gif"), 3, "p.gif: a picture's file ends in .svg or .png"),
     (("chart", "cut.json", "--plan", "p.svg"), 3, "cut.json, line 1: not JSON: it ends in the middle"),
     (("chart", "claim.json", "--plan", "p.svg"), 4, "claim.json, line 1: caller: is missing"),
     (
@@ -343,6 +342,7 @@ def test_bad_input_is_told_in_one_message(run, words, status: int, message: str)
         (("serve", ""), "'' is no name of a journal, such as tonight"),
         (("serve", "night/"), "'night/' is no name of a journal, such as tonight"),
         (("chart", "a", "--plan", "p.svg", "--accounts", "./p.svg"), "--plan and --accounts name the same file"),
+        (("chart", "a", "--plan", "p.svg", "--accounts", "p.gif"), "p.gif: a picture's file ends in .svg or .png"),
     ],
 )
 def test_wrong_words_are_told(run, words, message: str) -> None:

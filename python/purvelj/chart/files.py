@@ -16,14 +16,20 @@ DOTS = 110
 FORMATS = ("svg", "png")
 
 
+def format_of(path: str | Path) -> str:
+    """The format that the ending of a picture's path names; ``FileError`` where it names none."""
+    ending = Path(path).suffix.lower().lstrip(".")
+    if ending not in FORMATS:
+        raise FileError(f"{path}: a picture's file ends in .svg or .png")
+    return ending
+
+
 def save(figure: Figure, path: str | Path) -> None:
     """Writes a picture as SVG or PNG, by the ending of the path. The same picture is the same file.
 
     The picture is there whole, or what stood there before is: it is written beside it, to a file that ends in ``.new``.
     """
-    ending = Path(path).suffix.lower().lstrip(".")
-    if ending not in FORMATS:
-        raise FileError(f"{path}: a picture's file ends in .svg or .png")
+    ending = format_of(path)
     metadata = {"Date": None} if ending == "svg" else {"Software": None}
     with matplotlib.rc_context({"svg.hashsalt": "purvelj", "svg.fonttype": "none", "hatch.linewidth": 0.6}):
         new = f"{os.path.realpath(path)}.new"

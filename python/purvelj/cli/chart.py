@@ -7,7 +7,7 @@ import os
 
 from purvelj.cli.told import read_story
 from purvelj.cli.words import Commands, tell
-from purvelj.errors import WordsError
+from purvelj.errors import FileError, WordsError
 
 
 def add_commands(commands: Commands) -> None:
@@ -30,10 +30,7 @@ def run_chart(options: argparse.Namespace) -> int:
     """Runs ``chart``."""
     from purvelj.chart import draw_plan, draw_shares, plan_view, save, shares
 
-    if not options.plan and not options.accounts:
-        raise WordsError("chart draws nothing: name a file by --plan or --accounts")
-    if options.plan and options.accounts and os.path.realpath(options.plan) == os.path.realpath(options.accounts):
-        raise WordsError("--plan and --accounts name the same file")
+    _test_files([path for path in (options.plan, options.accounts) if path])
     story = read_story(options)
     # Both before either is saved: where there is nothing to draw one of, neither is drawn.
     plan = plan_view(story) if options.plan else None
@@ -45,3 +42,18 @@ def run_chart(options: argparse.Namespace) -> int:
     for note in dict.fromkeys(story.notes):
         tell(note)
     return 0
+
+
+def _test_files(paths: list[str]) -> None:
+    """Tests that a picture, or both, can be drawn to files of these names."""
+    from purvelj.chart.files import format_of
+
+    if not paths:
+        raise WordsError("chart draws nothing: name a file by --plan or --accounts")
+    if len({os.path.realpath(path) for path in paths}) < len(paths):
+        raise WordsError("--plan and --accounts name the same file")
+    for path in paths:
+        try:
+            format_of(path)
+        except FileError as fault:
+            raise WordsError(str(fault)) from None
