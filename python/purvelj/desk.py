@@ -9,7 +9,7 @@ from types import TracebackType
 from typing import Iterable, Mapping, Sequence, TypeVar
 
 from purvelj import lines
-from purvelj.documents import compact, decoded, write_text
+from purvelj.documents import compact, decoded, encoded, write_text
 from purvelj.history import Exchange, History
 from purvelj.journal import Journal
 from purvelj.lines import Line, Pairs
@@ -106,6 +106,8 @@ class Desk:
         self._journal: Journal | None = None
         #: The lines of the journal that weren't wholly replied to; only ``resume`` may find any.
         self.unanswered: tuple[str, ...] = ()
+        #: Whether the journal's last line was torn, and so isn't among them; only ``resume`` may find that.
+        self.torn = False
         #: How many lines of the journal ``resume`` has done again, and how many published plans are among them.
         self.done_again, self.plans_again = 0, 0
         self._program = LineProgram(command_of(program), timeout)
@@ -129,7 +131,7 @@ class Desk:
         The new session is sent the lines that were wholly replied to, with the claims of its plans in the place of
         ``plan`` lines. ``ReplyDiffers`` where a reply isn't the journal's, but for those that say ``taken``. What was
         torn at the ends of the files is dropped, and so are the lines without their replies: these are given in
-        ``unanswered``, to be sent again.
+        ``unanswered``, to be sent again. ``torn`` says whether a torn line came behind them.
 
         With ``seek`` the lines are sent as they stand, and the plans sought again, which takes as long as it did. All
         replies have to be the journal's then, which those of the same program with one worker are. It is for lines
@@ -144,7 +146,7 @@ class Desk:
             for exchange in found.done:
                 desk._do_again(exchange, seek)
             kept.cut(found.done)
-            desk._journal, desk.unanswered = kept, found.unanswered
+            desk._journal, desk.unanswered, desk.torn = kept, found.unanswered, found.torn
             desk.done_again, desk.plans_again = len(found.done), found.plans
             faults.pop_all()
         return desk
@@ -330,12 +332,12 @@ class Desk:
     def _exchange(self, line: str) -> Exchange:
         """Sends the next line and reads its replies."""
         place = self._count + 1
-        self._program.write(line.encode("utf-8", "surrogatepass"))
+        self._program.write(encoded(line))
         texts: list[str] = []
         replies: list[Reply] = []
         while not replies or (len(replies) == 1 and is_taken(replies[0])):
             source = f"reply to line {place}"
-            texts.append(decoded(self._program.read(), source, "surrogatepass"))
+            texts.append(decoded(self._program.read(), source))
             replies.append(read_reply(texts[-1], source))
             if replies[-1].line != place:
                 raise DeskError(f"a reply to line {replies[-1].line} came back to line {place}")

@@ -2,6 +2,7 @@
 
 from __future__ import annotations
 
+import codecs
 import json
 import sys
 from contextlib import contextmanager
@@ -13,6 +14,9 @@ from typing import Any, Callable, Iterator, Mapping, Sequence, TypeVar
 from purvelj.errors import DocumentError, FileError
 
 T = TypeVar("T")
+
+#: What Python's codecs are told to do with surrogates where ``encoded`` encodes.
+AS_SENT = "purvelj.as_sent"
 
 
 def compact(value: object) -> str:
@@ -52,14 +56,47 @@ def read_bytes(path: str | Path) -> bytes:
         raise FileError(f"{source_of(path)}: can't be read: {fault.strerror or fault}") from None
 
 
-def decoded(data: bytes, source: str, errors: str = "strict") -> str:
+def decoded(data: bytes, source: str) -> str:
     """The text that bytes are in UTF-8; ``FileError``, which names ``source`` and perhaps a line, where they are none."""
     try:
-        return data.decode("utf-8", errors)
+        return data.decode("utf-8")
     except UnicodeDecodeError as fault:
         line = data.count(b"\n", 0, fault.start) + 1
         where = f"{source}, line {line}" if b"\n" in data else source
         raise FileError(f"{where}: not a text in UTF-8") from None
+
+
+def decoded_lines(data: bytes) -> str:
+    """The text of lines for a session, which may not be UTF-8: it refuses those. ``encoded`` gives the same bytes again.
+
+    Each byte that isn't UTF-8 is a surrogate in the text, as Python's ``surrogateescape`` has it.
+    """
+    return data.decode("utf-8", "surrogateescape")
+
+
+def encoded(text: str) -> bytes:
+    """The bytes of a text in UTF-8. What ``decoded_lines`` has read has the same bytes again.
+
+    Any other surrogate becomes the three bytes that UTF-8 would have for it.
+    """
+    return text.encode("utf-8", AS_SENT)
+
+
+def _surrogates_as_sent(fault: UnicodeError) -> tuple[bytes, int]:
+    """The bytes of the surrogates that an encoder has come to, and where it goes on."""
+    if not isinstance(fault, UnicodeEncodeError):
+        raise fault
+    found = fault.object[fault.start : fault.end]
+    kinds = ("surrogateescape" if "\udc80" <= each <= "\udcff" else "surrogatepass" for each in found)
+    return b"".join(each.encode("utf-8", kind) for each, kind in zip(found, kinds)), fault.end
+
+
+codecs.register_error(AS_SENT, _surrogates_as_sent)
+
+
+def lines_of(text: str) -> list[str]:
+    """The lines of a text, the last of which may lack its newline; an empty text has none."""
+    return text.removesuffix("\n").split("\n") if text else []
 
 
 def read_text(path: str | Path) -> str:
@@ -78,8 +115,7 @@ def write_text(path: str | Path, text: str) -> None:
         write_output(text)
         return
     try:
-        # A line that was sent may hold a surrogate alone, which is written as the desk was sent it.
-        Path(path).write_bytes(text.encode("utf-8", "surrogatepass"))
+        Path(path).write_bytes(encoded(text))
     except OSError as fault:
         raise FileError(f"{path}: can't be written: {fault.strerror or fault}") from None
 
@@ -262,6 +298,8 @@ def _refuse_constant(word: str) -> Any:
 def _where_it_breaks(text: str, fault: ValueError) -> str:
     if not isinstance(fault, json.JSONDecodeError):
         return str(fault)
+    if not text.strip():
+        return "it is empty"
     if text.startswith("\ufeff"):
         return "it begins with a byte order mark"
     if fault.pos >= len(text.rstrip()) or fault.msg.startswith("Unterminated string"):

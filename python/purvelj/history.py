@@ -6,7 +6,7 @@ from dataclasses import dataclass
 from itertools import groupby
 from typing import Iterable, Sequence
 
-from purvelj.documents import parse
+from purvelj.documents import lines_of, parse
 from purvelj.errors import DocumentError, PurveljError
 from purvelj.lines import Line
 from purvelj.replies import (
@@ -101,7 +101,7 @@ def read_history(output: str, script: str | None = None, source: str = "output")
     ``DocumentError`` where the output isn't that of one caller, or replies to a line that the script doesn't have.
     """
     texts = [text for text in output.split("\n") if text.strip()]
-    sent = None if script is None else script.removesuffix("\n").split("\n")
+    sent = None if script is None else lines_of(script)
     return history_of(texts, sent, source)
 
 

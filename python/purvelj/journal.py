@@ -4,12 +4,14 @@ from __future__ import annotations
 
 import fcntl
 import os
+from contextlib import ExitStack, closing
 from pathlib import Path
 from typing import Iterable
 
-from purvelj.documents import decoded
+from purvelj.documents import decoded, decoded_lines, encoded, lines_of
 from purvelj.errors import FileError
 from purvelj.history import Exchange
+from purvelj.lines import size_of
 from purvelj.resume import Stopped, pieces, stopped
 
 
@@ -38,8 +40,11 @@ class Journal:
         for path in Journal.paths(name):
             if os.path.lexists(path):
                 raise FileError(f"{path}: it is there already; a desk goes on with it by Desk.resume")
-        lines, replies = (_File(path, "x+b") for path in Journal.paths(name))
-        return Journal(lines, replies)
+        with ExitStack() as faults:
+            lines, replies = (faults.enter_context(closing(_File(path, "x+b"))) for path in Journal.paths(name))
+            journal = Journal(lines, replies)
+            faults.pop_all()
+        return journal
 
     @staticmethod
     def go_on(name: str | Path) -> Journal:
@@ -49,15 +54,29 @@ class Journal:
         by then, so where there is one the file of the replies was lost, and ``FileError`` is raised.
         """
         lines_path, replies_path = Journal.paths(name)
-        lines = _File(lines_path, "r+b")
-        is_begun = os.path.lexists(replies_path) or lines.pieces() != ([], b"")
-        return Journal(lines, _File(replies_path, "r+b" if is_begun else "x+b"))
+        with ExitStack() as faults:
+            lines = faults.enter_context(closing(_File(lines_path, "r+b")))
+            is_begun = os.path.lexists(replies_path) or lines.read() != b""
+            replies = faults.enter_context(closing(_File(replies_path, "r+b" if is_begun else "x+b")))
+            journal = Journal(lines, replies)
+            faults.pop_all()
+        return journal
 
     def stopped(self) -> Stopped:
-        """Where the session stopped whose journal this is."""
-        replies, _ = self._replies.pieces()
-        lines, torn = self._lines.pieces()
-        return stopped(replies, lines, torn, self._replies.path)
+        """Where the session stopped whose journal this is.
+
+        A second line is written only once the replies to the first one are on the disk. So where one was begun and the
+        file of the replies is empty these were lost, and ``FileError`` is raised.
+        """
+        sent, replied = self._lines.read(), self._replies.read()
+        _, _, after_first = sent.partition(b"\n")
+        if after_first and not replied:
+            text = f"it is empty, and {self._lines.path} has several lines: its replies were lost"
+            raise FileError(f"{self._replies.path}: {text}")
+        lines, torn = pieces(sent)
+        replies, _ = pieces(replied)
+        texts = lines_of(decoded(replies, self._replies.path))
+        return stopped(texts, lines_of(decoded_lines(lines)), torn, self._replies.path)
 
     def cut(self, done: Iterable[Exchange]) -> None:
         """Drops what isn't of these exchanges, with which the journal begins.
@@ -87,25 +106,26 @@ class _File:
 
     def __init__(self, path: str, mode: str) -> None:
         self.path = path
-        try:
-            self._file = open(path, mode, buffering=0)
-            fcntl.flock(self._file, fcntl.LOCK_EX | fcntl.LOCK_NB)
-        except BlockingIOError:
-            raise FileError(f"{path}: another desk writes it") from None
-        except OSError as fault:
-            raise FileError(f"{path}: can't be opened: {fault.strerror or fault}") from None
+        with ExitStack() as faults:
+            try:
+                self._file = faults.enter_context(open(path, mode, buffering=0))
+                fcntl.flock(self._file, fcntl.LOCK_EX | fcntl.LOCK_NB)
+            except BlockingIOError:
+                raise FileError(f"{path}: another desk writes it") from None
+            except OSError as fault:
+                raise FileError(f"{path}: can't be opened: {fault.strerror or fault}") from None
+            faults.pop_all()
 
-    def pieces(self) -> tuple[list[str], bytes]:
-        """The whole lines that the file begins with, and what stands after the last newline."""
+    def read(self) -> bytes:
+        """All that the file has."""
         try:
             self._file.seek(0)
-            whole, torn = pieces(self._file.read())
+            return self._file.read()
         except OSError as fault:
             raise FileError(f"{self.path}: can't be read: {fault.strerror or fault}") from None
-        return decoded(whole, self.path, "surrogatepass").split("\n")[:-1], torn
 
     def write(self, text: str) -> None:
-        left = memoryview(text.encode("utf-8", "surrogatepass"))
+        left = memoryview(encoded(text))
         try:
             while left:
                 left = left[self._file.write(left) :]
@@ -115,7 +135,7 @@ class _File:
 
     def cut(self, lines: list[str]) -> None:
         """Leaves these lines, with which the file begins; the last may lack its newline."""
-        size = len("".join(f"{line}\n" for line in lines).encode("utf-8", "surrogatepass"))
+        size = sum(map(size_of, lines))
         try:
             missing = self._file.seek(0, os.SEEK_END) < size
             self._file.truncate(size - missing)

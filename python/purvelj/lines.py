@@ -9,21 +9,23 @@ from __future__ import annotations
 
 from typing import Iterable, Mapping, Sequence
 
+from purvelj.documents import encoded
 from purvelj.model import Claim
 from purvelj.moments import Moment, seconds_of
 
 Line = dict[str, object]
 #: Spans: pairs of moments, each the first second and the one after the last.
 Pairs = Iterable[tuple[Moment, Moment]]
-#: The accounts that a grant can go to.
-ACCOUNTS = ("standard", "time_critical", "rapid_response", "ipp")
 #: The most lines that a session reads, and the most bytes of them with their newlines.
 MOST_LINES, MOST_BYTES = 65_536, 67_108_864
 
 
 def size_of(text: str) -> int:
-    """The bytes that a session reads of a line that is this text, its newline among them."""
-    return len(text.encode("utf-8", "surrogatepass")) + 1
+    """The bytes that a session reads of a line that is this text, its newline among them.
+
+    A byte that isn't UTF-8 stands in the text as ``documents.decoded_lines`` reads it.
+    """
+    return len(encoded(text)) + 1
 
 
 def open_line(

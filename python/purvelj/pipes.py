@@ -124,8 +124,8 @@ class LineProgram:
         return DeskEnded(self.command, self.close())
 
 
-def run_through(command: Sequence[str], text: str, timeout: float | None = None) -> tuple[bytes, int]:
-    """What a program writes, and the exit status that it ends with, where a text is its whole input.
+def run_through(command: Sequence[str], data: bytes, timeout: float | None = None) -> tuple[bytes, int]:
+    """What a program writes, and the exit status that it ends with, where these bytes are its whole input.
 
     ``NoReply`` where it takes longer than ``timeout`` seconds: it is ended then. Whatever is left of what it started
     is ended in any case, as by ``LineProgram.close``.
@@ -133,7 +133,7 @@ def run_through(command: Sequence[str], text: str, timeout: float | None = None)
     deadline = _deadline(timeout)
     process = _started(command)
     try:
-        output = _passed(process, text.encode("utf-8", "surrogatepass"), deadline)
+        output = _passed(process, data, deadline)
         if output is None or not _ends_by(process, deadline):
             raise NoReply(f"{' '.join(command)} didn't end within {timeout:g} s")
     finally:

@@ -10,7 +10,7 @@ from __future__ import annotations
 from dataclasses import dataclass
 from typing import Sequence
 
-from purvelj.documents import compact, decoded
+from purvelj.documents import compact, decoded_lines
 from purvelj.errors import DocumentError
 from purvelj.history import Exchange, history_of
 from purvelj.lines import publish_line
@@ -52,7 +52,7 @@ def stopped(replies: Sequence[str], lines: Sequence[str], torn: bytes, source: s
     of one caller from the first line on, or isn't that of the script.
     """
     if torn and replies and read_reply(replies[-1], f"{source}, line {len(replies)}").line > len(lines):
-        lines, torn = [*lines, decoded(torn, f"line {len(lines) + 1} of the script", "surrogateescape")], b""
+        lines, torn = [*lines, decoded_lines(torn)], b""
     exchanges = list(history_of(replies, lines, source).exchanges)
     if exchanges and len(exchanges[-1].replies) == 1 and is_taken(exchanges[-1].reply):
         exchanges.pop()

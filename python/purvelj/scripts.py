@@ -4,7 +4,7 @@ from __future__ import annotations
 
 from typing import Iterable, Sequence
 
-from purvelj.documents import decoded
+from purvelj.documents import decoded, encoded
 from purvelj.errors import PurveljError
 from purvelj.history import History, read_history
 from purvelj.pipes import DeskEnded, DeskError, run_through
@@ -25,10 +25,10 @@ def run_script(
     sent = [line.rstrip("\n") for line in script]
     command = command_of(program)
     text = "".join(f"{line}\n" for line in sent)
-    output, exit_status = run_through(command, text, timeout)
+    output, exit_status = run_through(command, encoded(text), timeout)
     if exit_status:
         raise DeskEnded(command, exit_status, _history_until(output, text))
-    history = read_history(decoded(output, "output", "surrogatepass"), text)
+    history = read_history(decoded(output, "output"), text)
     if len(history.exchanges) != len(sent):
         raise DeskError(f"{len(sent)} lines were sent, and {len(history.exchanges)} were replied to")
     return history
@@ -37,7 +37,7 @@ def run_script(
 def _history_until(output: bytes, script: str) -> History:
     """What a program had replied to a script when it ended, but for a torn reply; nothing where one can't be read."""
     try:
-        return read_history(decoded(pieces(output)[0], "output", "surrogatepass"), script)
+        return read_history(decoded(pieces(output)[0], "output"), script)
     except PurveljError:
         return History(())
 

@@ -32,7 +32,7 @@ class Connection:
         """The replies as they come, until the connection ends. A last one without a newline is torn and is none."""
         with self.socket.makefile("rb") as source:
             while (text := _read(source)).endswith(b"\n"):
-                yield decoded(text[:-1], f"{self.where}: a reply", "surrogatepass")
+                yield decoded(text[:-1], f"{self.where}: a reply")
 
 
 def connect_to_path(path: str) -> Connection:

@@ -20,7 +20,7 @@ from types import TracebackType
 from typing import BinaryIO, Callable, Iterator, Sequence
 
 from purvelj.desk import Desk
-from purvelj.documents import decoded
+from purvelj.documents import decoded_lines, encoded
 from purvelj.errors import FileError
 from purvelj.journal import Journal
 from purvelj.lines import MOST_LINES
@@ -270,12 +270,7 @@ class _Connection(threading.Thread):
             if not piece.endswith(b"\n"):
                 self._tell_piece(piece)
                 return
-            try:
-                line = decoded(piece[:-1], f"{self.name}: a line of {len(piece) - 1} bytes", "surrogatepass")
-            except FileError as fault:
-                self._server.tell(f"{fault}: it isn't done, and the connection is closed")
-                return
-            yield line
+            yield decoded_lines(piece[:-1])
 
     def _tell_piece(self, piece: bytes) -> None:
         """Tells why what has no newline isn't done."""
@@ -288,7 +283,7 @@ class _Connection(threading.Thread):
     def _write(self, replies: Sequence[str]) -> None:
         """Writes replies. Where whoever sent the line has left, they are in the journal alone."""
         with suppress(OSError):
-            self._socket.sendall("".join(f"{text}\n" for text in replies).encode("utf-8", "surrogatepass"))
+            self._socket.sendall(encoded("".join(f"{text}\n" for text in replies)))
 
 
 def _read(source: BinaryIO) -> bytes:

@@ -30,7 +30,7 @@ from purvelj.replies import (
 from purvelj.spans import Span, Spans, minus, union
 
 #: The account of each observation type.
-ACCOUNTS = {
+ACCOUNT_OF = {
     "NORMAL": "standard",
     "TIME_CRITICAL": "time_critical",
     "RAPID_RESPONSE": "rapid_response",
@@ -184,7 +184,7 @@ class Story:
         self.running.clear()
 
     def _own(self, document: Document, group: int, numbers: list[int] | tuple[int, ...]) -> None:
-        account = ACCOUNTS.get(document.text("observation_type"), "standard")
+        account = ACCOUNT_OF.get(document.text("observation_type"), "standard")
         requests = document.objects("requests", 1)
         for place, number in enumerate(numbers):
             request = requests[place] if len(requests) == len(numbers) else requests[0]

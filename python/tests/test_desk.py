@@ -11,7 +11,7 @@ from pathlib import Path
 import pytest
 
 from purvelj.desk import Desk, Refusal
-from purvelj.documents import compact
+from purvelj.documents import compact, decoded_lines, encoded
 from purvelj.errors import DocumentError, FileError
 from purvelj.history import read_history
 from purvelj.lines import night_line, submit_line, visibility_line
@@ -167,6 +167,22 @@ def test_a_surrogate_alone_is_saved_as_it_was_sent(tmp_path: Path) -> None:
     assert (tmp_path / "script.jsonl").read_bytes() == b'"\xed\xa0\x80"\n'
 
 
+@pytest.mark.parametrize("line", [b"\xff\xff", b"b\xed\xa0\x80c", b"\xf0\x9f\r", "\U0001f52d\0".encode()])
+def test_a_line_that_was_read_is_sent_and_saved_with_the_same_bytes(tmp_path: Path, line: bytes) -> None:
+    assert encoded(decoded_lines(line)) == line
+    reply = '{"caller":0,"line":1,"no":1,"refused":"NotJson","version":0}'
+    answer = program(f"import sys; print({reply!r} if sys.stdin.buffer.readline() == {line!r} + b'\\n' else 0)")
+    with Desk(answer, timeout=60) as desk:
+        desk.send(decoded_lines(line))
+        desk.save(tmp_path / "script.jsonl")
+    assert (tmp_path / "script.jsonl").read_bytes() == line + b"\n"
+    assert run_script([decoded_lines(line)], answer).script() == desk.history.script()
+
+
+def test_a_surrogate_alone_has_the_bytes_of_its_number_and_an_escaped_byte_its_own() -> None:
+    assert encoded("a\ud800\udc80\udcff\udd00") == b"a" + b"\xed\xa0\x80" + b"\x80" + b"\xff" + b"\xed\xb4\x80"
+
+
 def test_a_history_is_read_from_output_and_script(ready: Desk) -> None:
     ready.plan()
     history = ready.history
@@ -175,6 +191,8 @@ def test_a_history_is_read_from_output_and_script(ready: Desk) -> None:
     assert [each.replies for each in alone.exchanges] == [each.replies for each in history.exchanges]
     with pytest.raises(DocumentError, match="replies to line 8, and the script has 7 lines"):
         read_history(history.output(), "\n".join(LINES[:7]))
+    with pytest.raises(DocumentError, match="replies to line 1, and the script has 0 lines"):
+        read_history(history.output(), "")
     with pytest.raises(FileError, match="output, line 1: not JSON: it ends in the middle"):
         read_history(history.output()[:20])
 

@@ -62,6 +62,16 @@ def test_list_takes_no_script_of_another_output(run) -> None:
     assert (ran.status, ran.out, ran.err) == (4, "", message)
 
 
+def test_list_takes_a_script_with_a_line_that_is_not_utf_8(run) -> None:
+    refused = '{"caller":0,"line":10,"no":1,"refused":"NotJson","version":8}'
+    Path("script.jsonl").write_bytes("\n".join(LINES).encode() + b'\n{"do":"\xff"}\n')
+    ran = run(*WORDS, files={"output.jsonl": "\n".join([*REPLIES, refused])})
+    row = "1970-01-01T00:00:00Z\t1970-01-01T00:05:00Z\tcoj doma 1m0a\t1\t1\tP1\t\n"
+    assert (ran.status, ran.out, ran.err) == (0, row, "")
+    ran = run("chart", *WORDS[1:], "--plan", "plan.svg")
+    assert (ran.status, ran.err) == (0, "") and "coj doma 1m0a" in Path("plan.svg").read_text()
+
+
 def test_list_tells_of_a_plan_that_was_published_after_the_export(run) -> None:
     claim = '{"bound":50000,"placements":[],"prices":[50000],"value":0}'
     replies = [*REPLIES, f'{{"caller":0,"claim":{claim},"line":10,"ok":"published","version":8}}']

@@ -4,6 +4,7 @@ from __future__ import annotations
 
 import shlex
 import sys
+from pathlib import Path
 
 import pytest
 
@@ -32,6 +33,14 @@ def test_replay_prints_nothing_of_a_program_that_is_no_session(run) -> None:
     command = ends("usage: other WORDS\n", 1)
     ran = run("replay", "script.jsonl", "--program", command, files={"script.jsonl": LINES[0]})
     assert (ran.status, ran.out, len(ran.err.splitlines())) == (9, "", 1)
+
+
+def test_replay_sends_a_line_that_is_not_utf_8_as_it_is(run, netsched: list[str]) -> None:
+    Path("script.jsonl").write_bytes(f"{LINES[0]}\n".encode() + b'{"do":"\xff"}\n')
+    ran = run("replay", "script.jsonl", "--program", shlex.join(netsched))
+    refused = '{"caller":0,"line":2,"no":1,"refused":"NotJson","version":1}'
+    assert (ran.status, ran.out.splitlines()) == (0, [REPLIES[0], refused])
+    assert ran.err.endswith("purvelj: 1 of 2 lines were refused\n")
 
 
 def test_replay_tells_of_a_byte_order_mark(run, netsched: list[str]) -> None:

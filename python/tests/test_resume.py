@@ -2,6 +2,7 @@
 
 from __future__ import annotations
 
+import errno
 import json
 import os
 import signal
@@ -27,6 +28,9 @@ NIGHT = (EXAMPLES / "night.jsonl").read_text(encoding="utf-8").splitlines()
 OUTPUT = (EXAMPLES / "night.replies").read_text(encoding="utf-8").splitlines()
 PUBLISH = f'{{"claim":{CLAIM},"do":"publish","version":7}}'
 TAKEN = '"ok":"taken"'
+#: The reply to a tenth line, behind those of the script, that is no JSON.
+NOT_JSON = '{"caller":0,"line":10,"no":1,"refused":"NotJson","version":8}'
+NOT_UTF_8 = [b"\xff\xff", b"b\xed\xa0\x80c", b'{"do":"plan","x":"\xed\xa0\x80\xff"}']
 
 
 @pytest.fixture
@@ -88,15 +92,33 @@ def test_a_torn_reply_is_none_even_where_a_letter_is_torn(resume) -> None:
     assert resume(torn, joined(LINES))[1] == LINES[:7]
 
 
-def test_a_line_that_is_not_utf_8_stays_as_it_was(tmp_path: Path, monkeypatch: pytest.MonkeyPatch, capfdbinary) -> None:
+@pytest.mark.parametrize("end", [b"\n", b""], ids=["whole", "torn"])
+@pytest.mark.parametrize("line", NOT_UTF_8)
+def test_a_line_that_is_not_utf_8_stays_as_it_was(tmp_path, monkeypatch, capfdbinary, line: bytes, end: bytes) -> None:
     monkeypatch.chdir(tmp_path)
-    for line in (b"\xff", b'{"do":"plan","x":"\xed\xa0\x80\xff"}'):
-        refused = '{"caller":0,"line":10,"no":1,"refused":"NotJson","version":7}'
-        Path("output.jsonl").write_text(joined([*REPLIES, refused]), encoding="utf-8")
-        for end in (b"\n", b""):
-            Path("script.jsonl").write_bytes(joined(LINES).encode() + line + end)
-            assert cli.main(["resume", "output.jsonl", "--script", "script.jsonl"]) == 0
-            assert capfdbinary.readouterr().out == joined([*LINES[:7], PUBLISH, LINES[8]]).encode() + line + b"\n"
+    Path("output.jsonl").write_text(joined([*REPLIES, NOT_JSON]), encoding="utf-8")
+    Path("script.jsonl").write_bytes(joined(LINES).encode() + line + end)
+    wanted = joined([*LINES[:7], PUBLISH, LINES[8]]).encode() + line + b"\n"
+    for most, told in ((len(wanted), 1), (len(wanted) - 1, 2)):
+        monkeypatch.setattr("purvelj.cli.resume.MOST_BYTES", most)
+        assert cli.main(["resume", "output.jsonl", "--script", "script.jsonl"]) == 0
+        out, err = capfdbinary.readouterr()
+        assert (out, err.count(b"\n")) == (wanted, told)
+
+
+@pytest.mark.parametrize("end", [b"\n", b""], ids=["whole", "torn"])
+@pytest.mark.parametrize("line", NOT_UTF_8)
+def test_a_journal_with_a_line_that_is_not_utf_8_goes_on_twice(netsched, tmp_path, line: bytes, end: bytes) -> None:
+    name = journal(tmp_path, joined(LINES), joined([*REPLIES, NOT_JSON]))
+    path = tmp_path / "night.lines.jsonl"
+    path.write_bytes(joined(LINES).encode() + line + end)
+    with Desk.resume(name, netsched) as desk:
+        assert (desk.done_again, desk.unanswered, desk.torn) == (10, (), False)
+        assert path.read_bytes() == joined(LINES).encode() + line + b"\n"
+        desk.balances()
+    with Desk.resume(name, netsched) as desk:
+        assert (desk.done_again, desk.history.exchanges[10].line) == (11, '{"do":"balances"}')
+    assert path.read_bytes() == joined(LINES).encode() + line + b'\n{"do":"balances"}\n'
 
 
 def test_a_torn_line_counts_only_where_it_was_replied_to(resume) -> None:
@@ -238,7 +260,7 @@ def journal(folder: Path, lines: str, replies: str) -> Path:
 def test_a_torn_journal_is_cut_and_goes_on_twice(netsched, tmp_path: Path) -> None:
     name = journal(tmp_path, joined(LINES) + '{"do":"bal', joined(REPLIES[:8]) + REPLIES[8][:50])
     with Desk.resume(name, netsched) as desk:
-        assert desk.unanswered == (LINES[7], LINES[8])
+        assert (desk.unanswered, desk.torn) == ((LINES[7], LINES[8]), True)
         assert (tmp_path / "night.lines.jsonl").read_text() == joined(LINES[:7])
         assert (tmp_path / "night.replies.jsonl").read_text() == joined(REPLIES[:7])
         desk.replay(desk.unanswered)
@@ -254,7 +276,7 @@ def test_a_torn_journal_is_cut_and_goes_on_twice(netsched, tmp_path: Path) -> No
 def test_a_line_of_a_journal_that_lacks_only_its_newline_gets_it(netsched, tmp_path: Path) -> None:
     name = journal(tmp_path, joined(LINES)[:-1], joined(REPLIES))
     with Desk.resume(name, netsched) as desk:
-        assert desk.unanswered == ()
+        assert (desk.unanswered, desk.torn) == ((), False)
         desk.balances()
     assert (tmp_path / "night.lines.jsonl").read_text() == joined([*LINES, '{"do":"balances"}'])
 
@@ -304,6 +326,53 @@ def test_a_journal_that_lost_its_replies_stays_as_it_is(tmp_path: Path) -> None:
         Desk.resume(tmp_path / "night", silent)
     assert [path.name for path in tmp_path.iterdir()] == ["night.lines.jsonl"]
     assert (tmp_path / "night.lines.jsonl").read_text() == joined(LINES)
+
+
+def test_a_journal_whose_replies_were_emptied_stays_as_it_is(tmp_path: Path) -> None:
+    silent = program("import sys; sys.stdin.read()")
+    message = "night.replies.jsonl: it is empty, and .*night.lines.jsonl has several lines: its replies were lost$"
+    for lines in (joined(LINES[:2]), joined(LINES[:1]) + LINES[1][:9]):
+        with pytest.raises(FileError, match=message):
+            Desk.resume(journal(tmp_path, lines, ""), silent)
+        assert (tmp_path / "night.lines.jsonl").read_text() == lines
+    with Desk.resume(journal(tmp_path, joined(LINES[:1]), ""), silent) as desk:
+        assert (desk.done_again, desk.unanswered) == (0, (LINES[0],))
+
+
+def test_a_journal_that_could_not_be_gone_on_with_is_let_go(netsched, tmp_path: Path) -> None:
+    name = journal(tmp_path, joined(LINES), joined(REPLIES))
+    (tmp_path / "night.replies.jsonl").rename(tmp_path / "lost")
+    with pytest.raises(FileError) as caught:
+        Desk.resume(name, netsched)
+    (tmp_path / "lost").rename(tmp_path / "night.replies.jsonl")
+    with Desk.resume(name, netsched) as desk:
+        assert desk.done_again == 9
+    assert "night.replies.jsonl: can't be opened: No such file" in str(caught.value)
+
+
+def test_a_journal_that_could_not_be_begun_is_let_go(tmp_path: Path, monkeypatch: pytest.MonkeyPatch) -> None:
+    """Both files are made, but the folder that has their names can't be written to the disk."""
+
+    def fails(file: int) -> None:
+        raise OSError(errno.EIO, "Input/output error")
+
+    silent = program("import sys; sys.stdin.read()")
+    with monkeypatch.context() as patch, pytest.raises(FileError) as caught:
+        patch.setattr("os.fsync", fails)
+        Desk(silent, journal=tmp_path / "night")
+    with Desk.resume(tmp_path / "night", silent) as desk:
+        assert (desk.done_again, desk.unanswered) == (0, ())
+    assert str(caught.value) == f"{tmp_path}: can't be written: Input/output error"
+
+
+def test_a_blank_line_among_the_replies_is_refused(resume, tmp_path: Path) -> None:
+    """No session writes one, so somebody else has changed the file."""
+    replies = joined([*REPLIES[:3], "", *REPLIES[3:]])
+    status, lines, told = resume(replies, joined(LINES))
+    assert (status, lines, told) == (3, [], ["output.jsonl, line 4: not JSON: it is empty"])
+    with pytest.raises(FileError, match="night.replies.jsonl, line 4: not JSON: it is empty$"):
+        Desk.resume(journal(tmp_path, joined(LINES), replies), program("import sys; sys.stdin.read()"))
+    assert (tmp_path / "night.replies.jsonl").read_text() == replies
 
 
 def test_a_journal_can_be_resumed_by_hand(resume, netsched, tmp_path: Path) -> None:

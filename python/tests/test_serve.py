@@ -167,22 +167,48 @@ def test_a_connection_that_leaves_early_has_its_lines_done(serve) -> None:
     assert server.written("replies") == REPLIES[:9]
 
 
-def test_lines_that_cannot_be_passed_on_end_their_connection_alone(serve) -> None:
+def test_a_line_that_is_too_long_ends_its_connection_alone(serve) -> None:
     server = serve()
     with Caller(server.path) as other:
         assert other.ask(LINES[0]) == REPLIES[:1]
-        for bad in (b'{"do":"\xff"}\n', b" " * (LONGEST + 2)):
-            with Caller(server.path) as caller:
-                caller.send(LINES[1])
-                with suppress(ConnectionError):
-                    caller.socket.sendall(bad)
-                assert json.loads(caller.read(1)[0])["line"] > 1
-                assert caller.rest() == b""
+        with Caller(server.path) as caller:
+            caller.send(LINES[1])
+            with suppress(ConnectionError):
+                caller.socket.sendall(b" " * (LONGEST + 2))
+            assert caller.read(1) == REPLIES[1:2]
+            assert caller.rest() == b""
         replies = [json.loads(other.ask(line)[0]) for line in ('{"do":"\0"}', "", " " * LONGEST, '{"do":"\u2028"}')]
-    assert [reply["line"] for reply in replies] == [4, 5, 6, 7] and all(reply["no"] for reply in replies)
-    until(lambda: server.says("connection 3: a line of more than 1048576 bytes isn't done"))
-    assert server.says("connection 2: a line of 10 bytes: not a text in UTF-8: it isn't done, and the connection is")
-    assert len((server.folder / "night.lines.jsonl").read_bytes().split(b"\n")) == 8
+    assert [reply["line"] for reply in replies] == [3, 4, 5, 6] and all(reply["no"] for reply in replies)
+    until(lambda: server.says("connection 2: a line of more than 1048576 bytes isn't done"))
+    assert len((server.folder / "night.lines.jsonl").read_bytes().split(b"\n")) == 7
+
+
+def test_a_line_that_is_not_utf_8_is_refused_by_the_desk(serve) -> None:
+    server = serve()
+    refused = [f'{{"caller":0,"line":{place},"no":1,"refused":"NotJson","version":1}}' for place in (2, 3)]
+    with Caller(server.path) as caller:
+        assert caller.ask(LINES[0]) == REPLIES[:1]
+        caller.socket.sendall(b'{"do":"\xff"}\n"\xed\xa0\x80"\n')
+        assert caller.read(2) == refused
+    assert server.end() == 0
+    written = f"{LINES[0]}\n".encode() + b'{"do":"\xff"}\n"\xed\xa0\x80"\n'
+    assert (server.folder / "night.lines.jsonl").read_bytes() == written
+    again = serve()
+    assert again.told()[0] == "lines that were done again: 3, published plans among them: 0"
+    with Caller(again.path) as caller:
+        assert json.loads(caller.ask(LINES[1])[0]) == {**json.loads(REPLIES[1]), "line": 4}
+    assert (server.folder / "night.lines.jsonl").read_bytes() == written + f"{LINES[1]}\n".encode()
+
+
+def test_a_torn_last_line_of_the_journal_is_told(serve, tmp_path: Path) -> None:
+    (tmp_path / "night.lines.jsonl").write_text(f"{LINES[0]}\n{LINES[1][:20]}")
+    (tmp_path / "night.replies.jsonl").write_text(f"{REPLIES[0]}\n")
+    assert serve().told() == [
+        "lines that were done again: 1, published plans among them: 0",
+        "the journal's last line is torn and isn't done: whoever sent it has to send it again",
+        "listening at night.socket",
+    ]
+    assert (tmp_path / "night.lines.jsonl").read_text() == f"{LINES[0]}\n"
 
 
 def test_a_kill_loses_nothing(serve) -> None:

@@ -8,7 +8,7 @@ import sys
 from contextlib import suppress
 from typing import Callable
 
-from purvelj.documents import write_output
+from purvelj.documents import AS_SENT, write_output
 from purvelj.errors import PurveljError, Status
 
 #: Packages that a command may find missing, and the Debian package that has each.
@@ -60,9 +60,12 @@ def _told(fault: BaseException) -> tuple[str, int]:
 
 
 def _open_streams() -> None:
-    """Sees that the output is UTF-8, in any country, and that there is a standard error, though it may lead nowhere."""
+    """Sees that the output is UTF-8, in any country, and that there is a standard error, though it may lead nowhere.
+
+    Lines for a session have the bytes that they were read with.
+    """
     if isinstance(sys.stdout, io.TextIOWrapper):
-        sys.stdout.reconfigure(encoding="utf-8", errors="surrogatepass")
+        sys.stdout.reconfigure(encoding="utf-8", errors=AS_SENT)
     if sys.stderr is None:
         sys.stderr = open(os.devnull, "w", encoding="utf-8")
 

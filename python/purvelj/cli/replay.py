@@ -5,7 +5,7 @@ from __future__ import annotations
 import argparse
 
 from purvelj.cli.words import Commands, command, put, ranged, tell
-from purvelj.documents import read_text
+from purvelj.documents import decoded_lines, lines_of, read_bytes
 from purvelj.history import History
 from purvelj.replies import Refused
 
@@ -40,10 +40,10 @@ def run_replay(options: argparse.Namespace) -> int:
     from purvelj.pipes import DeskEnded
     from purvelj.scripts import run_script
 
-    text = read_text(options.script)
+    text = decoded_lines(read_bytes(options.script))
     if text.startswith("\ufeff"):
         tell("the script begins with a byte order mark, with which its first line is no JSON")
-    lines = text.removesuffix("\n").split("\n") if text else []
+    lines = lines_of(text)
     try:
         _put(run_script(lines, options.program, options.timeout), len(lines))
     except DeskEnded as fault:

@@ -3,11 +3,9 @@
 from __future__ import annotations
 
 import argparse
-import io
-import sys
 
 from purvelj.cli.words import Commands, put, tell
-from purvelj.documents import decoded, read_bytes, source_of
+from purvelj.documents import decoded, decoded_lines, lines_of, read_bytes, source_of
 from purvelj.lines import MOST_BYTES, size_of
 from purvelj.resume import Stopped, line_again, pieces, stopped
 
@@ -30,12 +28,7 @@ def run_resume(options: argparse.Namespace) -> int:
     source = source_of(options.output)
     output, _ = pieces(read_bytes(options.output))
     script, torn = pieces(read_bytes(options.script))
-    replies = [text for text in decoded(output, source).split("\n") if text.strip()]
-    # A session refuses a line that isn't UTF-8. So does the new one, which is to get the same bytes.
-    lines = decoded(script, source_of(options.script), "surrogateescape").split("\n")[:-1]
-    if isinstance(sys.stdout, io.TextIOWrapper):
-        sys.stdout.reconfigure(errors="surrogateescape")
-    found = stopped(replies, lines, torn, source)
+    found = stopped(lines_of(decoded(output, source)), lines_of(decoded_lines(script)), torn, source)
     size = 0
     for exchange in found.done:
         line = line_again(exchange)

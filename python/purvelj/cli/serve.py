@@ -117,6 +117,8 @@ def _tell_done(desk: Desk) -> None:
         tell("lines that aren't done, and are to be sent again by whoever sent them:")
         for line in desk.unanswered:
             tell(line)
+    if desk.torn:
+        tell("the journal's last line is torn and isn't done: whoever sent it has to send it again")
 
 
 def _tell_left(done: int) -> None:

@@ -5,7 +5,7 @@ from __future__ import annotations
 import argparse
 
 from purvelj.cli.words import tell
-from purvelj.documents import decoded, parse, read_bytes, read_text, source_of
+from purvelj.documents import decoded, decoded_lines, parse, read_bytes, source_of
 from purvelj.errors import FileError
 from purvelj.history import read_history
 from purvelj.resume import pieces
@@ -19,7 +19,7 @@ def read_story(options: argparse.Namespace) -> Story:
     """
     source = source_of(options.output)
     output = decoded(_without_torn(read_bytes(options.output)), source)
-    script = read_text(options.script) if options.script else None
+    script = decoded_lines(read_bytes(options.script)) if options.script else None
     return story_of(read_history(output, script, source))
 
 
