@@ -1,6 +1,6 @@
 // Whether a plan obeys the kinds of the groups.
 
-ghost use Rattle.std.specs.Prelude.{◌≡◌, ◌<◌, ◌≤◌, ◌↔◌, ℕ, length, MatchOption, IfOk, IsTrue};
+ghost use Rattle.std.specs.Prelude.{◌≡◌, ◌<◌, ◌↔◌, ℕ, length, MatchOption, IfOk, IsTrue};
 ghost use Rattle.plan_base.specs.Verdict.{IsFirst};
 ghost use Rattle.bound_checker.specs.Claims.{IsEachKnown, AreGroupCounts, IsTwice, IsPartial, HoldsOfGroup};
 

@@ -1,6 +1,6 @@
 // Whether a plan keeps within the quotas.
 
-ghost use Rattle.std.specs.Prelude.{◌≡◌, ◌<◌, ◌≤◌, ◌+◌, ◌*◌, ◌^◌, ℕ, cond, length, slice_index_or, Some, MatchOption, IfOk};
+ghost use Rattle.std.specs.Prelude.{◌≡◌, ◌<◌, ◌≤◌, ◌+◌, ◌^◌, ℕ, cond, length, slice_index_or, Some, MatchOption, IfOk};
 ghost use Rattle.plan_base.specs.Requests.{quota_of, IsKnown};
 ghost use Rattle.plan_base.specs.Feasible.{is_quota};
 ghost use Rattle.plan_base.specs.Verdict.{IsFirst};

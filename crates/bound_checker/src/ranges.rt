@@ -1,6 +1,6 @@
 // Whether the prices of a claim are in their ranges.
 
-ghost use Rattle.std.specs.Prelude.{◌≡◌, ◌<◌, ◌≤◌, MatchOption, All, length, slice_index_or, pos};
+ghost use Rattle.std.specs.Prelude.{◌<◌, ◌≤◌, MatchOption, All, length, slice_index_or, pos};
 ghost use Rattle.plan_base.specs.Limits.{most_quota_price};
 ghost use Rattle.plan_base.specs.Verdict.{IsFirst, IsPriceInRange};
 

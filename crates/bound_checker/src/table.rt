@@ -1,6 +1,6 @@
 // The greatest surplus from each slice on.
 
-ghost use Rattle.std.specs.Prelude.{◌≡◌, ℕ, ◌+◌, ◌<◌, ◌≤◌, ◌⊎◌, ℤ, pos, ◌≤ℤ◌, length, replicate, All, Contains};
+ghost use Rattle.std.specs.Prelude.{◌≡◌, ◌+◌, ◌<◌, ◌≤◌, ◌⊎◌, ℤ, pos, ◌≤ℤ◌, length, replicate, All, Contains};
 ghost use Rattle.plan_base.specs.Limits.{most_slices};
 ghost use Rattle.plan_base.specs.Tables.{entry};
 ghost use Rattle.bound_checker.specs.Tables.{IsWeight, IsEntry, gain, DoRowsFit, IsRecursion};

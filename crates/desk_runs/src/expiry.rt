@@ -1,6 +1,6 @@
 // Requests whose windows have passed, in the groups that are open.
 
-ghost use Rattle.std.specs.Prelude.{◌≡◌, ◌+◌, ◌≤◌, ◌++◌, ◌∷◌, [], ◌&&◌, if◌then◌else◌, IfOk, OnOk, All, length, map, filter};
+ghost use Rattle.std.specs.Prelude.{◌≡◌, ◌≤◌, ◌++◌, ◌∷◌, [], ◌&&◌, if◌then◌else◌, IfOk, OnOk, All, length, map, filter};
 ghost use Rattle.std.specs.List.{flat_map, list_any};
 ghost use Rattle.plan_base.specs.States.{is_pending, is_in, is_over};
 ghost use Rattle.desk_runs.specs.Clock.{became, is_past, is_waiting};

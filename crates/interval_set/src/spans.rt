@@ -1,7 +1,7 @@
 // A set of seconds as its list of spans.
 
-ghost use Rattle.std.specs.Prelude.{◌≡◌, ℕ, ◌≤◌, ◌==◌, ◌↔◌, List, [], length, All, IfOk, OnOk, MatchOption, IsTrue};
-ghost use Rattle.interval_set.specs.Spans.{has, span_has, IsSortedApart, IsSetOf, IsUnion, IsMeet, IsDifference, HasAll, HasNone, IsFirstIn};
+ghost use Rattle.std.specs.Prelude.{◌≡◌, ◌↔◌, List, [], length, IfOk, OnOk, MatchOption, IsTrue};
+ghost use Rattle.interval_set.specs.Spans.{has, IsSortedApart, IsSetOf, IsUnion, IsMeet, IsDifference, HasAll, HasNone, IsFirstIn};
 ghost use Rattle.interval_set.specs.Steps.{IsBegunBy, IsEndedBy, BeginBy, CanAdd, Rise, Adds};
 
 use crate::span::{common, gap_before};
