@@ -1,6 +1,9 @@
 //! Bytes that contracts see as a list.
-ghost use Rattle.std.specs.Prelude.{◌≡◌, ◌==◌, length};
+ghost use Rattle.std.specs.Prelude.{◌≡◌, ◌==◌, length, nat_eq};
+ghost use Rattle.std.specs.Cmp.Lexicographic.{pointwise, nat_list_eq_equiv};
+ghost use Rattle.std.specs.Cmp.{partial_equiv_from_equiv};
 
+use std::alloc::AllocError;
 use std::marker::Model;
 
 /// Bytes in memory.
@@ -20,6 +23,29 @@ impl Model for ByteList {
     ghost Value = { List ℕ };
 
     ghost view = { λ bytes. bytes.items.items };
+}
+
+impl Clone for ByteList {
+    ghost is_clone = { λ x y. y ≡ x };
+
+    fn clone(&self) -> Result<ByteList, AllocError> {
+        let items = self.items.clone()?;
+        Ok(ByteList { items })
+    }
+}
+
+impl PartialEq for ByteList {
+    ghost eq = { pointwise nat_eq };
+
+    ghost laws = { partial_equiv_from_equiv nat_list_eq_equiv };
+
+    fn eq(&self, other: &Self) -> bool {
+        self.as_slice() == other.as_slice()
+    }
+}
+
+impl Eq for ByteList {
+    ghost laws = { nat_list_eq_equiv };
 }
 
 impl From<Vec<u8>> for ByteList {

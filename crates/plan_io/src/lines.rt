@@ -17,7 +17,7 @@ use std::marker::Model;
 const LONGEST: usize = 1_048_576;
 
 /// A line of a script.
-#[derive(Drop)]
+#[derive(Clone, Drop, PartialEq, Eq)]
 pub enum ScriptLine {
     /// Its bytes without the newline: at most 1,048,576.
     Bytes(ByteList),

@@ -12,24 +12,11 @@ use super::same::is_same;
 use desk_book::Book;
 use desk_passes::{CallAnswer, Pass, Root, SharedDesk};
 use lanes::solve_plan_with;
-use plan_io::{ByteList, Gate, MOST_LINES, Point, ScriptLine};
+use plan_io::{Gate, MOST_LINES, Point, ScriptLine};
 use snapshot_starts::StartCache;
 use std::alloc::{AllocError, Global};
 use std::sync::Wait;
 use std::thread::{self, Threads};
-
-/// A copy of a line.
-fn copied(alloc: Global, line: &ScriptLine) -> Result<ScriptLine, AllocError>
-    ensures { IfOk result (λ copy. copy ≡ line.now) }
-{
-    match line {
-        ScriptLine::Bytes(bytes) => {
-            let bytes = Vec::from_slice(alloc, bytes.as_slice())?;
-            Ok(ScriptLine::Bytes(ByteList::from(bytes)))
-        }
-        ScriptLine::TooLong => Ok(ScriptLine::TooLong),
-    }
-}
 
 /// Calls a line through a pass. For a plan the snapshot is taken in the pass's turn, and the plan is sought without it.
 fn call_line<R: Threads + Wait + Sync, G: Gate>(
@@ -51,7 +38,7 @@ fn call_line<R: Threads + Wait + Sync, G: Gate>(
     ensures done { OnOk result (lines_done (view pass.new).own ≤ lines_done (view pass.old).own + 1) }
 {
     let caller = pass.caller();
-    let line = copied(alloc, line)?;
+    let line = line.clone()?;
     match desk.call(rt, pass, line)? {
         CallAnswer::Replied(_) => Ok(()),
         CallAnswer::Taken(taken, _) => {

@@ -9,11 +9,7 @@ use plan_io::{MOST_LINES, ScriptLine};
 fn is_same_line(a: &ScriptLine, b: &ScriptLine) -> bool
     ensures { IsTrue result → a.now ≡ b.now }
 {
-    match (a, b) {
-        (ScriptLine::Bytes(a), ScriptLine::Bytes(b)) => a.as_slice() == b.as_slice(),
-        (ScriptLine::TooLong, ScriptLine::TooLong) => true,
-        _ => false,
-    }
+    a == b
 }
 
 /// Whether a caller sends the same lines in two books.
