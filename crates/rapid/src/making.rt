@@ -66,14 +66,6 @@ fn last_request(snapshot: &Snapshot) -> &RequestPart
     snapshot.request_at(snapshot.request_count() - 1)
 }
 
-/// The same quota prices once more. Fails only for want of memory.
-fn copied(alloc: Global, quota_prices: &QuotaPrices) -> Result<QuotaPrices, AllocError>
-    ensures { IfOk result (λ copy. copy.0 ≡ quota_prices.now.0) }
-{
-    let prices = Vec::from_slice(alloc, quota_prices.0.as_slice())?;
-    Ok(QuotaPrices(ListOf::from_vec(prices)))
-}
-
 /// What comes of a claim where its request is placed and priced so.
 fn joined(claim: &Claim, quota_prices: QuotaPrices, placing: Placing, pricing: Pricing) -> Priced
     requires { claim.now.value + placing.gain < 2 ^ 64 }
@@ -121,7 +113,7 @@ fn place_and_price(
         snapshot,
         request,
     };
-    let quota_prices = copied(alloc, &claim.quota_prices)?;
+    let quota_prices = claim.quota_prices.clone()?;
     let pricing = price(alloc, &extension)?;
     let placing = place(
         alloc,

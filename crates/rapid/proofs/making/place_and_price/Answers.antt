@@ -1,4 +1,5 @@
 use Rattle.std.proofs.Common.{List, refl, sym, subst, arith}
+use Rattle.std.proofs.lemmas.List.Elements.{same_from_all_zip}
 use Rattle.plan_base.specs.declared.claim.Placement.{Placement}
 use Rattle.rapid.specs.declared.making.Priced.{Priced}
 use Rattle.rapid.specs.Tables.{AreTables}
@@ -58,5 +59,6 @@ returns-clause-made c = λ group single whole.
     c.recall_valid-2.ensures.orderly c.requires.certified c.last_request-request.result.now c.last_request-request.ensures)
     c.in_ok-placing.placing c.in_ok-pricing.pricing _
     (subst (λ (xs : List Placement). IsPlacedSo c.args.snapshot.now xs c.last_request-request.result.now.request.0 c.in_ok-placing.placing)
-    c.as_slice.ensures c.in_ok-placing.ensures) c.in_ok-pricing.ensures refl refl c.in_ok-quota_prices.ensures
+    c.as_slice.ensures c.in_ok-placing.ensures) c.in_ok-pricing.ensures refl refl
+    (same_from_all_zip _ c.args.claim.now.quota_prices.0 c.in_ok-quota_prices.quota_prices.0 c.in_ok-quota_prices.ensures.cases (λ x y same. same))
     refl refl)
