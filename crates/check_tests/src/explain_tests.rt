@@ -2,11 +2,8 @@
 // documents stands in the files of cases/explain, at the top of the repository.
 
 use crate::ends::is_ending;
-use explain::{ExplainAnswer, Forced, explain, run_explain};
-use plan_base::{RequestNo, SliceNo, TelescopeNo};
-use plan_doc::{DocFault, Publication, read_publication};
+use explain::run_explain;
 use plan_io::Status;
-use plan_json::parse_object;
 use samples::{sink_of, source_of};
 use std::alloc::{AllocError, Global};
 use std::test::Fail;
@@ -17,44 +14,6 @@ const DOCUMENT: &[u8] =
 
 const REPLY: &[u8] =
     b"{\"bound\":50000,\"ok\":\"yes\",\"value\":50000}\n{\"blocking\":[[1,0,0]],\"excluded\":true,\"forced\":30000,\"request\":2,\"starts\":1}\n";
-
-fn publication(alloc: Global) -> Result<Box<Publication>, DocFault> {
-    Ok(Box::new(
-        alloc,
-        read_publication(alloc, &parse_object(alloc, DOCUMENT)?)?,
-    )?)
-}
-
-/// Whether the answer is that request 2 is left out, blocked by request 1, with one start and a bound of 30,000.
-fn is_told(answer: &ExplainAnswer) -> bool {
-    let ExplainAnswer::Explained(explanation) = answer else {
-        return false;
-    };
-    let [left] = explanation.as_slice() else {
-        return false;
-    };
-    let [placement] = left.blocking.as_slice() else {
-        return false;
-    };
-    left.request == RequestNo(2)
-        && left.starts == 1
-        && left.forced == Forced::Bound(30_000)
-        && placement.request == RequestNo(1)
-        && placement.telescope == TelescopeNo(0)
-        && placement.slice == SliceNo(0)
-}
-
-#[test]
-fn a_claim_is_explained(rt: HostRuntime) -> Result<(), Fail> {
-    let Ok(publication) = publication(rt.alloc()) else {
-        return Err(Fail::new("the document isn't read"));
-    };
-    let answer = explain(rt.alloc(), &publication.snapshot, &publication.claim)?;
-    let told = is_told(&answer);
-    drop(answer);
-    assert!(rt; told);
-    Ok(())
-}
 
 /// Whether an explanation of the document ends so, and writes so many bytes of its reply, where each read gives at most
 /// 256 bytes and each write takes at most 64, and these calls fail.

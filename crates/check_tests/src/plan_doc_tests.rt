@@ -1,21 +1,46 @@
 // What no clause says: that there is memory for each call, and how a check ends where a read or a write fails. What is
 // found of whole documents stands in the files of cases/check, at the top of the repository.
 
-mod faults;
-mod texts;
+use crate::ends::is_ending;
+use plan_doc::run_check;
+use plan_io::Status;
+use samples::{sink_of, source_of};
+use std::alloc::{AllocError, Global};
+use std::test::Fail;
 
-/// A snapshot with every member that may be absent.
-const SNAPSHOT: &str =
-    r#"{"first":3,"groups":[{"group":1,"operator":"SINGLE","quota":1,"requests":[{"fade":100,"request":2,"seconds":300,"targets":[0,7],"telescopes":[0,1],"value":50000,"windows":[[900,3600],[5000,9000]]}]},{"group":4,"operator":"ONEOF","requests":[{"request":5,"seconds":86400,"targets":[],"telescopes":[],"value":1,"windows":[]},{"request":6,"seconds":1,"targets":[0],"telescopes":[1],"value":288000000,"windows":[[0,1000000000000]]}]}],"len":300,"quotas":[0,100000000],"skies":[{"site":0,"spans":[[0,3600]],"target":0},{"site":0,"spans":[],"target":7}],"slices":12,"telescopes":[{"site":0,"usable":[[900,3600],[3700,4500]]},{"site":65535,"usable":[]}],"version":524288}"#;
+/// A claim with a bound that its prices do not give.
+const DOCUMENT: &[u8] =
+    br#"{"snapshot":{"first":0,"groups":[],"len":300,"skies":[],"slices":12,"telescopes":[],"version":7},"claim":{"bound":1,"placements":[],"prices":[],"value":0}}"#;
 
-/// The least snapshot.
-const LEAST: &str =
-    r#"{"first":0,"groups":[],"len":60,"skies":[],"slices":1,"telescopes":[],"version":0}"#;
+const REPLY: &[u8] = b"{\"claimed\":1,\"found\":0,\"no\":10,\"reason\":\"BoundDiffers\"}\n";
 
-/// A claim of version 1.
-const CLAIM: &str =
-    r#"{"bound":100000000000000000,"placements":[[4294967295,65535,4294967295],[0,0,0]],"prices":[-1000000000000000,0,1000000000000000],"value":1000000000000}"#;
+/// Whether a check of the document ends so, and writes so many bytes of its reply, where each read gives at most 64
+/// bytes and each write takes at most 16, and these calls fail.
+fn ends_so(alloc: Global, fails: (u32, u32), ending: (Status, usize)) -> Result<bool, AllocError> {
+    let mut source = source_of(alloc, DOCUMENT, 64, fails.0)?;
+    let mut sink = sink_of(alloc, 16, fails.1)?;
+    let words = vec![in alloc; String::from_str(alloc, "check")?]?;
+    let status = run_check(alloc, words.as_slice(), &mut *source, &mut *sink);
+    Ok(is_ending(status, &sink, REPLY, ending))
+}
 
-/// A claim of version 2.
-const QUOTA_CLAIM: &str =
-    r#"{"bound":0,"format":2,"placements":[],"prices":[],"quota_prices":[0,1000000000],"value":0}"#;
+#[test]
+fn faults_end_a_check(rt: HostRuntime) -> Result<(), Fail> {
+    // The document takes three reads, and one more for the end. The reply takes four writes.
+    for (fails, ending) in [
+        ((4, 99), (Status::No, 1_000)),
+        ((0, 99), (Status::ReadFault, 0)),
+        ((1, 99), (Status::ReadFault, 0)),
+        ((2, 99), (Status::ReadFault, 0)),
+        ((3, 99), (Status::ReadFault, 0)),
+        ((4, 0), (Status::WriteFault, 0)),
+        ((4, 1), (Status::WriteFault, 16)),
+        ((4, 2), (Status::WriteFault, 32)),
+        ((4, 3), (Status::WriteFault, 48)),
+        ((4, 4), (Status::No, 1_000)),
+    ] {
+        let found = ends_so(rt.alloc(), fails, ending)?;
+        assert!(rt; found, "calls {} and {}", fails.0, fails.1);
+    }
+    Ok(())
+}

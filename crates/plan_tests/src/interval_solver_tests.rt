@@ -9,7 +9,6 @@ use std::alloc::{AllocError, Global};
 use std::process::Abort;
 use std::test::Fail;
 
-mod lists;
 mod rows;
 
 /// What a solver answers at prices.

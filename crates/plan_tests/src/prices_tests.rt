@@ -1,34 +1,9 @@
-// Steps and first prices, worked out by hand.
+// Steps, worked out by hand.
 
 ghost use Rattle.std.specs.Prelude.{◌<◌};
 
-use prices::*;
+use prices::step_of;
 use std::test::Fail;
-
-/// The rounds of a table. A row has a round's number, its prices and those of the quotas, the bests of the telescopes,
-/// what the groups give, the price of each quota times the quota, the bound, and how often each request is used.
-macro_rules! rounds {
-    ($($number:literal: $prices:tt gives $bests:tt + $rebates:tt = $bound:literal, uses $uses:tt;)*) => {
-        rounds![$($number: $prices, [] gives $bests + $rebates + [] = $bound, uses $uses;)*]
-    };
-    ($($number:literal: $prices:tt, $quota_prices:tt gives
-        $bests:tt + $rebates:tt + $quotas:tt = $bound:literal, uses $uses:tt;)*) => {
-        [$(Round {
-            number: $number,
-            prices: &$prices,
-            quota_prices: &$quota_prices,
-            bests: &$bests,
-            rebates: &$rebates,
-            quotas: &$quotas,
-            uses: &$uses,
-            bound: $bound,
-        }),*]
-    };
-}
-
-mod play;
-mod quotas;
-mod rounds;
 
 /// A lane, a round, the greatest value of a request, and the step.
 #[derive(Clone, Copy)]

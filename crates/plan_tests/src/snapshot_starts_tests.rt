@@ -1,6 +1,4 @@
-// Possible starts of small desks, worked out by hand, and of drawn ones, found second by second.
+// Possible starts of small desks, worked out by hand.
 
-mod drawn;
 mod kept;
-mod random;
 mod rows;

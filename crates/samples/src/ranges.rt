@@ -1,10 +1,9 @@
 // Whether prices are such as a claim may have.
 
-ghost use Rattle.std.specs.Prelude.{◌↔◌, ◌≤◌, IsTrue, All};
-ghost use Rattle.plan_base.specs.Limits.{most_quota_price};
+ghost use Rattle.std.specs.Prelude.{◌↔◌, IsTrue, All};
 ghost use Rattle.plan_base.specs.Verdict.{IsPriceInRange};
 
-use plan_base::{MOST_PRICE, MOST_QUOTA_PRICE};
+use plan_base::MOST_PRICE;
 
 /// Whether each price of a request, in the units of its value, is one that a claim may have: from -[`MOST_PRICE`] to [`MOST_PRICE`].
 pub fn are_in_range(prices: &[i64]) -> bool
@@ -13,11 +12,4 @@ pub fn are_in_range(prices: &[i64]) -> bool
     prices
         .iter()
         .all(|price| -MOST_PRICE <= *price && *price <= MOST_PRICE)
-}
-
-/// Whether each price of a second of a quota, in the units of a request's value, is one that a claim may have: up to [`MOST_QUOTA_PRICE`].
-pub fn are_quota_prices_in_range(prices: &[u32]) -> bool
-    ensures { IsTrue result ↔ All (λ u. u ≤ most_quota_price) prices.now }
-{
-    prices.iter().all(|price| *price <= MOST_QUOTA_PRICE)
 }

@@ -6,7 +6,7 @@ use plan_base::{Op, Snapshot, TelescopeNo, repeated};
 use std::alloc::{AllocError, Global};
 
 /// What each request is worth at its earliest slice.
-pub const VALUE: u32 = 50_000;
+const VALUE: u32 = 50_000;
 
 /// From the first second of the horizon to its end: twelve slices of 300 seconds.
 pub const WHOLE_HORIZON: (u64, u64) = (0, 3_600);

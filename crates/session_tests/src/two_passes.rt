@@ -1,5 +1,5 @@
 // A desk of two callers, each with a pass, and what calls of theirs are replied.
-ghost use Rattle.std.specs.Prelude.{◌≡◌, ℕ, ◌+◌, ◌<◌, length, IfOk};
+ghost use Rattle.std.specs.Prelude.{◌≡◌, ◌+◌, ◌<◌, length, IfOk};
 ghost use Rattle.desk_passes.specs.Calls.{IsPassOf, view};
 ghost use Rattle.session_tests.specs.Passes.{IsCallers, IsReady, MadeBoth};
 
@@ -48,7 +48,7 @@ pub fn close(desk: SharedDesk, mut root: Root, zero: Pass, one: Pass) -> usize
 }
 
 /// Calls a line that takes nothing, and answers where its entry stands. So many lines were called before, or fewer.
-pub fn call<R: Abort + Wait>(
+fn call<R: Abort + Wait>(
     rt: &R,
     alloc: Global,
     desk: &SharedDesk,
@@ -69,7 +69,7 @@ pub fn call<R: Abort + Wait>(
 }
 
 /// The text of the entry at a place.
-pub fn text_at<R: Wait>(
+fn text_at<R: Wait>(
     rt: &R,
     alloc: Global,
     desk: &SharedDesk,
@@ -82,7 +82,6 @@ pub fn text_at<R: Wait>(
     ensures caller { (view pass.new).caller ≡ (view pass.old).caller }
     ensures own { (view pass.new).own ≡ (view pass.old).own }
     ensures take { (view pass.new).take ≡ (view pass.old).take }
-    ensures seen { (place : ℕ) → place < length (view pass.old).seen → place < length (view pass.new).seen }
 {
     let mut text = Vec::new(alloc);
     desk.write_entry(rt, pass, place, &mut text)?;

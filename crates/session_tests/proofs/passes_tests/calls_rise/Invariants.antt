@@ -1,7 +1,0 @@
-use Rattle.std.proofs.Common.{◌≡◌}
-use Rattle.desk_passes.specs.Calls.{view}
-use Rattle.session_tests.specs.Passes.{IsReady}
-use Rattle.session_tests.proofs.passes_tests.calls_rise.Given as goal
-
-abbrev pub invariant-loop-lines : goal.invariant-loop-lines
-invariant-loop-lines g l = IsReady l.desk l.lines l.pass × ((view l.pass).caller ≡ (view l.fn.pass).caller)
