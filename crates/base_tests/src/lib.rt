@@ -1,4 +1,4 @@
-// Tests of bytes and lines, documents, boards, and of when cadences are observed.
+// Tests of readers and writers of std, documents, boards, and of when cadences are observed.
 #![tactic(auto)]
 
 #[cfg(test)]
