@@ -2,6 +2,7 @@
 
 from __future__ import annotations
 
+import os
 import threading
 from contextlib import ExitStack
 from pathlib import Path
@@ -67,7 +68,10 @@ class ReplyDiffers(DeskError):
     """
 
     def __init__(self, line: int, wanted: Sequence[str], found: Sequence[str]) -> None:
-        texts = [" and ".join(each[:200] for each in texts) for texts in (found, wanted)]
+        texts = [" and ".join(texts) for texts in (found, wanted)]
+        # Two plans may begin alike.
+        first = max(0, len(os.path.commonprefix(texts)) - 100)
+        texts = [(".." if first else "") + text[first : first + 200] for text in texts]
         super().__init__(f"line {line}: the reply differs from the journal's: {texts[0]} instead of {texts[1]}")
         self.line = line
 

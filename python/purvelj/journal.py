@@ -65,18 +65,18 @@ class Journal:
     def stopped(self) -> Stopped:
         """Where the session stopped whose journal this is.
 
-        A second line is written only once the replies to the first one are on the disk. So where one was begun and the
-        file of the replies is empty these were lost, and ``FileError`` is raised.
+        A line is written only once the replies to the one before are on the disk. So where more than one isn't wholly
+        replied to, replies were lost, and ``FileError`` is raised.
         """
-        sent, replied = self._lines.read(), self._replies.read()
-        _, _, after_first = sent.partition(b"\n")
-        if after_first and not replied:
-            text = f"it is empty, and {self._lines.path} has several lines: its replies were lost"
-            raise FileError(f"{self._replies.path}: {text}")
-        lines, torn = pieces(sent)
-        replies, _ = pieces(replied)
+        lines, torn = pieces(self._lines.read())
+        replies, _ = pieces(self._replies.read())
         texts = lines_of(decoded(replies, self._replies.path))
-        return stopped(texts, lines_of(decoded_lines(lines)), torn, self._replies.path)
+        found = stopped(texts, lines_of(decoded_lines(lines)), torn, self._replies.path)
+        left = len(found.unanswered) + found.torn
+        if left > 1:
+            text = f"{left} lines of {self._lines.path} have no whole reply, where a desk leaves one at most"
+            raise FileError(f"{self._replies.path}: {text}: its replies were lost")
+        return found
 
     def cut(self, done: Iterable[Exchange]) -> None:
         """Drops what isn't of these exchanges, with which the journal begins.

@@ -1,5 +1,9 @@
 """A short script whose replies were worked out by hand, and its replies."""
 
+from __future__ import annotations
+
+from pathlib import Path
+
 LINES = [
     '{"do":"open","now":0,"slice":300,"horizon":12,"semester":[0,15552000],"lanes":1,"rounds":8,"workers":1}',
     '{"do":"instrument","type":"1M0-SCICAM-SINISTRO","front_ms":0,"config_ms":0,"readout_ms":0,"change_ms":0}',
@@ -34,3 +38,15 @@ REPLIES = [
     '{"caller":0,"claim":%s,"line":8,"ok":"published","version":7}' % CLAIM,
     '{"caller":0,"claim":%s,"line":9,"ok":"exported","snapshot":%s,"version":8}' % (CLAIM, SNAPSHOT),
 ]
+
+
+def joined(lines: list[str]) -> str:
+    """The text of these lines."""
+    return "".join(f"{line}\n" for line in lines)
+
+
+def journal(folder: Path, lines: str, replies: str) -> Path:
+    """The name of a journal with these contents."""
+    (folder / "night.lines.jsonl").write_text(lines)
+    (folder / "night.replies.jsonl").write_text(replies)
+    return folder / "night"
