@@ -53,13 +53,13 @@ def _last_object(text: str, source: str) -> Any:
     """The whole text's value, or the last value with a snapshot where each line has one."""
     if not text.strip():
         raise FileError(f"{source}: it is empty")
-    lines = [line for line in text.split("\n") if line.strip()]
+    lines = [each for each in enumerate(text.split("\n"), start=1) if each[1].strip()]
     try:
         return parse(text, source)
     except FileError:
-        if len(lines) == 1 or not _is_json(lines[0]):
+        if len(lines) == 1 or not _is_json(lines[0][1]):
             raise
-    values = [parse(line, f"{source}, line {number}") for number, line in enumerate(lines, start=1)]
+    values = [parse(line, f"{source}, line {number}") for number, line in lines]
     exports = [value for value in values if isinstance(value, dict) and value.get("snapshot") is not None]
     if not exports:
         raise DocumentError(source, "there is no reply to an `export` line in it")

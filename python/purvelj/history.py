@@ -100,14 +100,14 @@ def read_history(output: str, script: str | None = None, source: str = "output")
 
     ``DocumentError`` where the output isn't that of one caller, or replies to a line that the script doesn't have.
     """
-    texts = [text for text in output.split("\n") if text.strip()]
+    texts = [each for each in enumerate(output.split("\n"), start=1) if each[1].strip()]
     sent = None if script is None else lines_of(script)
     return history_of(texts, sent, source)
 
 
-def history_of(texts: Iterable[str], sent: Sequence[str] | None, source: str) -> History:
-    """As ``read_history``, where the texts of the replies and of the lines that were sent are parted already."""
-    pairs = [(text, read_reply(text, f"{source}, line {i}")) for i, text in enumerate(texts, start=1)]
+def history_of(texts: Iterable[tuple[int, str]], sent: Sequence[str] | None, source: str) -> History:
+    """As ``read_history``, where the texts of the replies, each with its line's number, and the lines are parted already."""
+    pairs = [(text, read_reply(text, f"{source}, line {number}")) for number, text in texts]
     if len({reply.caller for _, reply in pairs}) > 1:
         raise DocumentError(source, "it has the replies to several callers")
     exchanges = []

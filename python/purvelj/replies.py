@@ -2,7 +2,8 @@
 
 from __future__ import annotations
 
-from dataclasses import dataclass
+from dataclasses import dataclass, replace
+from functools import cached_property
 from typing import Any, Callable
 
 from purvelj.documents import Document, elements, parse, whole
@@ -113,10 +114,18 @@ class Published(Reply):
 
 @dataclass(frozen=True, kw_only=True)
 class Exported(Reply):
-    """The last publication: its claim, and the snapshot that it is for."""
+    """The last publication: its claim, and the snapshot that it is for.
+
+    The snapshot is read from the reply's text where it is asked for, since it takes several times the memory of that.
+    """
 
     claim: Claim
-    snapshot: Snapshot
+    text: str
+
+    @cached_property
+    def snapshot(self) -> Snapshot:
+        """The snapshot; ``DocumentError`` where it isn't what it should be."""
+        return read_snapshot(Document(parse(self.text, "reply"), "reply:").object("snapshot"))
 
 
 @dataclass(frozen=True)
@@ -170,7 +179,9 @@ def read_reply(text: str, source: str = "reply") -> Reply:
     }
     if document.has("no"):
         return _refused(document, heads)
-    return _READERS[document.word("ok", tuple(_READERS))](document, heads)
+    reply = _READERS[document.word("ok", tuple(_READERS))](document, heads)
+    # (the snapshot is read from the text)
+    return replace(reply, text=text) if isinstance(reply, Exported) else reply
 
 
 _Heads = dict[str, Any]
@@ -233,8 +244,8 @@ def _published(document: Document, heads: _Heads) -> Reply:
 
 
 def _exported(document: Document, heads: _Heads) -> Reply:
-    snapshot = read_snapshot(document.object("snapshot"))
-    return Exported(claim=read_claim(document.object("claim")), snapshot=snapshot, **heads)
+    document.object("snapshot")
+    return Exported(claim=read_claim(document.object("claim")), text="", **heads)
 
 
 def _balances(document: Document, heads: _Heads) -> Reply:

@@ -53,7 +53,7 @@ def stopped(replies: Sequence[str], lines: Sequence[str], torn: bytes, source: s
     """
     if torn and replies and read_reply(replies[-1], f"{source}, line {len(replies)}").line > len(lines):
         lines, torn = [*lines, decoded_lines(torn)], b""
-    exchanges = list(history_of(replies, lines, source).exchanges)
+    exchanges = list(history_of(enumerate(replies, start=1), lines, source).exchanges)
     if exchanges and len(exchanges[-1].replies) == 1 and is_taken(exchanges[-1].reply):
         exchanges.pop()
     for place, exchange in enumerate(exchanges, start=1):

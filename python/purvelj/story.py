@@ -12,9 +12,10 @@ from typing import Callable
 from purvelj.documents import Document, elements, whole
 from purvelj.errors import DocumentError
 from purvelj.history import Exchange, History
-from purvelj.model import Claim, Placement
+from purvelj.model import MOST_NUMBER, Claim, Placement
 from purvelj.moments import LAST, in_utc
 from purvelj.replies import (
+    Amended,
     Balance,
     Balances,
     Clocked,
@@ -26,6 +27,7 @@ from purvelj.replies import (
     Shown,
     Submitted,
     TelescopeAdded,
+    Withdrawn,
 )
 from purvelj.spans import Span, Spans, minus, union
 
@@ -70,7 +72,11 @@ class Named:
 
 @dataclass
 class Story:
-    """The state that the history leaves, as far as it is known. Telescopes and requests by their numbers."""
+    """The state that the history leaves, as far as it is known. Telescopes and requests by their numbers.
+
+    ``granted_then`` is what was granted before the last ``balances`` reply. ``gone`` are the requests that ended, expired
+    or were taken back since the last publication.
+    """
 
     exported: Exported | None = None
     published: Claim | None = None
@@ -81,7 +87,9 @@ class Story:
     closures: dict[int, Spans] = field(default_factory=dict)
     owners: dict[int, Owner] = field(default_factory=dict)
     granted: dict[Key, int] = field(default_factory=dict)
+    granted_then: dict[Key, int] = field(default_factory=dict)
     running: dict[int, Placement] = field(default_factory=dict)
+    gone: set[int] = field(default_factory=set)
     notes: list[str] = field(default_factory=list)
     _kept: dict[int, Placement] = field(default_factory=dict)
     _instruments: dict[str, Document] = field(default_factory=dict)
@@ -105,16 +113,20 @@ class Story:
         if not exchange.fits:
             raise DocumentError(f"line {reply.line}", "the output replies to it as to another line than the script has")
         if isinstance(reply, Exported):
+            if reply.claim != self.published:
+                self.gone.clear()
             self.exported, self.published = reply, reply.claim
         elif isinstance(reply, Balances):
-            self.balances = reply.balances
+            self.balances, self.granted_then = reply.balances, dict(self.granted)
         elif isinstance(reply, Published):
             self.published = reply.claim
             self._kept = {each.request: each for each in reply.claim.placements}
+            self.gone.clear()
         elif isinstance(reply, Clocked):
             self._clock(reply)
         elif isinstance(reply, (Completed, Failed)):
             self._end_one(line)
+            self.gone.update(reply.canceled if isinstance(reply, Completed) else reply.expired)
         elif isinstance(reply, Shown):
             self._own(Document(reply.document), reply.group, [number for number, _ in reply.requests])
         elif isinstance(reply, Submitted) and line.has("group"):
@@ -122,6 +134,9 @@ class Story:
         elif isinstance(reply, TelescopeAdded) and line.has("site"):
             codes = (line.text(name) for name in ("site", "enclosure", "telescope"))
             self.telescopes[reply.telescope] = Named(*codes)
+        if isinstance(reply, (Amended, Withdrawn)) and line.has("group_number"):
+            group = line.whole("group_number", 0, MOST_NUMBER)
+            self.gone.update(number for number, owner in self.owners.items() if owner.group == group)
         if line.has("do"):
             _LINES.get(line.text("do"), lambda story, line: None)(self, line)
 
@@ -174,13 +189,17 @@ class Story:
                 self.running[request] = self._kept.pop(request)
         for request in reply.failed:
             self.running.pop(request, None)
+        self.gone.update(reply.failed, reply.expired)
 
     def _end_one(self, line: Document) -> None:
         if line.has("request"):
-            self.running.pop(line.whole("request", 0, 2**32 - 1), None)
+            request = line.whole("request", 0, MOST_NUMBER)
+            self.running.pop(request, None)
+            self.gone.add(request)
             return
         if len(self.running) > 1:
             self.notes.append("which requests were reported isn't known without the lines that were sent")
+        self.gone.update(self.running)
         self.running.clear()
 
     def _own(self, document: Document, group: int, numbers: list[int] | tuple[int, ...]) -> None:

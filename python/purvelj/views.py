@@ -27,7 +27,10 @@ class Row:
 
 @dataclass(frozen=True)
 class Bar:
-    """A request on a telescope's row, its group and its proposal if they are known, and whether it is running."""
+    """A request on a telescope's row, its group and its proposal if they are known, and whether it is running.
+
+    One that is ``gone`` ended, expired or was taken back since it was placed, so it won't start.
+    """
 
     row: int
     span: Span
@@ -35,6 +38,7 @@ class Bar:
     group: int | None
     proposal: str | None
     running: bool = False
+    gone: bool = False
 
 
 @dataclass(frozen=True)
@@ -107,7 +111,7 @@ def shares(story: Story) -> tuple[Share, ...]:
     return tuple(
         Share(
             key,
-            story.granted[key] - balance.balance if key in story.granted else None,
+            story.granted_then[key] - balance.balance if key in story.granted_then else None,
             balance.balance - balance.available,
             min(planned[key], balance.balance - balance.available),
             balance.available,
@@ -129,7 +133,8 @@ def _placed(story: Story, snapshot: Snapshot, placement: Placement) -> list[Bar]
         # A later plan that wasn't exported may have it elsewhere.
         return _running(story, snapshot, number, own.seconds)
     span = snapshot.span_of(own, placement.slice)
-    return [Bar(placement.telescope, span, number, _group_of(story, snapshot, number), story.proposal_of(number))]
+    group, proposal = _group_of(story, snapshot, number), story.proposal_of(number)
+    return [Bar(placement.telescope, span, number, group, proposal, gone=number in story.gone)]
 
 
 def _group_of(story: Story, snapshot: Snapshot, request: int) -> int | None:
@@ -173,7 +178,7 @@ def _planned(story: Story) -> Counter[Key]:
     """The seconds that the last export's plan and what is running take from each account."""
     planned: Counter[Key] = Counter()
     placed = {each.request for each in story.exported.claim.placements} if story.exported else set()
-    for request in placed | set(story.running):
+    for request in placed - story.gone | set(story.running):
         owner = story.owners.get(request)
         if owner is not None and owner.seconds is not None:
             planned[owner.key] += owner.seconds

@@ -19,6 +19,7 @@ import pytest
 from purvelj.chart import Story, draw_plan, draw_shares, plan_view, save, shares, story_of
 from purvelj.chart.colours import OTHER, PALETTE, styles
 from purvelj.desk import Desk
+from purvelj.documents import compact
 from purvelj.errors import DocumentError, FileError
 from purvelj.history import History, read_history
 from purvelj.model import Claim, Placement, Telescope
@@ -102,6 +103,18 @@ def test_shares_are_of_the_grants(history: History) -> None:
         Share(("P1", "standard", CAMERA), None, 0, 0, 710),
         Share(("P2", "time_critical", CAMERA), None, 600, 0, 4400),
     )
+
+
+def test_shares_are_of_the_last_balances(netsched: list[str]) -> None:
+    """Neither what was granted since, nor what was observed since the last export, counts."""
+    with Desk(netsched, timeout=60) as desk:
+        desk.replay(LINES)
+        desk.clock(1)
+        desk.report(1, 100, 280)
+        desk.submit(GROUP)
+        desk.balances()
+        desk.grant("P1", "standard", 3600, CAMERA)
+        assert shares(story_of(desk.history)) == (Share(("P1", "standard", CAMERA), 280, 300, 0, 420),)
 
 
 def test_closures_are_known_with_the_script(netsched: list[str]) -> None:
@@ -233,7 +246,7 @@ def network(count: int) -> Story:
 
 def exported(shot, placements: tuple[Placement, ...], value: int) -> Exported:
     claim = Claim(placements, (0,) * len(shot.requests), value, value + value // 100)
-    return Exported(caller=0, line=1, version=9, claim=claim, snapshot=shot)
+    return Exported(caller=0, line=1, version=9, claim=claim, text=compact({"snapshot": shot.document()}))
 
 
 def ids(path: Path) -> Counter:
@@ -325,10 +338,11 @@ def test_a_file_of_another_kind_or_nowhere(tmp_path: Path) -> None:
 
 
 @pytest.mark.parametrize("ending", ["svg", "png"])
-def test_a_picture_that_cannot_be_written_leaves_what_was_there(tmp_path: Path, ending: str) -> None:
+def test_a_picture_that_cannot_be_written_leaves_what_was_there(tmp_path: Path, ending: str, monkeypatch) -> None:
     path = tmp_path / f"plan.{ending}"
     path.write_text("an older picture")
-    (tmp_path / f"plan.{ending}.new").symlink_to("/dev/full")
+    monkeypatch.setattr("purvelj.chart.files.token_hex", lambda count: "word")
+    (tmp_path / f"plan.{ending}.word.new").symlink_to("/dev/full")
     with pytest.raises(FileError, match=f"plan.{ending}: can't be written: No space left on device"):
         save(draw_shares(()), path)
     assert (os.listdir(tmp_path), path.read_text()) == ([path.name], "an older picture")

@@ -46,6 +46,20 @@ def test_list_keeps_each_placement_in_a_row(run) -> None:
     assert ran.out == "1970-01-01T00:00:00Z\t1970-01-01T00:05:00Z\tcoj dom a  1m0a\t1\t1\tP1\t\n"
 
 
+def test_list_tells_what_is_gone_since_it_was_placed(run) -> None:
+    lines = [*LINES, '{"do":"withdraw","group_number":1}', LINES[8]]
+    withdrawn = '{"caller":0,"line":10,"ok":"withdrawn","refunded":[],"version":9}'
+    again = REPLIES[9].replace('"line":9', '"line":11').replace('"version":8', '"version":10')
+    files = {"output.jsonl": "\n".join([*REPLIES, withdrawn, again]), "script.jsonl": "\n".join(lines)}
+    ran = run(*WORDS, files=files)
+    assert ran.out == "1970-01-01T00:00:00Z\t1970-01-01T00:05:00Z\tcoj doma 1m0a\t1\t1\tP1\tgone\n"
+
+
+def test_a_script_without_a_name_is_no_script(run) -> None:
+    ran = run("list", "output.jsonl", "--script", "", files={"output.jsonl": "\n".join(REPLIES)})
+    assert (ran.status, ran.out) == (3, "")
+
+
 def test_list_tells_a_telescope_that_the_snapshot_does_not_have(run) -> None:
     ran = run("list", "export.json", files={"export.json": REPLIES[-1].replace("[[1,0,0]]", "[[1,1,0]]")})
     message = "purvelj: claim: it places the request 1 on telescope 1, which the snapshot doesn't have\n"

@@ -5,6 +5,7 @@ from __future__ import annotations
 import os
 from contextlib import suppress
 from pathlib import Path
+from secrets import token_hex
 
 import matplotlib
 from matplotlib.figure import Figure
@@ -32,12 +33,15 @@ def save(figure: Figure, path: str | Path) -> None:
     ending = format_of(path)
     metadata = {"Date": None} if ending == "svg" else {"Software": None}
     with matplotlib.rc_context({"svg.hashsalt": "purvelj", "svg.fonttype": "none", "hatch.linewidth": 0.6}):
-        new = f"{os.path.realpath(path)}.new"
+        to = os.path.realpath(path)
+        # Another command may draw to the same path meanwhile. What is no file, as a pipe, stays what it is.
+        new = to if os.path.exists(to) and not os.path.isfile(to) else f"{to}.{token_hex(4)}.new"
         try:
             figure.savefig(new, format=ending, dpi=DOTS, metadata=metadata)
-            os.replace(new, os.path.realpath(path))
+            os.replace(new, to)
         except OSError as fault:
             raise FileError(f"{path}: can't be written: {fault.strerror or fault}") from None
         finally:
-            with suppress(OSError):
-                os.unlink(new)
+            if new != to:
+                with suppress(OSError):
+                    os.unlink(new)

@@ -121,9 +121,10 @@ def _draw_axis(axes: Any, view: PlanView) -> None:
     axes.set_xlim(_day(view.horizon.start), _day(view.horizon.end))
     axes.set_ylim(max(1, len(view.rows)) - 0.5, -0.5)
     axes.set_yticks(range(len(view.rows)), [shown(row.name) for row in view.rows], fontsize=8)
-    locator = AutoDateLocator(minticks=6, maxticks=18)
+    # Else a user's settings could name another time zone.
+    locator = AutoDateLocator(tz=timezone.utc, minticks=6, maxticks=18)
     axes.xaxis.set_major_locator(locator)
-    axes.xaxis.set_major_formatter(ConciseDateFormatter(locator))
+    axes.xaxis.set_major_formatter(ConciseDateFormatter(locator, tz=timezone.utc))
     axes.set_xlabel("UTC", fontsize=8)
     axes.tick_params(axis="x", labelsize=8)
     axes.set_title(

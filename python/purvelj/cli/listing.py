@@ -17,8 +17,8 @@ def add_commands(commands: Commands) -> None:
         "list",
         help="print a plan as a table: when, where, which request, whose",
         description="Prints a line for each placement of the last export, and for what is running, in the order of "
-        "their starts. It has start, end, telescope, request, group, proposal, and `running` where it runs, with tabs "
-        "between them; what isn't known is empty.",
+        "their starts. It has start, end, telescope, request, group, proposal, and `running` where it runs or `gone` "
+        "where it won't start, with tabs between them; what isn't known is empty.",
     )
     listing.add_argument("output", help="the replies of a session: all, or the one to an `export` line")
     listing.add_argument("--script", metavar="FILE", help="the lines that were sent: they have the names")
@@ -31,7 +31,8 @@ def run_list(options: argparse.Namespace) -> int:
     view = plan_view(story)
     for bar in sorted(view.bars, key=lambda bar: (bar.span, bar.row)):
         group = "" if bar.group is None else str(bar.group)
-        names = [view.rows[bar.row].name, str(bar.request), group, bar.proposal or "", "running" if bar.running else ""]
+        state = "running" if bar.running else "gone" if bar.gone else ""
+        names = [view.rows[bar.row].name, str(bar.request), group, bar.proposal or "", state]
         put("\t".join([text_of(bar.span.start), text_of(bar.span.end), *map(_cell, names)]))
     for note in dict.fromkeys(story.notes):
         tell(note)
