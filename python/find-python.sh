@@ -35,7 +35,7 @@ keep_fonts() {
 
 # Prints those of the modules that $python doesn't have.
 missing_modules() {
-    "$python" - "$@" <<'PYTHON'
+    "$python" -P - "$@" <<'PYTHON'
 import importlib.util
 import sys
 

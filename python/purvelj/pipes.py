@@ -20,6 +20,9 @@ if TYPE_CHECKING:
 #: end, in seconds.
 GRACE = 5.0
 
+#: The most seconds that a call of the system waits, 23 days; one that is given more fails.
+MOST_SECONDS = 2_000_000.0
+
 #: The exit status with which a session says that its input is longer than it may be.
 INPUT_TOO_LONG = 5
 
@@ -279,7 +282,7 @@ def _deadline(timeout: float | None) -> float | None:
 
 def _seconds_to(deadline: float | None) -> float | None:
     """The seconds until a deadline, 0 once it has come, and None where there is none."""
-    return None if deadline is None else max(0.0, deadline - time.monotonic())
+    return None if deadline is None else min(MOST_SECONDS, max(0.0, deadline - time.monotonic()))
 
 
 def _ending(exit_status: int) -> str:

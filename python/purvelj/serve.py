@@ -86,7 +86,9 @@ class Listener:
         self.socket.close()
 
     def listen(self) -> None:
-        """Lets others connect. ``FileError`` where another that had the same port listens there by now."""
+        """Lets others connect. ``FileError`` where another listens at the same port by now, or has taken the path."""
+        if self._path and self._own != _identity(self._path):
+            raise FileError(f"{self.where}: what was made there is gone, or another server has it")
         try:
             self.socket.listen()
         except OSError as fault:

@@ -44,6 +44,18 @@ for place, line in enumerate(sys.stdin, start=1):
 """
 
 
+#: A session program that at the end of its input waits until there is a file ``ended``, and says so in a file ``ending``.
+LASTING = """
+import pathlib, sys, time
+sys.stdin.read()
+pathlib.Path("ending").touch()
+for _ in range(6000):
+    if pathlib.Path("ended").exists():
+        break
+    time.sleep(0.01)
+"""
+
+
 def limited(folder: Path) -> list[str]:
     """The command of a session program to which a claim is an input that is too long."""
     (folder / "limited.py").write_text(LIMITED)

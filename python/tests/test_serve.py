@@ -20,7 +20,7 @@ from purvelj.desk import Desk
 from purvelj.pipes import DeskError
 from purvelj.serve import LONGEST, Server, bind_path, desk_of
 from script import LINES, REPLIES
-from serving import SLOW, Caller, until
+from serving import LASTING, SLOW, Caller, until
 
 
 def test_two_callers_take_turns(serve) -> None:
@@ -133,6 +133,15 @@ def test_a_terminal_that_is_closed_lets_the_line_be_replied_to(serve, tmp_path: 
         assert [json.loads(text)["line"] for text in caller.read(2)] == [1, 1]
         assert (caller.rest(), server.process.wait(60)) == (b"", 0)
     assert len(server.written("replies")) == 2 and not server.path.exists()
+
+
+def test_a_terminal_that_is_closed_lets_the_program_end(serve, tmp_path: Path) -> None:
+    server = serve(program=[sys.executable, "-c", LASTING])
+    server.stop(signal.SIGHUP)
+    until((tmp_path / "ending").exists)
+    server.process.send_signal(signal.SIGHUP)
+    (tmp_path / "ended").touch()
+    assert server.process.wait(60) == 0
 
 
 def test_a_signal_that_is_ignored_stays_so(serve) -> None:

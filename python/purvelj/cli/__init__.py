@@ -3,17 +3,29 @@
 from __future__ import annotations
 
 import argparse
-from typing import Sequence
+from contextlib import suppress
+from typing import NoReturn, Sequence
 
 from purvelj import __version__
 from purvelj.cli import chart, claims, listing, portal, replay, resume, send, serve, sky
 from purvelj.cli.ending import ended
 from purvelj.documents import writing_output
+from purvelj.errors import Status
+
+
+class Words(argparse.ArgumentParser):
+    """A parser that ends with the status of wrong words even where that can't be told."""
+
+    def error(self, message: str) -> NoReturn:
+        """Tells what is wrong with the words, and ends."""
+        with suppress(OSError):
+            super().error(message)
+        raise SystemExit(int(Status.WORDS))
 
 
 def parser() -> argparse.ArgumentParser:
     """The parser of all commands."""
-    words = argparse.ArgumentParser(
+    words = Words(
         prog="purvelj",
         description="An astronomer's tools beside the Purvelj telescope scheduler.",
         epilog="Exit statuses: 0 done, 2 the words are others, 3 a file or a socket can't be read or written, a file "

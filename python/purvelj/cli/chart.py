@@ -30,11 +30,11 @@ def run_chart(options: argparse.Namespace) -> int:
     """Runs ``chart``."""
     from purvelj.chart import draw_plan, draw_shares, plan_view, save, shares
 
-    _test_files([path for path in (options.plan, options.accounts) if path])
+    _test_files([path for path in (options.plan, options.accounts) if path is not None])
     story = read_story(options)
     # Both before either is saved: where there is nothing to draw one of, neither is drawn.
-    plan = plan_view(story) if options.plan else None
-    accounts = shares(story) if options.accounts else None
+    plan = plan_view(story) if options.plan is not None else None
+    accounts = shares(story) if options.accounts is not None else None
     if plan is not None:
         save(draw_plan(plan), options.plan)
     if accounts is not None:

@@ -46,7 +46,7 @@ def run_portal(options: argparse.Namespace) -> int:
     """Runs ``portal``."""
     if options.targets == "-":
         raise WordsError("--targets has to name a file: the lines go to standard output")
-    if options.targets and any(_is_same_file(path, options.targets) for path in options.documents):
+    if options.targets is not None and any(_is_same_file(path, options.targets) for path in options.documents):
         raise WordsError(f"--targets names {options.targets}, which is read: the targets are written there")
     documents = [(path, read_json(path)) for path in options.documents]
     values = [each for path, value in documents for each in _groups(path, value)]
@@ -57,13 +57,13 @@ def run_portal(options: argparse.Namespace) -> int:
     faults = any(conversion.group is None for conversion in conversions)
     targets: list[Row] = []
     if not faults:
-        targets, more = _targets(values) if options.targets else ([], _places(values))
+        targets, more = _targets(values) if options.targets is not None else ([], _places(values))
         notes += more
     for line in summary(tuple(notes)):
         tell(line)
     if faults or (options.strict and notes):
         return int(PortalError.status)
-    if options.targets:
+    if options.targets is not None:
         write_text(options.targets, "[" + ",\n ".join(map(compact, targets)) + "]\n")
     for conversion in conversions:
         put(compact(conversion.line()))

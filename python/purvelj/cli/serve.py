@@ -98,7 +98,7 @@ def _listener(options: argparse.Namespace) -> Listener:
 
     if options.port is not None:
         return bind_port(options.host or "127.0.0.1", options.port)
-    return bind_path(options.socket or f"{options.journal}.socket")
+    return bind_path(f"{options.journal}.socket" if options.socket is None else options.socket)
 
 
 def _desk(options: argparse.Namespace) -> Desk:
@@ -153,4 +153,6 @@ def _stopped_by_signals(stop: Callable[[], None], caught: list[int]) -> Iterator
         yield
     finally:
         for each, handler in before.items():
-            signal.signal(each, handler)
+            # The desk is still to be ended, and a second SIGHUP isn't to end that either.
+            if not (caught and each == signal.SIGHUP):
+                signal.signal(each, handler)

@@ -19,7 +19,7 @@ def read_story(options: argparse.Namespace) -> Story:
     """
     source = source_of(options.output)
     output = decoded(_without_torn(read_bytes(options.output)), source)
-    script = decoded_lines(read_bytes(options.script)) if options.script else None
+    script = decoded_lines(read_bytes(options.script)) if options.script is not None else None
     return story_of(read_history(output, script, source))
 
 

@@ -2,7 +2,7 @@
 
 from __future__ import annotations
 
-from typing import Iterable
+from typing import Iterable, Iterator
 
 from purvelj.documents import Document
 from purvelj.errors import DocumentError
@@ -21,13 +21,11 @@ def targets_of(values: Iterable[tuple[str, object]], default: Limits, notes: Not
     """
     found: dict[str, tuple[Target, Limits]] = {}
     spelt: dict[str, str] = {}
-    for path, value in values:
-        for request in Document(value, path).objects("requests"):
-            for configuration in request.objects("configurations"):
-                target = configuration.object("target")
-                if target.raw_or("type", "ICRS") == "ICRS":
-                    _join(found, target, _limits(configuration, default), notes)
-                    _test_spelling(spelt, target, notes)
+    for configuration in _configurations(values):
+        target = configuration.object("target")
+        if target.raw_or("type", "ICRS") == "ICRS":
+            _join(found, target, _limits(configuration, default), notes)
+            _test_spelling(spelt, target, notes)
     return dict(found.values())
 
 
@@ -37,10 +35,15 @@ def test_places(values: Iterable[tuple[str, object]], notes: Notes) -> None:
     ``targets_of`` raises a fault there.
     """
     places: dict[str, object] = {}
+    for configuration in _configurations(values):
+        _test_place(places, configuration.object("target"), notes)
+
+
+def _configurations(values: Iterable[tuple[str, object]]) -> Iterator[Document]:
+    """Each configuration of each request of the groups."""
     for path, value in values:
         for request in Document(value, path).objects("requests"):
-            for configuration in request.objects("configurations"):
-                _test_place(places, configuration.object("target"), notes)
+            yield from request.objects("configurations")
 
 
 def _test_place(places: dict[str, object], document: Document, notes: Notes) -> None:
