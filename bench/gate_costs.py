@@ -3,6 +3,7 @@
 import collections
 import os
 import resource
+import signal
 import subprocess
 import sys
 import time
@@ -46,14 +47,25 @@ def watch(command):
     """Runs a command: its status, and the last that was seen of each of its checks."""
     child = subprocess.Popen(command, start_new_session=True, stdout=sys.stderr)
     seen = {}
-    while child.poll() is None:
-        for pid in filter(str.isdigit, os.listdir("/proc")):
-            check = check_at(pid, child.pid)
-            if check:
-                start, *rest = check
-                seen[pid, start] = rest
-        time.sleep(PAUSE)
+    try:
+        while child.poll() is None:
+            look(child.pid, seen)
+            time.sleep(PAUSE)
+    finally:
+        # Ctrl-C doesn't reach what runs in a session of its own.
+        if child.poll() is None:
+            os.killpg(child.pid, signal.SIGTERM)
+            child.wait()
     return child.returncode, list(seen.values())
+
+
+def look(session, seen):
+    """Keeps of each check of a session that runs now what is seen of it."""
+    for pid in filter(str.isdigit, os.listdir("/proc")):
+        check = check_at(pid, session)
+        if check:
+            start, *rest = check
+            seen[pid, start] = rest
 
 
 def row(name, seconds, whole):
