@@ -125,6 +125,7 @@ class _File:
             raise FileError(f"{self.path}: can't be read: {fault.strerror or fault}") from None
 
     def write(self, text: str) -> None:
+        """Adds a text, which is on the disk then. ``FileError`` where it can't be; a part of it may be there."""
         left = memoryview(encoded(text))
         try:
             while left:
@@ -145,6 +146,7 @@ class _File:
         self.write("\n" if missing else "")
 
     def close(self) -> None:
+        """Closes the file, so that another may have it."""
         self._file.close()
 
 

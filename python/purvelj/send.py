@@ -72,6 +72,7 @@ class Sender(threading.Thread):
         self._source = source
 
     def run(self) -> None:
+        """Sends the lines. A fault of the file is kept in ``fault``."""
         # A connection that ends is noticed by whoever reads the replies.
         with suppress(OSError):
             try:

@@ -249,6 +249,7 @@ class _Connection(threading.Thread):
         self._server = server
 
     def run(self) -> None:
+        """Hands in the lines one by one, and writes the replies to each, until the connection ends or is ended."""
         try:
             with self._socket, self._socket.makefile("rb") as source:
                 for line in self._lines(source):
