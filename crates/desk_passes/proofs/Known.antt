@@ -34,7 +34,7 @@ use Rattle.desk_passes.specs.Turns.{HasOneMore, answered}
 use Rattle.desk_passes.specs.Calls.{SeesMore, Adds, IsCalled, IsForTake, IsPublished, WritesEntry}
 use Rattle.desk_passes.proofs.Logs.{own_mine, done_lined}
 use Rattle.desk_passes.proofs.Books.{Called, Published}
-use Rattle.desk_passes.proofs.Steps.{Closes}
+use Rattle.desk_passes.proofs.Ends.{Closes}
 
 -- ---- the turn
 

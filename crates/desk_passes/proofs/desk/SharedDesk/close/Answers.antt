@@ -1,4 +1,4 @@
-use Rattle.desk_passes.proofs.Steps.{closes}
+use Rattle.desk_passes.proofs.Ends.{closes}
 use Rattle.desk_passes.proofs.Known.{closed_none, closed_book}
 use Rattle.desk_passes.proofs.desk.SharedDesk.close.Goals as goal
 

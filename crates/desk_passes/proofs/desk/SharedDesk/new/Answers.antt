@@ -5,7 +5,7 @@ use Rattle.desk_book.specs.Kept.{IsBook}
 use Rattle.desk_passes.specs.Rule.{RuleHolds}
 use Rattle.desk_passes.specs.Steps.{first_view}
 use Rattle.desk_passes.proofs.Books.{full_new}
-use Rattle.desk_passes.proofs.Steps.{opens}
+use Rattle.desk_passes.proofs.Ends.{opens}
 use Rattle.desk_passes.proofs.desk.SharedDesk.new.Goals as goal
 
 pub new-requires : goal.new-requires
