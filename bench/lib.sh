@@ -6,7 +6,7 @@ trap 'exit 1' INT TERM HUP
 
 # needs PACKAGE: installs Debian's package where it isn't installed.
 needs() {
-    dpkg -s "$1" > /dev/null 2>&1 || { apt-get update && apt-get install -y --no-install-recommends "$1"; } >&2
+    dpkg -s "$1" > /dev/null 2>&1 || { apt-get -qq update && apt-get -qq install -y --no-install-recommends "$1"; } >&2
 }
 
 # rattle_program NAME CRATE..: proves and builds the program whose main.rt is standard input, over copies of this
@@ -85,7 +85,7 @@ proved_program() (
     top=$PWD
     . bin/lib.sh
     it=$(built "$1" proved "$(sum_of "$1")")
-    [ -x "$it" ] || bin/prove >&2
+    [ -x "$it" ] || bin/prove "$1" >&2
     [ -x "$it" ] && echo "$it"
 )
 

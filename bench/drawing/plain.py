@@ -21,7 +21,7 @@ def build(target):
     """Builds the desk in plain Rust, with Debian's serde_json."""
     if not any(REGISTRY.glob("serde_json-*")):
         for words in (["update"], ["install", "-y", "--no-install-recommends", "librust-serde-json-dev"]):
-            subprocess.run(["apt-get", *words], check=True, stdout=sys.stderr)
+            subprocess.run(["apt-get", "-qq", *words], check=True, stdout=sys.stderr)
     words = [cargo(), "build", "--quiet", "--release", "--offline", "--target-dir", target]
     subprocess.run(words, check=True, cwd=HERE, stdout=sys.stderr)
     return f"{target}/release/desk_baseline"

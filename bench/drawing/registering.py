@@ -1,5 +1,7 @@
 """Lines that open a desk and say what there is: instruments, telescopes, nights, visibility, closures, grants."""
 
+import itertools
+
 from drawing.draw import ACCOUNTS, CLASSES, CODES, ENCLOSURES, INSTRUMENTS, PROPOSALS, SITES, TARGETS
 from drawing.moments import moment, spans
 
@@ -87,11 +89,10 @@ def any_grant(draw, desk):
 
 def grants(draw, desk):
     """Grants to most accounts of the proposals."""
-    for proposal in PROPOSALS:
-        for account in ACCOUNTS:
-            for name in INSTRUMENTS[: 1 if account == "ipp" else 2]:
-                if draw.chance(93):
-                    yield grant(proposal, account, name, draw.one((10, 100)) * desk.slice)
+    for proposal, account in itertools.product(PROPOSALS, ACCOUNTS):
+        for name in INSTRUMENTS[: 1 if account == "ipp" else 2]:
+            if draw.chance(93):
+                yield grant(proposal, account, name, draw.one((10, 100)) * desk.slice)
 
 
 def beginning(draw, desk):
@@ -105,7 +106,5 @@ def beginning(draw, desk):
         if draw.chance(40):
             yield telescope(draw, site, CODES[1])
         yield night(draw, desk, site)
-        for target in TARGETS:
-            if draw.chance(85):
-                yield visibility(draw, desk, site, target)
+        yield from (visibility(draw, desk, site, target) for target in TARGETS if draw.chance(85))
     yield from grants(draw, desk)

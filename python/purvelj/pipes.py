@@ -160,14 +160,18 @@ def _passed(process: subprocess.Popen[bytes], data: bytes, deadline: float | Non
             for key, _ in ready:
                 if key.data is process.stdin:
                     left = _unwritten(key.fd, left)
-                    is_over = not left
+                    _leave_at_end(pipes, key, left)
                 else:
                     pieces.append(os.read(key.fd, 1 << 16))
-                    is_over = not pieces[-1]
-                if is_over:
-                    pipes.unregister(key.data)
-                    key.data.close()
+                    _leave_at_end(pipes, key, pieces[-1])
     return b"".join(pieces)
+
+
+def _leave_at_end(pipes: selectors.BaseSelector, key: selectors.SelectorKey, moved: bytes | memoryview) -> None:
+    """Closes a pipe where nothing is left to be written, or nothing more comes."""
+    if not moved:
+        pipes.unregister(key.data)
+        key.data.close()
 
 
 def _unwritten(pipe: int, data: memoryview) -> memoryview:
