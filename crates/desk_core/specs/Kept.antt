@@ -19,6 +19,7 @@ use Rattle.desk_runs.specs.declared.group.Request.{Request}
 use Rattle.desk_runs.specs.States.{is_open}
 use Rattle.desk_runs.specs.Owners.{pending_count}
 use Rattle.desk_runs.specs.Sound.{IsSound, IsObservedAtMostOnce}
+use Rattle.desk_core.specs.Limits.{most_pending}
 use Rattle.desk_core.specs.declared.desk.Opening.{Opening}
 use Rattle.desk_core.specs.declared.desk.Submitted.{Submitted}
 use Rattle.desk_core.specs.declared.desk.Wanted.{Wanted}
@@ -114,7 +115,7 @@ pub record IsDesk (d : DeskSeen) : Type 0 where
   pub moment : d.progress.moment.0 ≤ last_moment
   pub sound : IsSound d.progress
   pub along : AllZip (IsAlong (length d.network.registry.targets)) d.groups d.progress.groups
-  pub pending : pending_count d.progress.groups ≤ 1024
+  pub pending : pending_count d.progress.groups ≤ most_pending
   pub once : IsObservedAtMostOnce (d.progress.kept ++ d.progress.running)
   pub held : AllZip IsHeldFor (zip d.groups d.progress.groups) d.books.holds
   pub granted : All (λ g. All (λ h. IsTrue (has_grant d.books.entries h.key)) g.holds) d.books.holds

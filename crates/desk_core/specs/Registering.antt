@@ -27,6 +27,7 @@ use Rattle.desk_events.specs.declared.refusal.Refusal.{Refusal}
 use Rattle.desk_events.specs.declared.refusal.Refusal.TheVariants.{Full, NoSuchInstrument}
 use Rattle.desk_events.specs.declared.reply.Reply.{Reply}
 use Rattle.desk_events.specs.declared.reply.Reply.TheVariants as reply
+use Rattle.desk_core.specs.Limits.{most_accounts}
 use Rattle.desk_core.specs.Desk.{DeskSeen, Decision}
 use Rattle.desk_core.specs.Refusals.{refusal_of_site}
 use Rattle.desk_core.specs.Seconds.{spans_below, spans_of, end_of_time}
@@ -133,8 +134,8 @@ instrument_lacks d key = is_on_instrument key.account && not (is_named (instrume
 
 -- full where the account is new and there are 1,024
 abbrev pub accounts_refusal : DeskSeen → Key → Option Refusal
-accounts_refusal d key = if not (has_grant d.books.entries key) && not (nat_lt (length (accounts_of d.books.entries)) 1024)
-    then Some (Full 1024 Accounts) else None
+accounts_refusal d key = if not (has_grant d.books.entries key) && not (nat_lt (length (accounts_of d.books.entries)) most_accounts)
+    then Some (Full most_accounts Accounts) else None
 
 -- `grant`: the instrument type isn't there, or full; else it is an entry
 abbrev pub on_grant : DeskSeen → Key → ℕ → Decision

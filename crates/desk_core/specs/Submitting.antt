@@ -7,6 +7,7 @@ use Rattle.plan_base.specs.declared.number.RequestNo.{RequestNo}
 use Rattle.plan_base.specs.declared.parts.Op.{Op}
 use Rattle.plan_base.specs.declared.parts.Op.TheVariants.{Many}
 use Rattle.request_model.specs.declared.group.GroupDoc.{GroupDoc}
+use Rattle.site_model.specs.Limits.{most_targets}
 use Rattle.allocations.specs.declared.entry.Hold.{Hold}
 use Rattle.allocations.specs.Changes.{booked}
 use Rattle.allocations.specs.Refusals.{refusal_of}
@@ -23,6 +24,7 @@ use Rattle.desk_core.specs.declared.desk.Submitted.{Submitted}
 use Rattle.desk_core.specs.declared.desk.Wanted.{Wanted}
 use Rattle.desk_core.specs.Desk.{DeskSeen, Decision}
 use Rattle.desk_core.specs.Refusals.{refusal_of_ledger}
+use Rattle.desk_core.specs.Limits.{most_pending}
 use Rattle.desk_core.specs.Holds.{needs_of, holds_of, ipp_charge}
 use Rattle.desk_core.specs.Targets.{target_names, all_numbered, with_targets, targets_of}
 use Rattle.plan_base.specs.Operators.{is_single}
@@ -87,8 +89,8 @@ submitted_of d document made = record { document = document; charged = charge_fo
 -- full of pending requests, full of targets, and then what the ledger refuses
 abbrev pub submission_refusal : DeskSeen → GroupDoc → List MadeSeen → Option Refusal
 submission_refusal d document made =
-    option_or (if nat_lt 1024 (pending_count d.progress.groups + length made) then Some (Full 1024 Requests) else None)
-    (option_or (if nat_lt 2048 (length (targets_with d document)) then Some (Full 2048 Targets) else None)
+    option_or (if nat_lt most_pending (pending_count d.progress.groups + length made) then Some (Full most_pending Requests) else None)
+    (option_or (if nat_lt most_targets (length (targets_with d document)) then Some (Full most_targets Targets) else None)
     (option_and_then refusal_of_ledger (refusal_of d.books (holds_for d document made) (charge_for d document made))))
 
 -- the desk with the new group, which is held for and charged, and with its targets numbered

@@ -2,6 +2,7 @@
 
 ghost use Rattle.std.specs.Prelude.{◌≡◌, ◌++◌, ◌∷◌, [], ◌≤◌, ◌<◌, ◌^◌, if◌then◌else◌, max, length, All, IfOk, OnOk};
 ghost use Rattle.std.specs.List.{zip};
+ghost use Rattle.plan_base.specs.Limits.{most_seconds};
 ghost use Rattle.allocations.specs.Key.{is_key};
 ghost use Rattle.allocations.specs.Books.{held_in};
 ghost use Rattle.allocations.specs.Ledger.{seconds_of_holds};
@@ -157,7 +158,7 @@ pub(crate) fn held(
 ) -> Result<Vec<Hold>, AllocError>
     requires count { length wanted.now ≡ length group.now.requests }
     requires few { length group.now.requests ≤ 256 }
-    requires short { All (λ q. q.seconds ≤ 86400) group.now.requests }
+    requires short { All (λ q. q.seconds ≤ most_seconds) group.now.requests }
     ensures { IfOk result (λ holds. holds.items ≡ holds_of group.now.op (needs_of document.now (zip group.now.requests wanted.now))) }
 {
     let needs = needs_of(alloc, document, group.requests.as_slice(), wanted)?;

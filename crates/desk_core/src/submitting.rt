@@ -2,8 +2,9 @@
 
 ghost use Rattle.std.specs.Prelude.{◌≡◌, ◌≢◌, ◌+◌, ◌≤◌, ◌<◌, ◌^◌, ◌++◌, ◌∷◌, [], nat_lt, ◌&&◌};
 ghost use Rattle.std.specs.Prelude.{if◌then◌else◌, length, map, All, true, false, Ok, IfOk, IfErr, OnOk, OnErr, vec_len, vec_capacity};
-ghost use Rattle.plan_base.specs.Limits.{most_version};
+ghost use Rattle.plan_base.specs.Limits.{most_version, most_seconds};
 ghost use Rattle.plan_base.specs.declared.parts.Op.TheVariants.{Many};
+ghost use Rattle.site_model.specs.Limits.{most_targets};
 ghost use Rattle.request_model.specs.Ranges.{IsGroup};
 ghost use Rattle.desk_runs.specs.Numbers.{requests_of};
 ghost use Rattle.desk_runs.specs.Turning.{group_of};
@@ -13,6 +14,7 @@ ghost use Rattle.desk_events.specs.declared.refusal.FullOf.TheVariants.{Requests
 ghost use Rattle.desk_events.specs.declared.refusal.Refusal.TheVariants.{Full};
 ghost use Rattle.desk_core.specs.Desk.{DeskSeen, seen, Decides};
 ghost use Rattle.desk_core.specs.Kept.{IsDesk, IsRoomy};
+ghost use Rattle.desk_core.specs.Limits.{most_pending};
 ghost use Rattle.plan_base.specs.Operators.{is_single};
 ghost use Rattle.desk_core.specs.Asking.{last_of, seen_made};
 ghost use Rattle.desk_core.specs.Submitting.{value_of, wanted_of, asks_of, targets_with, on_submit, on_made};
@@ -78,7 +80,7 @@ fn last_of(windows: &[Span]) -> Sec
 /// The value of a request: priority times ipp times minutes, rounded up.
 fn value_of(document: &GroupDoc, seconds: u32) -> u32
     requires document { IsGroup document.now }
-    requires seconds { seconds ≤ 86400 }
+    requires seconds { seconds ≤ most_seconds }
     ensures { result ≡ value_of document.now seconds }
 {
     u32::from(document.priority) * u32::from(document.ipp) * seconds.div_ceil(60)
@@ -92,7 +94,7 @@ fn wanted_of(
     made: Made,
 ) -> Result<Wanted, AllocError>
     requires document { IsGroup document.now }
-    requires seconds { made.seconds ≤ 86400 }
+    requires seconds { made.seconds ≤ most_seconds }
     ensures { IfOk result (λ wanted. wanted ≡ wanted_of network.now.registry.targets document.now (seen_made made.entry)) }
 {
     let Made {
@@ -120,7 +122,7 @@ fn wanted_for(
     made: Vec<Made>,
 ) -> Result<ListOf<Wanted>, AllocError>
     requires document { IsGroup document.now }
-    requires seconds { All (λ m. m.seconds ≤ 86400) made.items }
+    requires seconds { All (λ m. m.seconds ≤ most_seconds) made.items }
     ensures { IfOk result (λ wanted. wanted ≡ map (wanted_of network.now.registry.targets document.now) (map seen_made made.entry.items)) }
 {
     let mut wanted = Vec::with_capacity(alloc, made.len())?;
@@ -172,7 +174,7 @@ impl NewGroup {
     ) -> Result<NewGroup, AllocError>
         requires count { length wanted ≡ length group.now.requests }
         requires few { length group.now.requests ≤ 256 }
-        requires short { All (λ q. q.seconds ≤ 86400) group.now.requests }
+        requires short { All (λ q. q.seconds ≤ most_seconds) group.now.requests }
         ensures { IfOk result (λ new. new ≡ new_group document wanted group.now) }
     {
         let holds = held(alloc, &document, group, wanted.as_slice())?;
@@ -210,7 +212,7 @@ impl Desk {
         requires there { (1 ≤ number.0) × (number.0 ≤ length self.now.runs.groups) }
         requires count { length wanted ≡ length (group_of self.now.runs.groups number).requests }
         requires few { length (group_of self.now.runs.groups number).requests ≤ 256 }
-        requires short { All (λ q. q.seconds ≤ 86400) (group_of self.now.runs.groups number).requests }
+        requires short { All (λ q. q.seconds ≤ most_seconds) (group_of self.now.runs.groups number).requests }
         ensures { IfOk result (λ new. new ≡ new_group document wanted (group_of self.now.runs.groups number)) }
     {
         NewGroup::of(alloc, document, wanted, self.runs.known(number))
@@ -264,10 +266,10 @@ impl Desk {
         requires few_groups { length self.old.runs.groups + 1 < 2 ^ 32 }
         ensures new { IfOk result (λ new. new ≡ drafted (with_numbers (seen self.old) document.now) document.now (map seen_made made.entry.items)) }
         ensures entered { OnOk result (seen self.new ≡ with_entry (seen self.old) document.now (map seen_made made.entry.items)) }
-        ensures few { OnOk result (length (targets_with (seen self.old) document.now) ≤ 2048) }
+        ensures few { OnOk result (length (targets_with (seen self.old) document.now) ≤ most_targets) }
         ensures room { OnOk result (vec_len self.new.submitted < vec_capacity self.new.submitted) }
-        ensures refused { IfErr result (λ fault. fault ≢ NoMemory → (fault ≡ Refused (Full 2048 Targets))
-            × (2048 < length (targets_with (seen self.old) document.now))) }
+        ensures refused { IfErr result (λ fault. fault ≢ NoMemory → (fault ≡ Refused (Full most_targets Targets))
+            × (most_targets < length (targets_with (seen self.old) document.now))) }
         ensures unchanged { OnErr result (seen self.new ≡ seen self.old) }
     {
         let known = self.network.targets();
@@ -367,8 +369,8 @@ impl Desk {
 /// `Full` where so many more requests would be too many.
 pub(crate) fn has_room(pending: usize, count: usize) -> Result<(), CommandFault>
     requires { pending + count < 2 ^ 64 }
-    ensures room { OnOk result (nat_lt 1024 (pending + count) ≡ false) }
-    ensures full { IfErr result (λ fault. (fault ≡ Refused (Full 1024 Requests)) × (nat_lt 1024 (pending + count) ≡ true)) }
+    ensures room { OnOk result (nat_lt most_pending (pending + count) ≡ false) }
+    ensures full { IfErr result (λ fault. (fault ≡ Refused (Full most_pending Requests)) × (nat_lt most_pending (pending + count) ≡ true)) }
 {
     if pending + count > MOST_PENDING {
         return Err(CommandFault::Refused(Refusal::Full {

@@ -1,6 +1,7 @@
 // One lane, round by round.
 
 ghost use Rattle.std.specs.Prelude.{◌≡◌, ◌+◌, ◌≤◌, ◌<◌, List, length, IfOk};
+ghost use Rattle.plan_base.specs.Limits.{most_rounds};
 ghost use Rattle.plan_base.specs.declared.claim.Placement.{Placement};
 ghost use Rattle.plan_base.specs.Starts.{value_of_plan};
 ghost use Rattle.plan_base.specs.Feasible.{IsFeasible};
@@ -62,7 +63,7 @@ impl<'a> Lane<'a> {
     /// Makes the next round, of 256 at most: the bound of its prices, and the value of the plan that is repaired from what
     /// telescopes start at them. No plan that is feasible for the snapshot is worth more than the bound. It takes no memory.
     pub fn round(&mut self) -> RoundAnswer
-        requires { self.old.made < 256 }
+        requires { self.old.made < most_rounds }
         ensures answer { IsRoundAnswer self.old.snapshot self.old.lane self.old.made result.bound result.value }
         ensures bound { (plan : List Placement) → IsFeasible self.old.snapshot plan → value_of_plan self.old.snapshot plan ≤ result.bound }
         ensures made { self.new ≡ record { snapshot = self.old.snapshot; lane = self.old.lane; made = self.old.made + 1 } }

@@ -1,6 +1,7 @@
 // The prices of one lane, from round to round.
 
 ghost use Rattle.std.specs.Prelude.{◌≡◌, ◌+◌, ◌<◌, length, replicate, IfOk};
+ghost use Rattle.plan_base.specs.Limits.{most_rounds};
 ghost use Rattle.plan_base.specs.declared.parts.Parts.{Parts};
 ghost use Rattle.plan_base.specs.Requests.{listed};
 ghost use Rattle.plan_base.specs.Canonical.{IsCanonicalStarts};
@@ -70,7 +71,7 @@ impl LanePrices {
         net_prices: &mut Prices,
     )
         requires lane { IsLane snapshot.now self.old }
-        requires made { self.old.made < 256 }
+        requires made { self.old.made < most_rounds }
         requires greatest { greatest ≡ greatest_value snapshot.now }
         requires same_snapshot { uses.now.snapshot ≡ snapshot.now }
         requires starts { IsCanonicalStarts snapshot.now self.old.prices.0 uses.now.starts }

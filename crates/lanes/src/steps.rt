@@ -1,6 +1,7 @@
 // Lanes whose rounds are made in step.
 
 ghost use Rattle.std.specs.Prelude.{◌≡◌, ◌≢◌, ℕ, ◌+◌, ◌*◌, ◌≤◌, ◌<◌, length, All, HoldsAt, IfOk};
+ghost use Rattle.plan_base.specs.Limits.{most_rounds};
 ghost use Rattle.plan_base.specs.Round.{greatest_value};
 ghost use Rattle.snapshot_starts.specs.Runs.{AreAllStarts};
 ghost use Rattle.interval_solver.specs.Solving.{AreRowsOf};
@@ -178,7 +179,7 @@ impl<'a, const L: usize> Steps<'a, L> {
     pub(crate) fn advance(&mut self, place: usize)
         requires place { place < L }
         requires solved { IsSolvedAt self.old place }
-        requires made { HoldsAt (λ lane. lane.made < 256) self.old.lanes place }
+        requires made { HoldsAt (λ lane. lane.made < most_rounds) self.old.lanes place }
         ensures same_snapshot { self.new.snapshot ≡ self.old.snapshot }
         ensures next { HoldsAt (λ lane. IsLaneNow self.old.snapshot place lane.lane (lane.made + 1) self.old.lanes self.new.lanes) self.old.lanes place }
         ensures solved { (k : ℕ) → k ≢ place → IsSolvedAt self.old k → IsSolvedAt self.new k }

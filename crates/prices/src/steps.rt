@@ -1,6 +1,7 @@
 // How far prices move in a round.
 
 ghost use Rattle.std.specs.Prelude.{◌≡◌, ◌<◌, ◌^◌, pos};
+ghost use Rattle.plan_base.specs.Limits.{most_rounds};
 ghost use Rattle.plan_base.specs.Round.{step_of, quota_step};
 ghost use Rattle.prices.specs.Rounds.{step_size};
 
@@ -12,7 +13,7 @@ const HOUR: u64 = 3600;
 /// rounded down, but at least 1.
 pub fn step_of(lane: u32, round: u32, vmax: u32) -> i64
     requires lane { lane < 8 }
-    requires round { round < 256 }
+    requires round { round < most_rounds }
     ensures { result ≡ pos (step_of lane round vmax) }
 {
     let shares = 2u32.pow(lane) * (round + 1);
