@@ -1,5 +1,5 @@
 // A desk of two callers, each with a pass, and what calls of theirs are replied.
-ghost use Rattle.std.specs.Prelude.{◌≡◌, ◌+◌, ◌<◌, length, IfOk};
+ghost use Rattle.std.specs.Prelude.{◌≡◌, ℕ, ◌+◌, ◌<◌, length, IfOk};
 ghost use Rattle.desk_passes.specs.Calls.{IsPassOf, view};
 ghost use Rattle.session_tests.specs.Passes.{IsCallers, IsReady, MadeBoth};
 
@@ -69,7 +69,7 @@ fn call<R: Abort + Wait>(
 }
 
 /// The text of the entry at a place.
-fn text_at<R: Wait>(
+pub fn text_at<R: Wait>(
     rt: &R,
     alloc: Global,
     desk: &SharedDesk,
@@ -82,6 +82,7 @@ fn text_at<R: Wait>(
     ensures caller { (view pass.new).caller ≡ (view pass.old).caller }
     ensures own { (view pass.new).own ≡ (view pass.old).own }
     ensures take { (view pass.new).take ≡ (view pass.old).take }
+    ensures seen { (place : ℕ) → place < length (view pass.old).seen → place < length (view pass.new).seen }
 {
     let mut text = Vec::new(alloc);
     desk.write_entry(rt, pass, place, &mut text)?;

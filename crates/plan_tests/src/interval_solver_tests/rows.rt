@@ -137,6 +137,38 @@ fn the_lowest_request_starts_among_equals(rt: HostRuntime) -> Result<(), Fail> {
 }
 
 #[test]
+fn the_lowest_of_two_requests_starts_in_each_slice(rt: HostRuntime) -> Result<(), Fail> {
+    let desk = Desk {
+        telescopes: &[TelescopeWish {
+            usable: &[(0, 3_600)],
+        }; 2],
+        ..LATE
+    };
+    let wishes = [wish(300, 50_000, 0), wish(300, 50_000, 0)];
+    let starts: [(u32, u32); 12] = [
+        (0, 1),
+        (1, 1),
+        (2, 1),
+        (3, 1),
+        (4, 1),
+        (5, 1),
+        (6, 1),
+        (7, 1),
+        (8, 1),
+        (9, 1),
+        (10, 1),
+        (11, 1),
+    ];
+    let row = Row {
+        prices: &[25_000, 25_000],
+        best: 300_000,
+        starts: &starts,
+        uses: &[12, 0],
+    };
+    assert_desk(&rt, rt.alloc(), &desk, &wishes, &[row])
+}
+
+#[test]
 fn a_long_start_takes_the_place_of_short_ones(rt: HostRuntime) -> Result<(), Fail> {
     let long_first = [wish(120, 100, 0), wish(60, 60, 0)];
     let rows = [
