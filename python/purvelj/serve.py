@@ -38,8 +38,16 @@ HELP = "see Limits in docs/operations.md"
 #: How often it is looked whether the desk's program still runs, in seconds.
 WATCH = 1.0
 
+#: The most bytes that the path of a Unix socket has.
+LONGEST_PATH = 107
+
 #: How long connections may take to read their last replies when the server ends, in seconds.
 GRACE = 5.0
+
+
+def is_begun(journal: str | Path) -> bool:
+    """Whether a file of this journal is there, so that a desk with it goes on."""
+    return any(os.path.lexists(path) for path in Journal.paths(journal))
 
 
 def desk_of(
@@ -52,7 +60,7 @@ def desk_of(
 
     It keeps no history, which the journal has. ``seek`` is that of ``Desk.resume``.
     """
-    if any(os.path.lexists(path) for path in Journal.paths(journal)):
+    if is_begun(journal):
         return Desk.resume(journal, program, timeout, keep_history=False, seek=seek)
     return Desk(program, timeout, journal, keep_history=False)
 
@@ -109,6 +117,11 @@ def bind_path(path: str) -> Listener:
 
     ``FileError`` where another server has it, where something else stands there, or where it can't be made.
     """
+    if len(os.fsencode(path)) > LONGEST_PATH:
+        raise FileError(
+            f"{path}: is too long for a Unix socket, whose path has at most {LONGEST_PATH} bytes: "
+            "a shorter one has to be named, or a port"
+        )
     bound = socket.socket(socket.AF_UNIX, socket.SOCK_STREAM)
     try:
         _remove_left(path)

@@ -74,8 +74,8 @@ class Named:
 class Story:
     """The state that the history leaves, as far as it is known. Telescopes and requests by their numbers.
 
-    ``granted_then`` is what was granted before the last ``balances`` reply. ``gone`` are the requests that ended, expired
-    or were taken back since the last publication.
+    ``granted_then`` is what was granted before the last ``balances`` reply, and ``placed_then`` what was running or placed
+    then. ``gone`` are the requests that ended, expired or were taken back since the last publication.
     """
 
     exported: Exported | None = None
@@ -88,6 +88,7 @@ class Story:
     owners: dict[int, Owner] = field(default_factory=dict)
     granted: dict[Key, int] = field(default_factory=dict)
     granted_then: dict[Key, int] = field(default_factory=dict)
+    placed_then: frozenset[int] = frozenset()
     running: dict[int, Placement] = field(default_factory=dict)
     gone: set[int] = field(default_factory=set)
     notes: list[str] = field(default_factory=list)
@@ -117,7 +118,8 @@ class Story:
                 self.gone.clear()
             self.exported, self.published = reply, reply.claim
         elif isinstance(reply, Balances):
-            self.balances, self.granted_then = reply.balances, dict(self.granted)
+            self.balances = reply.balances
+            self.granted_then, self.placed_then = dict(self.granted), self._placed()
         elif isinstance(reply, Published):
             self.published = reply.claim
             self._kept = {each.request: each for each in reply.claim.placements}
@@ -182,6 +184,11 @@ class Story:
             if named.site == site
             and (telescope is None or (named.enclosure, named.telescope) == (enclosure, telescope))
         ]
+
+    def _placed(self) -> frozenset[int]:
+        """The requests that run, and those that the last publication places and that aren't gone."""
+        placed = {each.request for each in self.published.placements} if self.published else set()
+        return frozenset(placed - self.gone | set(self.running))
 
     def _clock(self, reply: Clocked) -> None:
         for request in reply.started:

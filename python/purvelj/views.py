@@ -175,10 +175,9 @@ def _running(story: Story, snapshot: Snapshot, request: int, seconds: int | None
 
 
 def _planned(story: Story) -> Counter[Key]:
-    """The seconds that the last export's plan and what is running take from each account."""
+    """The seconds that what was placed or running at the last balances takes from each account."""
     planned: Counter[Key] = Counter()
-    placed = {each.request for each in story.exported.claim.placements} if story.exported else set()
-    for request in placed - story.gone | set(story.running):
+    for request in story.placed_then:
         owner = story.owners.get(request)
         if owner is not None and owner.seconds is not None:
             planned[owner.key] += owner.seconds

@@ -16,6 +16,9 @@ from script import REPLIES
 
 TOP = Path(__file__).resolve().parents[1]
 
+#: What a server says first where its journal is there.
+AGAIN = "the journal's lines are done again, and until then nobody can connect"
+
 #: A session program that seeks a plan until there is a file ``found``, and says so in a file ``seeking``.
 SLOW = """
 import json, pathlib, sys, time

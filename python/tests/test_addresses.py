@@ -15,7 +15,7 @@ from purvelj import cli
 from purvelj.errors import FileError
 from purvelj.serve import bind_path, bind_port
 from script import LINES, REPLIES
-from serving import Caller, until
+from serving import AGAIN, Caller, until
 
 #: A session program that replies to its first line with a word of its command, once there is a file ``go``.
 WAITS = """
@@ -32,7 +32,8 @@ def test_a_second_server_on_the_journal_is_refused(serve, netsched, tmp_path: Pa
     server = serve()
     words = ["serve", str(tmp_path / "night"), "--program", shlex.join(netsched)]
     assert cli.main([*words, "--port", "0"]) == 3
-    assert capfd.readouterr().err == f"purvelj: {tmp_path}/night.lines.jsonl: another desk writes it\n"
+    refused = f"{tmp_path}/night.lines.jsonl: another desk writes it"
+    assert capfd.readouterr().err == f"purvelj: {AGAIN}\npurvelj: {refused}\n"
     with Caller(server.path) as caller:
         assert caller.ask(LINES[0]) == REPLIES[:1]
     for others in (words, [*words[:1], str(tmp_path / "dawn"), *words[2:], "--socket", str(server.path)]):
@@ -98,8 +99,10 @@ def test_a_socket_is_replaced_only_where_nobody_has_it(tmp_path: Path) -> None:
         bind_path(path)
     with pytest.raises(FileError, match="nowhere/socket: can't be listened at: No such file"):
         bind_path(str(tmp_path / "nowhere" / "socket"))
-    with pytest.raises(FileError, match="can't be listened at: AF_UNIX path too long"):
-        bind_path(str(tmp_path / ("long" * 30)))
+    with pytest.raises(FileError, match="is too long for a Unix socket, whose path has at most 107 bytes"):
+        bind_path("/" + 107 * "a")
+    with pytest.raises(FileError, match="can't be listened at: No such file"):
+        bind_path("/nowhere/" + 98 * "a")
 
 
 def test_of_two_that_have_a_port_one_listens() -> None:

@@ -117,6 +117,29 @@ def test_shares_are_of_the_last_balances(netsched: list[str]) -> None:
         assert shares(story_of(desk.history)) == (Share(("P1", "standard", CAMERA), 280, 300, 0, 420),)
 
 
+def test_shares_are_of_the_plan_at_the_last_balances(netsched: list[str]) -> None:
+    """No export is asked for, and what is done since doesn't count."""
+    account = ("P1", "standard", CAMERA)
+    with Desk(netsched, timeout=60) as desk:
+        desk.replay(LINES[:8])
+        desk.balances()
+        desk.clock(1)
+        desk.report(1, 100, 280)
+        desk.plan()
+        assert shares(story_of(desk.history)) == (Share(account, 0, 300, 300, 700),)
+        desk.balances()
+        assert shares(story_of(desk.history)) == (Share(account, 280, 0, 0, 720),)
+
+
+def test_shares_are_not_of_an_export_before_another_plan(netsched: list[str]) -> None:
+    with Desk(netsched, timeout=60) as desk:
+        desk.replay(LINES)
+        desk.close_site("coj", [(0, 3600)])
+        desk.plan()
+        desk.balances()
+        assert shares(story_of(desk.history)) == (Share(("P1", "standard", CAMERA), 0, 300, 0, 700),)
+
+
 def test_closures_are_known_with_the_script(netsched: list[str]) -> None:
     with Desk(netsched, timeout=60) as desk:
         desk.replay(LINES[:7])

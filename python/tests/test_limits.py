@@ -12,7 +12,7 @@ from purvelj import cli
 from purvelj.desk import Desk
 from purvelj.serve import Server, bind_path
 from script import LINES, REPLIES
-from serving import Caller, limited
+from serving import AGAIN, Caller, limited
 
 
 def left_by_another(folder: Path) -> None:
@@ -26,12 +26,13 @@ def test_a_journal_whose_claims_are_too_long_has_its_plans_sought_again(serve, t
     left_by_another(tmp_path)
     assert cli.main(["serve", str(tmp_path / "night"), "--program", shlex.join(program)]) == 9
     said = capfd.readouterr().err.splitlines()
-    assert said[0] == (
-        "purvelj: the lines are more, or longer, than a session may read: see Limits in docs/operations.md"
-    )
-    assert "ended with status 5 (its input is longer than it may be)" in said[1] and len(said) == 2
+    assert said[:2] == [
+        f"purvelj: {AGAIN}",
+        "purvelj: the lines are more, or longer, than a session may read: see Limits in docs/operations.md",
+    ]
+    assert "ended with status 5 (its input is longer than it may be)" in said[2] and len(said) == 3
     server = serve("--seek", program=program)
-    assert server.told()[0] == "lines that were done again: 9, published plans among them: 1"
+    assert server.told()[1] == "lines that were done again: 9, published plans among them: 1"
     assert server.end() == 0
 
 
@@ -43,7 +44,7 @@ def test_lines_that_are_nearly_used_up_are_told(most, nearly, status, tmp_path: 
     left_by_another(tmp_path)
     words = ["serve", str(tmp_path / "night"), "--seek", "--program", shlex.join(limited(tmp_path))]
     assert cli.main(words) == status
-    said = capfd.readouterr().err.splitlines()[1:]
+    said = capfd.readouterr().err.splitlines()[2:]
     new = "a new desk has to go on: see Limits in docs/operations.md"
     listening = f"purvelj: listening at {tmp_path}/night.socket"
     if status:

@@ -20,7 +20,7 @@ from purvelj.desk import Desk
 from purvelj.pipes import DeskError
 from purvelj.serve import LONGEST, Server, bind_path, desk_of
 from script import LINES, REPLIES
-from serving import LASTING, SLOW, Caller, until
+from serving import AGAIN, LASTING, SLOW, Caller, until
 
 
 def test_two_callers_take_turns(serve) -> None:
@@ -203,7 +203,7 @@ def test_a_line_that_is_not_utf_8_is_refused_by_the_desk(serve) -> None:
     written = f"{LINES[0]}\n".encode() + b'{"do":"\xff"}\n"\xed\xa0\x80"\n'
     assert (server.folder / "night.lines.jsonl").read_bytes() == written
     again = serve()
-    assert again.told()[0] == "lines that were done again: 3, published plans among them: 0"
+    assert again.told()[1] == "lines that were done again: 3, published plans among them: 0"
     with Caller(again.path) as caller:
         assert json.loads(caller.ask(LINES[1])[0]) == {**json.loads(REPLIES[1]), "line": 4}
     assert (server.folder / "night.lines.jsonl").read_bytes() == written + f"{LINES[1]}\n".encode()
@@ -213,6 +213,7 @@ def test_a_torn_last_line_of_the_journal_is_told(serve, tmp_path: Path) -> None:
     (tmp_path / "night.lines.jsonl").write_text(f"{LINES[0]}\n{LINES[1][:20]}")
     (tmp_path / "night.replies.jsonl").write_text(f"{REPLIES[0]}\n")
     assert serve().told() == [
+        AGAIN,
         "lines that were done again: 1, published plans among them: 0",
         "the journal's last line is torn and isn't done: whoever sent it has to send it again",
         "listening at night.socket",
@@ -233,6 +234,7 @@ def test_a_kill_loses_nothing(serve) -> None:
     assert server.path.exists()
     again = serve()
     assert again.told() == [
+        AGAIN,
         "lines that were done again: 9, published plans among them: 1",
         "listening at night.socket",
     ]
@@ -240,7 +242,7 @@ def test_a_kill_loses_nothing(serve) -> None:
         export = json.loads(caller.ask(LINES[8])[0])
         assert export == {**json.loads(REPLIES[9]), "line": 10}
     assert again.end() == 0
-    assert serve().told()[0] == "lines that were done again: 10, published plans among them: 1"
+    assert serve().told()[1] == "lines that were done again: 10, published plans among them: 1"
 
 
 def test_a_servers_desk_keeps_no_exchange(netsched, tmp_path: Path) -> None:
@@ -284,6 +286,7 @@ def test_a_program_that_is_silent_ends_the_server(serve) -> None:
         assert (caller.rest(), server.process.wait(60)) == (b"", 9)
     assert server.says("didn't answer within 0.2 s")
     assert serve().told() == [
+        AGAIN,
         "no line of the journal was done, so the desk is a new one",
         "lines that aren't done, and are to be sent again by whoever sent them:",
         LINES[0],

@@ -102,8 +102,10 @@ def _listener(options: argparse.Namespace) -> Listener:
 
 
 def _desk(options: argparse.Namespace) -> Desk:
-    from purvelj.serve import desk_of
+    from purvelj.serve import desk_of, is_begun
 
+    if is_begun(options.journal):
+        tell("the journal's lines are done again, and until then nobody can connect")
     return desk_of(options.journal, options.program, options.timeout, options.seek)
 
 
