@@ -7,7 +7,7 @@ and grants are known.
 from __future__ import annotations
 
 from dataclasses import dataclass, field
-from typing import Callable
+from typing import Any, Callable
 
 from purvelj.documents import Document, elements, whole
 from purvelj.errors import DocumentError
@@ -113,34 +113,71 @@ class Story:
         line = Document(exchange.command, f"line {reply.line}:")
         if not exchange.fits:
             raise DocumentError(f"line {reply.line}", "the output replies to it as to another line than the script has")
-        if isinstance(reply, Exported):
-            if reply.claim != self.published:
-                self.gone.clear()
-            self.exported, self.published = reply, reply.claim
-        elif isinstance(reply, Balances):
-            self.balances = reply.balances
-            self.granted_then, self.placed_then = dict(self.granted), self._placed()
-        elif isinstance(reply, Published):
-            self.published = reply.claim
-            self._kept = {each.request: each for each in reply.claim.placements}
-            self.gone.clear()
-        elif isinstance(reply, Clocked):
-            self._clock(reply)
-        elif isinstance(reply, (Completed, Failed)):
-            self._end_one(line)
-            self.gone.update(reply.canceled if isinstance(reply, Completed) else reply.expired)
-        elif isinstance(reply, Shown):
-            self._own(Document(reply.document), reply.group, [number for number, _ in reply.requests])
-        elif isinstance(reply, Submitted) and line.has("group"):
-            self._own(line.object("group"), reply.group, reply.requests)
-        elif isinstance(reply, TelescopeAdded) and line.has("site"):
-            codes = (line.text(name) for name in ("site", "enclosure", "telescope"))
-            self.telescopes[reply.telescope] = Named(*codes)
-        if isinstance(reply, (Amended, Withdrawn)) and line.has("group_number"):
-            group = line.whole("group_number", 0, MOST_NUMBER)
-            self.gone.update(number for number, owner in self.owners.items() if owner.group == group)
+        _REPLIES.get(type(reply), lambda story, reply, line: None)(self, reply, line)
         if line.has("do"):
             _LINES.get(line.text("do"), lambda story, line: None)(self, line)
+
+    def exports(self, reply: Exported, line: Document) -> None:
+        """Takes in a reply to an ``export`` line."""
+        if reply.claim != self.published:
+            self.gone.clear()
+        self.exported, self.published = reply, reply.claim
+
+    def balanced(self, reply: Balances, line: Document) -> None:
+        """Takes in a reply to a ``balances`` line."""
+        self.balances = reply.balances
+        self.granted_then, self.placed_then = dict(self.granted), self._placed()
+
+    def publishes(self, reply: Published, line: Document) -> None:
+        """Takes in a claim that is published."""
+        self.published = reply.claim
+        self._kept = {each.request: each for each in reply.claim.placements}
+        self.gone.clear()
+
+    def clocked(self, reply: Clocked, line: Document) -> None:
+        """Takes in a reply to a ``clock`` line."""
+        for request in reply.started:
+            if request in self._kept:
+                self.running[request] = self._kept.pop(request)
+        for request in reply.failed:
+            self.running.pop(request, None)
+        self.gone.update(reply.failed, reply.expired)
+
+    def completes(self, reply: Completed, line: Document) -> None:
+        """Takes in a reply to a report of a request that is completed."""
+        self._end_one(line)
+        self.gone.update(reply.canceled)
+
+    def fails(self, reply: Failed, line: Document) -> None:
+        """Takes in a reply to a report of a request that failed."""
+        self._end_one(line)
+        self.gone.update(reply.expired)
+
+    def shows(self, reply: Shown, line: Document) -> None:
+        """Takes in a reply to a ``show`` line."""
+        self._own(Document(reply.document), reply.group, [number for number, _ in reply.requests])
+
+    def submits(self, reply: Submitted, line: Document) -> None:
+        """Takes in a reply to a ``submit`` line."""
+        if line.has("group"):
+            self._own(line.object("group"), reply.group, reply.requests)
+
+    def adds_telescope(self, reply: TelescopeAdded, line: Document) -> None:
+        """Takes in a reply to a ``telescope`` line."""
+        if line.has("site"):
+            codes = (line.text(name) for name in ("site", "enclosure", "telescope"))
+            self.telescopes[reply.telescope] = Named(*codes)
+
+    def amends(self, reply: Amended, line: Document) -> None:
+        """Takes in a reply to an ``amend`` line."""
+        self.submits(reply, line)
+        self.withdraws(reply, line)
+
+    def withdraws(self, reply: Amended | Withdrawn, line: Document) -> None:
+        """Takes in that the requests of a group are taken back."""
+        if line.has("group_number"):
+            group = line.whole("group_number", 0, MOST_NUMBER)
+            self.gone.update(number for number, owner in self.owners.items() if owner.group == group)
 
     def open(self, line: Document) -> None:
         """Takes in an ``open`` line."""
@@ -190,14 +227,6 @@ class Story:
         placed = {each.request for each in self.published.placements} if self.published else set()
         return frozenset(placed - self.gone | set(self.running))
 
-    def _clock(self, reply: Clocked) -> None:
-        for request in reply.started:
-            if request in self._kept:
-                self.running[request] = self._kept.pop(request)
-        for request in reply.failed:
-            self.running.pop(request, None)
-        self.gone.update(reply.failed, reply.expired)
-
     def _end_one(self, line: Document) -> None:
         if line.has("request"):
             request = line.whole("request", 0, MOST_NUMBER)
@@ -241,6 +270,20 @@ _LINES: dict[str, Callable[[Story, Document], None]] = {
     "close": Story.close,
     "reopen": Story.reopen,
     "grant": Story.grant,
+}
+
+_REPLIES: dict[type, Callable[[Story, Any, Document], None]] = {
+    Exported: Story.exports,
+    Balances: Story.balanced,
+    Published: Story.publishes,
+    Clocked: Story.clocked,
+    Completed: Story.completes,
+    Failed: Story.fails,
+    Shown: Story.shows,
+    Submitted: Story.submits,
+    TelescopeAdded: Story.adds_telescope,
+    Amended: Story.amends,
+    Withdrawn: Story.withdraws,
 }
 
 
