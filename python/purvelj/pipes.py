@@ -157,21 +157,31 @@ def _passed(process: subprocess.Popen[bytes], data: bytes, deadline: float | Non
             ready = pipes.select(seconds)
             if not ready or seconds == 0:
                 return None
-            for key, _ in ready:
-                if key.data is process.stdin:
-                    left = _unwritten(key.fd, left)
-                    _leave_at_end(pipes, key, left)
-                else:
-                    pieces.append(os.read(key.fd, 1 << 16))
-                    _leave_at_end(pipes, key, pieces[-1])
+            left = _move(pipes, ready, left, pieces)
     return b"".join(pieces)
 
 
-def _leave_at_end(pipes: selectors.BaseSelector, key: selectors.SelectorKey, moved: bytes | memoryview) -> None:
-    """Closes a pipe where nothing is left to be written, or nothing more comes."""
-    if not moved:
-        pipes.unregister(key.data)
-        key.data.close()
+def _move(
+    pipes: selectors.BaseSelector,
+    ready: list[tuple[selectors.SelectorKey, int]],
+    left: memoryview,
+    pieces: list[bytes],
+) -> memoryview:
+    """Writes and reads what goes at once, and gives what is left to be written.
+
+    A pipe is closed where nothing is left for it, or nothing more comes.
+    """
+    for key, events in ready:
+        if events & selectors.EVENT_WRITE:
+            left = _unwritten(key.fd, left)
+            is_over = not left
+        else:
+            pieces.append(os.read(key.fd, 1 << 16))
+            is_over = not pieces[-1]
+        if is_over:
+            pipes.unregister(key.data)
+            key.data.close()
+    return left
 
 
 def _unwritten(pipe: int, data: memoryview) -> memoryview:
