@@ -117,24 +117,24 @@ class Story:
         if line.has("do"):
             _LINES.get(line.text("do"), lambda story, line: None)(self, line)
 
-    def exports(self, reply: Exported, line: Document) -> None:
+    def _tell_exported(self, reply: Exported, line: Document) -> None:
         """Takes in a reply to an ``export`` line."""
         if reply.claim != self.published:
             self.gone.clear()
         self.exported, self.published = reply, reply.claim
 
-    def balanced(self, reply: Balances, line: Document) -> None:
+    def _tell_balances(self, reply: Balances, line: Document) -> None:
         """Takes in a reply to a ``balances`` line."""
         self.balances = reply.balances
         self.granted_then, self.placed_then = dict(self.granted), self._placed()
 
-    def publishes(self, reply: Published, line: Document) -> None:
+    def _tell_published(self, reply: Published, line: Document) -> None:
         """Takes in a claim that is published."""
         self.published = reply.claim
         self._kept = {each.request: each for each in reply.claim.placements}
         self.gone.clear()
 
-    def clocked(self, reply: Clocked, line: Document) -> None:
+    def _tell_clocked(self, reply: Clocked, line: Document) -> None:
         """Takes in a reply to a ``clock`` line."""
         for request in reply.started:
             if request in self._kept:
@@ -143,37 +143,37 @@ class Story:
             self.running.pop(request, None)
         self.gone.update(reply.failed, reply.expired)
 
-    def completes(self, reply: Completed, line: Document) -> None:
+    def _tell_completed(self, reply: Completed, line: Document) -> None:
         """Takes in a reply to a report of a request that is completed."""
         self._end_one(line)
         self.gone.update(reply.canceled)
 
-    def fails(self, reply: Failed, line: Document) -> None:
+    def _tell_failed(self, reply: Failed, line: Document) -> None:
         """Takes in a reply to a report of a request that failed."""
         self._end_one(line)
         self.gone.update(reply.expired)
 
-    def shows(self, reply: Shown, line: Document) -> None:
+    def _tell_shown(self, reply: Shown, line: Document) -> None:
         """Takes in a reply to a ``show`` line."""
         self._own(Document(reply.document), reply.group, [number for number, _ in reply.requests])
 
-    def submits(self, reply: Submitted, line: Document) -> None:
+    def _tell_submitted(self, reply: Submitted, line: Document) -> None:
         """Takes in a reply to a ``submit`` line."""
         if line.has("group"):
             self._own(line.object("group"), reply.group, reply.requests)
 
-    def adds_telescope(self, reply: TelescopeAdded, line: Document) -> None:
+    def _tell_telescope(self, reply: TelescopeAdded, line: Document) -> None:
         """Takes in a reply to a ``telescope`` line."""
         if line.has("site"):
             codes = (line.text(name) for name in ("site", "enclosure", "telescope"))
             self.telescopes[reply.telescope] = Named(*codes)
 
-    def amends(self, reply: Amended, line: Document) -> None:
+    def _tell_amended(self, reply: Amended, line: Document) -> None:
         """Takes in a reply to an ``amend`` line."""
-        self.submits(reply, line)
-        self.withdraws(reply, line)
+        self._tell_submitted(reply, line)
+        self._tell_withdrawn(reply, line)
 
-    def withdraws(self, reply: Amended | Withdrawn, line: Document) -> None:
+    def _tell_withdrawn(self, reply: Amended | Withdrawn, line: Document) -> None:
         """Takes in that the requests of a group are taken back."""
         if line.has("group_number"):
             group = line.whole("group_number", 0, MOST_NUMBER)
@@ -273,17 +273,17 @@ _LINES: dict[str, Callable[[Story, Document], None]] = {
 }
 
 _REPLIES: dict[type, Callable[[Story, Any, Document], None]] = {
-    Exported: Story.exports,
-    Balances: Story.balanced,
-    Published: Story.publishes,
-    Clocked: Story.clocked,
-    Completed: Story.completes,
-    Failed: Story.fails,
-    Shown: Story.shows,
-    Submitted: Story.submits,
-    TelescopeAdded: Story.adds_telescope,
-    Amended: Story.amends,
-    Withdrawn: Story.withdraws,
+    Exported: Story._tell_exported,
+    Balances: Story._tell_balances,
+    Published: Story._tell_published,
+    Clocked: Story._tell_clocked,
+    Completed: Story._tell_completed,
+    Failed: Story._tell_failed,
+    Shown: Story._tell_shown,
+    Submitted: Story._tell_submitted,
+    TelescopeAdded: Story._tell_telescope,
+    Amended: Story._tell_amended,
+    Withdrawn: Story._tell_withdrawn,
 }
 
 

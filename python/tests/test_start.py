@@ -69,6 +69,12 @@ def test_a_start_that_fails_has_a_status_of_its_own(top: Path) -> None:
     assert done.stderr == "netsched: not proved for the sources as they are: bin/prove does that\n"
 
 
+def test_only_a_program_can_be_proved() -> None:
+    done = start(TOP / "bin" / "prove", "netsched", "session")
+    assert (done.returncode, done.stdout) == (2, "")
+    assert done.stderr == "prove: session is none of the programs: netsched netsched_live plancheck\n"
+
+
 @pytest.mark.parametrize("word", ["--help", "-h", "--version"])
 @pytest.mark.parametrize("name", ["netsched", "netsched_live", "plancheck"])
 def test_help_and_version_that_cannot_be_written_end_with_3(name: str, word: str) -> None:
