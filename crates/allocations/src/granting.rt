@@ -2,6 +2,7 @@
 
 ghost use Rattle.std.specs.Prelude.{◌≡◌, ◌≢◌, ◌+◌, ◌<◌, ◌≤◌, ◌⊎◌, true, All, Contains, IfOk, IfErr, OnOk, OnErr, length, slice_get};
 ghost use Rattle.std.specs.BTreeSet.{insert_key};
+ghost use Rattle.plan_base.specs.Limits.{most_accounts};
 ghost use Rattle.allocations.specs.declared.fault.LedgerFault.TheVariants.{Full, NoMemory};
 ghost use Rattle.allocations.specs.declared.fault.FullOf.TheVariants.{Accounts};
 ghost use Rattle.allocations.specs.Key.{key_cmp};
@@ -15,10 +16,7 @@ use crate::key::Key;
 use crate::ledger::MOST_SECONDS_IN_ALL;
 use crate::posting::Posting;
 use crate::store::Store;
-use plan_base::{GroupNo, RequestNo};
-
-/// The most accounts that a ledger has.
-pub const MOST_ACCOUNTS: usize = 1_024;
+use plan_base::{GroupNo, MOST_ACCOUNTS, RequestNo};
 
 /// The place of an account, which is added where it isn't there.
 fn account_for(store: &mut Store, key: &Key) -> Result<usize, LedgerFault>
@@ -28,9 +26,9 @@ fn account_for(store: &mut Store, key: &Key) -> Result<usize, LedgerFault>
     ensures books { OnOk result (store_books store.new ≡ store_books store.old) }
     ensures spare { OnOk result (store.new.spare ≡ store.old.spare) }
     ensures granted { OnOk result (All (λ k. (has_grant (store_books store.old).entries k ≡ true) ⊎ (k ≡ key.now)) store.new.keys) }
-    ensures fits { OnOk result (Contains store.old.keys key.now ⊎ (length store.old.listed < MOST_ACCOUNTS)) }
-    ensures full { IfErr result (λ fault. fault ≢ NoMemory → (fault ≡ Full MOST_ACCOUNTS Accounts) × (¬ (Contains store.old.keys key.now))
-        × (MOST_ACCOUNTS ≤ length store.old.listed)) }
+    ensures fits { OnOk result (Contains store.old.keys key.now ⊎ (length store.old.listed < most_accounts)) }
+    ensures full { IfErr result (λ fault. fault ≢ NoMemory → (fault ≡ Full most_accounts Accounts) × (¬ (Contains store.old.keys key.now))
+        × (most_accounts ≤ length store.old.listed)) }
     ensures sound { IsSound store.old }
     ensures unchanged { OnErr result (store.new ≡ store.old) }
 {
@@ -57,9 +55,9 @@ pub(crate) fn grant(store: &mut Store, key: &Key, seconds: u64) -> Result<u64, L
     ensures granted { OnOk result (IsGranted store.new) }
     ensures listed { OnOk result (store.new.listed ≡ accounts_of (store_books store.new).entries) }
     ensures balance { IfOk result (λ balance. balance ≡ balance_of (store_books store.new).entries key.now) }
-    ensures fits { OnOk result (Contains store.old.keys key.now ⊎ (length store.old.listed < MOST_ACCOUNTS)) }
-    ensures full { IfErr result (λ fault. fault ≢ NoMemory → (fault ≡ Full MOST_ACCOUNTS Accounts) × (¬ (Contains store.old.keys key.now))
-        × (MOST_ACCOUNTS ≤ length store.old.listed)) }
+    ensures fits { OnOk result (Contains store.old.keys key.now ⊎ (length store.old.listed < most_accounts)) }
+    ensures full { IfErr result (λ fault. fault ≢ NoMemory → (fault ≡ Full most_accounts Accounts) × (¬ (Contains store.old.keys key.now))
+        × (most_accounts ≤ length store.old.listed)) }
     ensures sound { IsSound store.old }
     ensures unchanged { OnErr result (store.new ≡ record store.old { spare = store.new.spare }) }
 {

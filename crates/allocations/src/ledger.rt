@@ -2,6 +2,7 @@
 
 ghost use Rattle.std.specs.Prelude.{◌≡◌, ◌≢◌, ◌+◌, ◌-◌, ◌<◌, ◌≤◌, ◌∷◌, ◌++◌, ◌↔◌, [], if◌then◌else◌, Some, None};
 ghost use Rattle.std.specs.Prelude.{Contains, IsTrue, IfSome, IfOk, IfErr, OnOk, OnErr, map, slice_get, option_copied};
+ghost use Rattle.plan_base.specs.Limits.{most_accounts};
 ghost use Rattle.allocations.specs.declared.entry.EntryKind.TheVariants.{Grant, Charge, Refund};
 ghost use Rattle.allocations.specs.declared.fault.LedgerFault.TheVariants.{Full, NoMemory};
 ghost use Rattle.allocations.specs.declared.fault.FullOf.TheVariants.{Accounts};
@@ -15,7 +16,7 @@ ghost use Rattle.allocations.specs.Ledger.{IsFull, IsHoldList, IsFree, IsAtMost,
 use crate::booking::settle;
 use crate::entry::{EntryKind, Hold};
 use crate::fault::LedgerFault;
-use crate::granting::{MOST_ACCOUNTS, grant};
+use crate::granting::grant;
 use crate::key::Key;
 use crate::lowering::lowered;
 use crate::posting::Posting;
@@ -70,8 +71,8 @@ impl Ledger {
         requires { total_seconds self.old.books + seconds ≤ MOST_SECONDS_IN_ALL }
         ensures books { OnOk result (self.new.books ≡ with_entry (grant_entry key.now seconds) self.old.books) }
         ensures balance { IfOk result (λ balance. balance ≡ balance_of self.new.books.entries key.now) }
-        ensures fits { OnOk result (¬ (IsFull MOST_ACCOUNTS self.old.books.entries key.now)) }
-        ensures full { IfErr result (λ fault. fault ≢ NoMemory → (fault ≡ Full MOST_ACCOUNTS Accounts) × IsFull MOST_ACCOUNTS self.old.books.entries key.now) }
+        ensures fits { OnOk result (¬ (IsFull most_accounts self.old.books.entries key.now)) }
+        ensures full { IfErr result (λ fault. fault ≢ NoMemory → (fault ≡ Full most_accounts Accounts) × IsFull most_accounts self.old.books.entries key.now) }
         ensures unchanged { OnErr result (self.new.books ≡ self.old.books) }
     {
         grant(&mut self.store, key, seconds)

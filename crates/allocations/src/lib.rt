@@ -16,6 +16,5 @@ mod sums;
 
 pub use entry::{Entry, EntryKind, Hold};
 pub use fault::{FullOf, LedgerFault};
-pub use granting::MOST_ACCOUNTS;
 pub use key::{Account, Key};
 pub use ledger::{Ledger, MOST_SECONDS_IN_ALL};

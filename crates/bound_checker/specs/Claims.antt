@@ -6,7 +6,7 @@ use Rattle.plan_base.specs.declared.parts.GroupPart.{GroupPart}
 use Rattle.plan_base.specs.declared.parts.Op.TheVariants.{OneOf, And}
 use Rattle.plan_base.specs.declared.parts.Sky.{Sky}
 use Rattle.plan_base.specs.declared.claim.Placement.{Placement}
-use Rattle.plan_base.specs.Limits.{most_seconds, most_value}
+use Rattle.plan_base.specs.Limits.{most_seconds, most_value, most_fade}
 use Rattle.plan_base.specs.Requests.{IsKnown, group_of, seconds_of, request_value, fade_of, windows_of, telescopes_of, targets_of}
 use Rattle.plan_base.specs.Snapshot.{IsMoment}
 use Rattle.plan_base.specs.Starts.{site_of}
@@ -31,7 +31,7 @@ pub record IsRequestInRanges (n : ℕ) (q : RequestPart) : Type 0 where
   pub some_seconds : 1 ≤ q.seconds
   pub most_seconds : q.seconds ≤ most_seconds
   pub most_value : q.value ≤ most_value
-  pub most_fade : q.fade ≤ 1000
+  pub most_fade : q.fade ≤ most_fade
   pub moments : All (λ w. IsMoment w.from.0) q.windows
   pub telescopes : All (λ t. t.0 < n) q.telescopes
 

@@ -1,6 +1,6 @@
 -- The net prices of a group's requests.
 use Rattle.std.specs.Prelude.{◌≡◌, ℕ, ◌*◌, ◌≤◌, ℤ, pos, ◌-ℤ◌, List, [], ◌∷◌, length, slice_index_or, Option, Some, None, All}
-use Rattle.plan_base.specs.Limits.{most_quota_price, most_seconds}
+use Rattle.plan_base.specs.Limits.{most_quota_price, most_seconds, most_members}
 use Rattle.plan_base.specs.declared.parts.RequestPart.{RequestPart}
 use Rattle.plan_base.specs.Verdict.{IsPriceInRange}
 use Rattle.bound_checker.specs.declared.nets.Nets.{Nets}
@@ -18,7 +18,7 @@ net_list x = nets_at x.quota_price x.requests.now x.prices.now
 -- as many prices as requests, and all numbers in their ranges
 pub record IsNets (x : Nets) : Type 0 where
   pub count : length x.prices.now ≡ length x.requests.now
-  pub few : length x.requests.now ≤ 256
+  pub few : length x.requests.now ≤ most_members
   pub range : All IsPriceInRange x.prices.now
   pub quota : x.quota_price ≤ most_quota_price
   pub seconds : All (λ q. q.seconds ≤ most_seconds) x.requests.now

@@ -1,6 +1,6 @@
 -- What a request asks for, and what it gives at each slice.
 use Rattle.std.specs.Prelude.{◌≡◌, ℕ, ◌-◌, ◌≤◌, ℤ, pos, ◌-ℤ◌, map, All}
-use Rattle.plan_base.specs.Limits.{most_slices, most_value}
+use Rattle.plan_base.specs.Limits.{most_slices, most_value, most_fade}
 use Rattle.plan_base.specs.declared.parts.RequestPart.{RequestPart}
 use Rattle.plan_base.specs.Snapshot.{IsMoment}
 use Rattle.plan_base.specs.Starts.{slices_for, least_of, faded}
@@ -15,7 +15,7 @@ pub record IsOfferRange (o : Offer) : Type 0 where
   pub size_most : o.size ≤ most_slices
   pub price : IsPriceInRange o.price
   pub value : o.value ≤ most_value
-  pub fade : o.fade ≤ 1000
+  pub fade : o.fade ≤ most_fade
 
 -- what the request offers at a price, where slices have this length
 pub record IsOffer (length : ℕ) (q : RequestPart) (cost : ℤ) (o : Offer) : Type 0 where

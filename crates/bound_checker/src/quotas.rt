@@ -1,6 +1,7 @@
 // Whether a plan keeps within the quotas.
 
 ghost use Rattle.std.specs.Prelude.{◌≡◌, ◌<◌, ◌≤◌, ◌+◌, ◌^◌, ℕ, cond, length, slice_index_or, Some, MatchOption, IfOk};
+ghost use Rattle.plan_base.specs.Limits.{most_pending};
 ghost use Rattle.plan_base.specs.Requests.{quota_of, IsKnown};
 ghost use Rattle.plan_base.specs.Feasible.{is_quota};
 ghost use Rattle.plan_base.specs.Verdict.{IsFirst};
@@ -17,7 +18,7 @@ pub(crate) fn sum_seconds(
     plan: &[Placement],
 ) -> Result<Vec<u64>, AllocError>
     requires known { IsEachKnown snapshot.now plan.now }
-    requires few { length plan.now ≤ 1024 }
+    requires few { length plan.now ≤ most_pending }
     ensures { IfOk result (λ sums. AreQuotaSums snapshot.now plan.now sums.items) }
 {
     let mut sums = repeated(alloc, 0, snapshot.parts().quotas.len())?;

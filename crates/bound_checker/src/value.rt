@@ -1,7 +1,7 @@
 // What a plan is worth.
 
 ghost use Rattle.std.specs.Prelude.{◌≡◌, ◌≤◌, length};
-ghost use Rattle.plan_base.specs.Limits.{most_value};
+ghost use Rattle.plan_base.specs.Limits.{most_value, most_pending};
 ghost use Rattle.plan_base.specs.Requests.{IsKnown};
 ghost use Rattle.plan_base.specs.Starts.{worth_at, value_of_plan};
 ghost use Rattle.bound_checker.specs.Claims.{IsEachKnown};
@@ -12,7 +12,7 @@ use plan_base::{Placement, Snapshot, faded, least_from, slices_for};
 /// What a plan of at most 1,024 placements is worth.
 pub(crate) fn value_of(snapshot: &Snapshot, plan: &[Placement]) -> u64
     requires known { IsEachKnown snapshot.now plan.now }
-    requires few { length plan.now ≤ 1024 }
+    requires few { length plan.now ≤ most_pending }
     ensures { result ≡ value_of_plan snapshot.now plan.now }
 {
     let mut value = 0;

@@ -2,6 +2,7 @@
 use Rattle.std.proofs.Common.{◌≡◌, subst, refl, ℕ, ◌+◌, ◌*◌, ◌≤◌, Bool, true, false, cond, arith, Option, Some, None, Result, Ok, Err}
 use Rattle.std.specs.Option.{option_map_or}
 use Rattle.std.proofs.lemmas.Option.{same_Some}
+use Rattle.plan_base.specs.Limits.{most_grant}
 use Rattle.plan_base.specs.declared.claim.Claim.{Claim}
 use Rattle.plan_base.specs.declared.verdict.Verdict.{Verdict}
 use Rattle.site_model.specs.declared.changes.Change.TheVariants.{Close, Reopen}
@@ -22,7 +23,7 @@ use Rattle.desk_core.specs.Showing.{on_export, on_balances, on_show}
 use Rattle.desk_core.specs.Step.{step_unopened, step_by}
 use Rattle.desk_core.specs.Submitting.{on_submit}
 use Rattle.desk_core.specs.Timing.{on_clock, on_report}
-use Rattle.desk_accounts.specs.Balance.{Told, GrantTold, grant_in, is_granted, seconds_granted, most_grant}
+use Rattle.desk_accounts.specs.Balance.{Told, GrantTold, grant_in, is_granted, seconds_granted}
 
 -- what an entry grants isn't more than what the changes that it makes may grant
 abbrev pub Grows : Told → StateSeen → StateSeen → Type 0

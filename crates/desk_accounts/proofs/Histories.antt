@@ -6,6 +6,7 @@ use Rattle.std.specs.Option.{IfSome, option_to_list}
 use Rattle.std.proofs.lemmas.List.{append-nil, append_assoc, map-append}
 use Rattle.std.proofs.lemmas.List.Elements.{filter_map-append}
 use Rattle.std.proofs.lemmas.List.Sums.{fold_push, sum_by_push}
+use Rattle.plan_base.specs.Limits.{most_grant}
 use Rattle.plan_base.specs.declared.claim.Claim.{Claim}
 use Rattle.plan_base.specs.declared.parts.Parts.{Parts}
 use Rattle.plan_base.specs.Verdict.{IsCertified}
@@ -30,7 +31,7 @@ use Rattle.desk_core.specs.Publishing.{with_publication}
 use Rattle.desk_core.specs.Step.{IsSnapshotOf, step, balance_in, opened}
 use Rattle.desk_core.proofs.KeptPublishing.{snapshot_is}
 use Rattle.desk_core.proofs.Publications.{publication_keeps}
-use Rattle.desk_accounts.specs.Balance.{Told, told_by, GroupTold, group_told, groups_told, seconds_granted, most_grant, told_of, granted_told}
+use Rattle.desk_accounts.specs.Balance.{Told, told_by, GroupTold, group_told, groups_told, seconds_granted, told_of, granted_told}
 use Rattle.desk_accounts.specs.Balance.{all_granted, charged_told, refunded_told, balance_after}
 use Rattle.desk_accounts.specs.Covered.{IsCovered}
 use Rattle.desk_accounts.proofs.Known.{AreKnown, none_known}

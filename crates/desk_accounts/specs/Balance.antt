@@ -1,5 +1,5 @@
 -- Balances as the lines and the printed replies of a history tell them.
-use Rattle.std.specs.Prelude.{ℕ, ◌+◌, ◌-◌, ◌^◌, ◌==◌, Bool, true, false, if◌then◌else◌, List, [], ◌∷◌, map}
+use Rattle.std.specs.Prelude.{ℕ, ◌+◌, ◌-◌, ◌==◌, Bool, true, false, if◌then◌else◌, List, [], ◌∷◌, map}
 use Rattle.std.specs.Prelude.{find, zip, filter_map, flat_map, sum_by, Option, Some, None, Result, Ok, option_and_then}
 use Rattle.std.specs.List.{list_any}
 use Rattle.std.specs.Option.{option_map, option_map_or}
@@ -54,10 +54,6 @@ grant_told t = if is_granted t.reply then grant_in t.line else None
 -- the seconds that an entry grants, whichever account
 abbrev pub seconds_granted : Told → ℕ
 seconds_granted t = option_map_or (λ g. g.seconds) (grant_told t) 0
-
--- the most seconds of one grant
-abbrev pub most_grant : ℕ
-most_grant = 10 ^ 9
 
 -- whether an entry grants an account seconds
 abbrev pub grants_to : Key → Told → Bool

@@ -1,7 +1,7 @@
 -- What the replies of a history tell of its accounts.
 use Rattle.std.specs.Prelude.{◌≡◌, ◌≢◌, ℕ, ◌+◌, ◌*◌, ◌^◌, ◌<◌, ◌≤◌, List, [], ◌∷◌, ◌++◌, map, All, AllPairs, Any}
 use Rattle.std.specs.Prelude.{Option, Some, IfSome, IsSome, option_and_then}
-use Rattle.plan_base.specs.Limits.{most_version}
+use Rattle.plan_base.specs.Limits.{most_version, most_grant}
 use Rattle.plan_io.specs.declared.lines.ScriptLine.{ScriptLine}
 use Rattle.allocations.specs.declared.key.Key.{Key}
 use Rattle.allocations.specs.Key.{key_cmp}
@@ -14,7 +14,7 @@ use Rattle.desk_events.specs.declared.reply.Reply.TheVariants as reply
 use Rattle.desk_core.specs.Step.{balance_in}
 use Rattle.desk_core.specs.History.{IsLegal, replay}
 use Rattle.desk_core.specs.Kept.{IsDesk}
-use Rattle.desk_accounts.specs.Balance.{Told, GrantTold, told_by, grant_told, most_grant, told_of, granted_told, all_granted, charged_told}
+use Rattle.desk_accounts.specs.Balance.{Told, GrantTold, told_by, grant_told, told_of, granted_told, all_granted, charged_told}
 use Rattle.desk_accounts.specs.Balance.{GroupTold, groups_told, refunded_told, refunds_in, all_refunds, all_completed, balance_after}
 use Rattle.desk_accounts.specs.Covered.{IsCovered, held_at}
 

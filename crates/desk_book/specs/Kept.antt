@@ -1,6 +1,8 @@
 -- What is always so of a book.
 use Rattle.std.specs.Prelude.{◌≡◌, ℕ, ◌+◌, ◌≤◌, ◌<◌, ◌⊎◌, Bool, true, false, List, [], ◌∷◌, ◌++◌, length, sum, slice_index_or, Option, Some}
 use Rattle.std.specs.Option.{is_some}
+use Rattle.plan_base.specs.Limits.{most_callers}
+use Rattle.plan_io.specs.Limits.{most_input_lines}
 use Rattle.plan_base.specs.declared.taken.Taken.{Taken}
 use Rattle.plan_io.specs.declared.lines.ScriptLine.{ScriptLine}
 use Rattle.plan_json.specs.Ranges.{IsBetween}
@@ -36,9 +38,9 @@ pub record IsOpenTake (scripts : List (List ScriptLine)) (history : List EventEn
 -- the history is legal and leaves the state, its claims are bounded, and those of plans are planned, and the Takes are those of
 -- the callers' last entries
 pub record IsBook (b : BookSeen) : Type 0 where
-  pub callers : IsBetween 1 8 (length b.scripts)
+  pub callers : IsBetween 1 most_callers (length b.scripts)
   pub as_many : length b.takes ≡ length b.scripts
-  pub few : (caller : ℕ) → length (script_of b.scripts caller) ≤ 65536
+  pub few : (caller : ℕ) → length (script_of b.scripts caller) ≤ most_input_lines
   pub legal : IsLegal b.scripts b.history
   pub left : replay b.scripts b.history ≡ b.state
   pub claims : EachAfter (IsClaimEntry b.scripts) b.history
@@ -64,9 +66,9 @@ IsBehind s t = IsTakenOf s t ⊎ (t.snapshot.version < s.version)
 
 -- all that is known of a book as it is seen
 pub record IsSound (b : BookSeen) : Type 0 where
-  pub callers : IsBetween 1 8 (length b.scripts)
+  pub callers : IsBetween 1 most_callers (length b.scripts)
   pub as_many : length b.takes ≡ length b.scripts
-  pub few : (caller : ℕ) → length (script_of b.scripts caller) ≤ 65536
+  pub few : (caller : ℕ) → length (script_of b.scripts caller) ≤ most_input_lines
   pub kept : (longer : List (List ScriptLine)) → GoOn b.scripts longer → IsKept longer b.history b.state b.takes
   pub places : (caller : ℕ) → IsPlace (script_of b.scripts caller) (turns_of caller b.history) (done_of caller b.history) (is_some (take_of b.takes caller))
   pub behind : (caller : ℕ) (t : Taken) → take_of b.takes caller ≡ Some t → IsBehind b.state t

@@ -3,6 +3,8 @@
 ghost use Rattle.std.specs.Prelude.{◌≡◌, ◌<◌, ◌-◌, length, IfOk, OnOk, OnErr};
 ghost use Rattle.std.specs.Option.{option_copied};
 ghost use Rattle.std.specs.List.{slice_get};
+ghost use Rattle.plan_base.specs.Limits.{most_callers};
+ghost use Rattle.plan_io.specs.Limits.{most_input_lines};
 ghost use Rattle.plan_json.specs.Ranges.{IsBetween};
 ghost use Rattle.desk_core.specs.History.{script_of};
 ghost use Rattle.desk_book.specs.Seen.{empty_book, take_of, with_line};
@@ -63,7 +65,7 @@ impl Model for Book {
 impl Book {
     /// A book for so many callers, 1 to 8, who have sent nothing yet.
     pub fn new(alloc: Global, callers: u8) -> Result<Book, AllocError>
-        requires { IsBetween 1 8 callers }
+        requires { IsBetween 1 most_callers callers }
         ensures { IfOk result (λ book. book ≡ empty_book callers) }
     {
         let count = usize::from(callers);
@@ -134,7 +136,7 @@ impl Book {
     /// Adds a line at the end of a caller's script, which has fewer than 65,536 lines.
     pub fn push(&mut self, caller: u8, line: ScriptLine) -> Result<(), AllocError>
         requires caller { caller < length self.old.scripts }
-        requires room { length (script_of self.old.scripts caller) < 65536 }
+        requires room { length (script_of self.old.scripts caller) < most_input_lines }
         ensures ok { OnOk result (self.new ≡ with_line self.old caller line) }
         ensures err { OnErr result (self.new ≡ self.old) }
     {

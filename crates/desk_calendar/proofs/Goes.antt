@@ -8,7 +8,8 @@ use Rattle.plan_base.specs.declared.claim.Claim.{Claim}
 use Rattle.plan_base.specs.declared.number.TelescopeNo.{TelescopeNo}
 use Rattle.plan_base.specs.declared.span.Span.{Span}
 use Rattle.site_model.specs.declared.code.Code.{Code}
-use Rattle.site_model.specs.Limits.{most_telescopes, most_sites}
+use Rattle.plan_base.specs.Limits.{most_telescopes}
+use Rattle.site_model.specs.Limits.{most_sites}
 use Rattle.site_model.specs.Names.{is_named, numbered}
 use Rattle.site_model.specs.Network.{NetworkSeen, no_network}
 use Rattle.site_model.specs.Registry.{TelescopeSeen, codes_of}

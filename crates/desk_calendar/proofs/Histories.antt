@@ -12,7 +12,7 @@ use Rattle.interval_set.specs.Spans.{has}
 use Rattle.site_model.specs.declared.code.Code.{Code}
 use Rattle.site_model.specs.Calendar.{set_at}
 use Rattle.site_model.specs.Latest.{is_close}
-use Rattle.site_model.specs.Limits.{most_telescopes}
+use Rattle.plan_base.specs.Limits.{most_telescopes}
 use Rattle.site_model.specs.Network.{NetworkSeen, no_network}
 use Rattle.site_model.specs.Registry.{codes_of}
 use Rattle.desk_events.specs.declared.entry.EventEntry.{EventEntry}

@@ -17,7 +17,8 @@ use Rattle.site_model.specs.declared.fault.FullOf.TheVariants.{Telescopes, Sites
 use Rattle.site_model.specs.declared.fault.SiteFault.{SiteFault}
 use Rattle.site_model.specs.declared.fault.SiteFault.TheVariants.{Repeated, NoSuchInstrument, NoSuchSite}
 use Rattle.site_model.specs.Calendar.{with_night, is_sky, sky_refusal, with_sky}
-use Rattle.site_model.specs.Limits.{most_telescopes, most_sites, full}
+use Rattle.plan_base.specs.Limits.{most_telescopes}
+use Rattle.site_model.specs.Limits.{most_sites, full}
 use Rattle.site_model.specs.Names.{is_named, number_of, numbered, first_unnamed}
 use Rattle.site_model.specs.Network.{NetworkSeen, sky_key, site_refusal, visibility_refusal}
 use Rattle.site_model.specs.Registry.{RegistrySeen, TelescopeSeen, codes_of, is_coded, most_index, instrument_names, full_sites, telescope_refusal, with_target}

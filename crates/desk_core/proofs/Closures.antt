@@ -24,7 +24,8 @@ use Rattle.site_model.specs.declared.fault.SiteFault.{SiteFault}
 use Rattle.site_model.specs.declared.fault.SiteFault.TheVariants.{NoMemory}
 use Rattle.site_model.specs.Network.{NetworkSeen, ChangesClosures, IsClosureRefusal}
 use Rattle.site_model.specs.Calendar.{set_at, IsChanged, IsClosureLine, IsFullClosure}
-use Rattle.site_model.specs.Limits.{most_telescopes, most_closures}
+use Rattle.plan_base.specs.Limits.{most_telescopes}
+use Rattle.site_model.specs.Limits.{most_closures}
 use Rattle.site_model.specs.Names.{is_name, is_code}
 use Rattle.site_model.specs.Registry.{RegistrySeen, codes_of, InScope, scope_refusal}
 use Rattle.site_model.proofs.Numbered.{name_same}

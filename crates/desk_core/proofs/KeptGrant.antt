@@ -9,7 +9,8 @@ use Rattle.plan_base.specs.declared.number.Sec.{Sec}
 use Rattle.plan_json.specs.Moment.{last_moment}
 use Rattle.plan_base.specs.declared.span.Span.{Span}
 use Rattle.interval_set.specs.Spans.{has}
-use Rattle.site_model.specs.Limits.{most_telescopes, most_closures}
+use Rattle.plan_base.specs.Limits.{most_telescopes}
+use Rattle.site_model.specs.Limits.{most_closures}
 use Rattle.allocations.specs.declared.entry.Entry.{Entry}
 use Rattle.allocations.specs.declared.entry.Hold.{Hold}
 use Rattle.allocations.specs.declared.key.Key.{Key}

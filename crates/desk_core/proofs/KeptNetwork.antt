@@ -16,7 +16,8 @@ use Rattle.site_model.specs.declared.code.Scope.{Scope}
 use Rattle.site_model.specs.declared.fault.FullOf.TheVariants.{Telescopes}
 use Rattle.site_model.specs.declared.fault.SiteFault.TheVariants.{Repeated, NoSuchInstrument}
 use Rattle.site_model.specs.Calendar.{with_night, with_sky}
-use Rattle.site_model.specs.Limits.{most_telescopes, full}
+use Rattle.plan_base.specs.Limits.{most_telescopes}
+use Rattle.site_model.specs.Limits.{full}
 use Rattle.site_model.specs.Names.{is_named, number_of, numbered, first_unnamed}
 use Rattle.site_model.specs.Network.{NetworkSeen, sky_key}
 use Rattle.site_model.specs.Registry.{RegistrySeen, codes_of, is_coded, most_index, instrument_names, full_sites, telescope_refusal, with_target}

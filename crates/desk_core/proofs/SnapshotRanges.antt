@@ -18,7 +18,7 @@ use Rattle.site_model.specs.Names.{is_name, number_of}
 use Rattle.site_model.specs.Registry.{TelescopeSeen}
 use Rattle.site_model.proofs.Skies.{sky_few}
 use Rattle.plan_doc.specs.Ranges.{AreUpTo, HasMoments, IsTelescope, IsSky, IsRequest, IsGroup, AreParts}
-use Rattle.plan_doc.specs.Snapshot.{most_items}
+use Rattle.plan_doc.specs.Limits.{most_items}
 use Rattle.request_model.specs.Ranges.{IsWindow}
 use Rattle.desk_runs.specs.declared.group.Group.{Group}
 use Rattle.desk_runs.specs.declared.group.Request.{Request}

@@ -20,7 +20,8 @@ use Rattle.site_model.specs.Names.{number_of, numbered}
 use Rattle.site_model.specs.Registry.{TelescopeSeen}
 use Rattle.site_model.specs.Calendar.{set_at, sky_of, IsWithinLimits}
 use Rattle.site_model.specs.Network.{NetworkSeen}
-use Rattle.site_model.specs.Limits.{most_telescopes, most_sites, most_targets}
+use Rattle.plan_base.specs.Limits.{most_telescopes}
+use Rattle.site_model.specs.Limits.{most_sites, most_targets}
 use Rattle.desk_runs.specs.declared.group.Group.{Group}
 use Rattle.desk_runs.specs.declared.group.Request.{Request}
 use Rattle.desk_runs.specs.declared.observation.Observation.{Observation}

@@ -2,7 +2,7 @@
 use Rattle.std.specs.Prelude.{◌≡◌, ◌+◌, ◌-◌, ◌^◌, ◌≤◌, List, [], ◌∷◌, length, map, filter, filter_map}
 use Rattle.std.specs.Prelude.{slice_get, All, Option, Some, None, IfSome, if◌then◌else◌}
 use Rattle.std.specs.Option.{option_map, is_some}
-use Rattle.plan_base.specs.Limits.{most_seconds}
+use Rattle.plan_base.specs.Limits.{most_seconds, most_members}
 use Rattle.allocations.specs.Books.{Books, total_seconds}
 use Rattle.allocations.specs.Changes.{ipp_of, released, refunded}
 use Rattle.allocations.specs.Key.{key_cmp}
@@ -47,7 +47,7 @@ pub record IsToldAt (d : DeskSeen) (p : Submitted × (Group × Group)) (after : 
   pub before : slice_get d.progress.groups (after.number.0 - 1) ≡ Some p.1.0
   pub is : p.1.1 ≡ after
   pub count : length p.0.requests ≡ length after.requests
-  pub few : length after.requests ≤ 256
+  pub few : length after.requests ≤ most_members
   pub short : All (λ q. q.seconds ≤ most_seconds) after.requests
 
 -- what has to be so of the books: the group held so much, and its charge stands

@@ -2,7 +2,7 @@
 use Rattle.std.specs.Prelude.{◌≡◌, ℕ, ◌+◌, ◌*◌, ◌^◌, ◌<◌, ◌≤◌, true, IsTrue, List, ◌++◌, length, All, IfSome, Option, Some, None, sum_by, if◌then◌else◌, nat_lt}
 use Rattle.std.specs.List.{AllZip, zip}
 use Rattle.std.specs.Option.{option_map_or}
-use Rattle.plan_base.specs.Limits.{most_version, least_len, most_len, most_slices, most_quota, most_value, most_seconds, most_lanes, most_rounds, most_workers}
+use Rattle.plan_base.specs.Limits.{most_version, least_len, most_len, most_slices, most_quota, most_value, most_seconds, most_lanes, most_rounds, most_workers, most_telescopes, most_pending, most_percent, most_fade, most_configurations}
 use Rattle.plan_base.specs.Snapshot.{most_requests}
 use Rattle.plan_base.specs.Verdict.{IsCertified}
 use Rattle.plan_json.specs.Moment.{last_moment}
@@ -10,7 +10,7 @@ use Rattle.plan_json.specs.Ranges.{IsBetween, IsText}
 use Rattle.interval_set.specs.Spans.{has}
 use Rattle.request_model.specs.Ranges.{IsWindow, AreWindows, IsLocation, IsGroup}
 use Rattle.plan_base.specs.declared.span.Span.{Span}
-use Rattle.site_model.specs.Limits.{most_telescopes, most_closures}
+use Rattle.site_model.specs.Limits.{most_closures}
 use Rattle.allocations.specs.declared.entry.Hold.{Hold}
 use Rattle.allocations.specs.Books.{Books, GroupHolds, has_grant, total_seconds}
 use Rattle.allocations.specs.Refusals.{ipp_key}
@@ -19,7 +19,6 @@ use Rattle.desk_runs.specs.declared.group.Request.{Request}
 use Rattle.desk_runs.specs.States.{is_open}
 use Rattle.desk_runs.specs.Owners.{pending_count}
 use Rattle.desk_runs.specs.Sound.{IsSound, IsObservedAtMostOnce}
-use Rattle.desk_core.specs.Limits.{most_pending}
 use Rattle.desk_core.specs.declared.desk.Opening.{Opening}
 use Rattle.desk_core.specs.declared.desk.Submitted.{Submitted}
 use Rattle.desk_core.specs.declared.desk.Wanted.{Wanted}
@@ -45,11 +44,11 @@ pub record IsOpenedWith (o : Opening) : Type 0 where
 pub record IsWanted (targets : ℕ) (q : Wanted) : Type 0 where
   pub place : IsLocation q.location
   pub type : IsText q.instrument
-  pub least : q.threshold ≤ 100
-  pub lost : q.fade ≤ 1000
+  pub least : q.threshold ≤ most_percent
+  pub lost : q.fade ≤ most_fade
   pub worth : IsBetween 1 most_value q.value
   pub times : AreWindows q.windows
-  pub few : length q.targets ≤ 16
+  pub few : length q.targets ≤ most_configurations
   pub known : All (λ t. t.0 < targets) q.targets
 
 -- a request lasts a second to a day

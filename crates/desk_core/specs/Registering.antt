@@ -3,7 +3,7 @@ use Rattle.std.specs.Prelude.{min, true, false, ℕ, nat_lt, Bool, not, ◌&&◌
 use Rattle.std.specs.List.{list_any}
 use Rattle.std.specs.Option.{option_or}
 use Rattle.std.proofs.Math.Nat.{min-le_right}
-use Rattle.plan_base.specs.Limits.{most_ms}
+use Rattle.plan_base.specs.Limits.{most_ms, most_accounts}
 use Rattle.plan_base.specs.declared.span.Span.{Span}
 use Rattle.interval_set.specs.Spans.{has}
 use Rattle.site_model.specs.declared.changes.Change.{Change}
@@ -27,7 +27,6 @@ use Rattle.desk_events.specs.declared.refusal.Refusal.{Refusal}
 use Rattle.desk_events.specs.declared.refusal.Refusal.TheVariants.{Full, NoSuchInstrument}
 use Rattle.desk_events.specs.declared.reply.Reply.{Reply}
 use Rattle.desk_events.specs.declared.reply.Reply.TheVariants as reply
-use Rattle.desk_core.specs.Limits.{most_accounts}
 use Rattle.desk_core.specs.Desk.{DeskSeen, Decision}
 use Rattle.desk_core.specs.Refusals.{refusal_of_site}
 use Rattle.desk_core.specs.Seconds.{spans_below, spans_of, end_of_time}

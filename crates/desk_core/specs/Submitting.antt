@@ -3,6 +3,7 @@ use Rattle.std.specs.Prelude.{ℕ, ◌+◌, ◌*◌, nat_lt, ◌&&◌, List, [],
 use Rattle.std.specs.Int.{div_ceil}
 use Rattle.std.specs.List.{zip}
 use Rattle.std.specs.Option.{option_or}
+use Rattle.plan_base.specs.Limits.{most_pending}
 use Rattle.plan_base.specs.declared.number.RequestNo.{RequestNo}
 use Rattle.plan_base.specs.declared.parts.Op.{Op}
 use Rattle.plan_base.specs.declared.parts.Op.TheVariants.{Many}
@@ -24,7 +25,6 @@ use Rattle.desk_core.specs.declared.desk.Submitted.{Submitted}
 use Rattle.desk_core.specs.declared.desk.Wanted.{Wanted}
 use Rattle.desk_core.specs.Desk.{DeskSeen, Decision}
 use Rattle.desk_core.specs.Refusals.{refusal_of_ledger}
-use Rattle.desk_core.specs.Limits.{most_pending}
 use Rattle.desk_core.specs.Holds.{needs_of, holds_of, ipp_charge}
 use Rattle.desk_core.specs.Targets.{target_names, all_numbered, with_targets, targets_of}
 use Rattle.plan_base.specs.Operators.{is_single}

@@ -1,7 +1,7 @@
 // What becomes of what open groups hold, once they have gone on.
 
 ghost use Rattle.std.specs.Prelude.{◌≡◌, ◌+◌, ◌≤◌, ◌++◌, ◌∷◌, [], if◌then◌else◌, None, All, IfOk, OnOk, fold, length};
-ghost use Rattle.plan_base.specs.Limits.{most_seconds};
+ghost use Rattle.plan_base.specs.Limits.{most_seconds, most_members};
 ghost use Rattle.desk_core.specs.Endings.{ending_of, ended, CanEnd, CanEndAll, refunds_in};
 ghost use Rattle.desk_core.specs.Holds.{is_refunded};
 ghost use Rattle.desk_core.specs.Kept.{standing};
@@ -70,7 +70,7 @@ pub(crate) fn find_ending(
     after: &Group,
 ) -> Result<Ending, AllocError>
     requires count { length submitted.now.requests ≡ length after.now.requests }
-    requires few { length after.now.requests ≤ 256 }
+    requires few { length after.now.requests ≤ most_members }
     requires short { All (λ q. q.seconds ≤ most_seconds) after.now.requests }
     ensures { IfOk result (λ ending. ending ≡ ending_of (submitted.now, (before.now, after.now))) }
 {

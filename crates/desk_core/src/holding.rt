@@ -2,7 +2,7 @@
 
 ghost use Rattle.std.specs.Prelude.{◌≡◌, ◌++◌, ◌∷◌, [], ◌≤◌, ◌<◌, ◌^◌, if◌then◌else◌, max, length, All, IfOk, OnOk};
 ghost use Rattle.std.specs.List.{zip};
-ghost use Rattle.plan_base.specs.Limits.{most_seconds};
+ghost use Rattle.plan_base.specs.Limits.{most_seconds, most_members};
 ghost use Rattle.allocations.specs.Key.{is_key};
 ghost use Rattle.allocations.specs.Books.{held_in};
 ghost use Rattle.allocations.specs.Ledger.{seconds_of_holds};
@@ -157,7 +157,7 @@ pub(crate) fn held(
     wanted: &[Wanted],
 ) -> Result<Vec<Hold>, AllocError>
     requires count { length wanted.now ≡ length group.now.requests }
-    requires few { length group.now.requests ≤ 256 }
+    requires few { length group.now.requests ≤ most_members }
     requires short { All (λ q. q.seconds ≤ most_seconds) group.now.requests }
     ensures { IfOk result (λ holds. holds.items ≡ holds_of group.now.op (needs_of document.now (zip group.now.requests wanted.now))) }
 {

@@ -1,6 +1,7 @@
 // The lines that say what there is: instruments, telescopes, nights, skies, closures and grants.
 
 ghost use Rattle.std.specs.Prelude.{◌≡◌, ◌≤◌, not};
+ghost use Rattle.plan_base.specs.Limits.{most_grant};
 ghost use Rattle.site_model.specs.declared.changes.Change.TheVariants.{Close, Reopen};
 ghost use Rattle.desk_events.specs.Ranges.{AreSpans};
 ghost use Rattle.desk_events.specs.declared.reply.Reply.TheVariants.{Closed, Reopened};
@@ -109,7 +110,7 @@ impl Desk {
 
     /// `grant`: a time account gets seconds.
     pub(crate) fn grant(&mut self, key: &Key, seconds: u64) -> Result<Reply, CommandFault>
-        requires seconds { seconds ≤ 1000000000 }
+        requires seconds { seconds ≤ most_grant }
         requires roomy { IsRoomy (seen self.old).books }
         ensures { Decides (on_grant (seen self.old) key.now seconds) (seen self.old) (seen self.new) result }
     {

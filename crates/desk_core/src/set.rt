@@ -1,7 +1,7 @@
 // The spans of a line as a set of seconds.
 
 ghost use Rattle.std.specs.Prelude.{◌≡◌, ◌≤◌, IfOk, length};
-ghost use Rattle.site_model.specs.Limits.{most_spans};
+ghost use Rattle.plan_base.specs.Limits.{most_spans};
 ghost use Rattle.desk_events.specs.Ranges.{AreSpans};
 ghost use Rattle.desk_core.specs.Seconds.{spans_of};
 

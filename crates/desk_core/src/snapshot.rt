@@ -1,7 +1,7 @@
 // The snapshot of the desk, of which a plan is made.
 
 ghost use Rattle.std.specs.Prelude.{◌≡◌, ◌≤◌, [], Some, IfOk, OnOk, length, map};
-ghost use Rattle.plan_base.specs.Limits.{most_version};
+ghost use Rattle.plan_base.specs.Limits.{most_version, most_pending};
 ghost use Rattle.plan_base.specs.Snapshot.{IsSnapshot};
 ghost use Rattle.site_model.specs.Names.{number_of, numbered};
 ghost use Rattle.desk_runs.specs.declared.group.Group.{Group};
@@ -121,7 +121,7 @@ impl Desk {
 
     /// The place of a proposal's quota, where the desk has one.
     fn quota_place(&self, proposals: &IndexSet<Name>, proposal: &Name) -> Option<u16>
-        requires few { length proposals.now.keys ≤ 1024 }
+        requires few { length proposals.now.keys ≤ most_pending }
         requires proposals { proposals.now.keys ≡ proposals_of (seen self.now) }
         ensures { result ≡ quota_place (seen self.now) proposal.now self.now.opening.quota }
     {
@@ -196,7 +196,7 @@ fn add_name(names: &mut IndexSet<Name>, name: &Name) -> Result<(), AllocError>
 
 /// The place of a name.
 fn place_of(names: &IndexSet<Name>, name: &Name) -> Option<u16>
-    requires { length names.now.keys ≤ 1024 }
+    requires { length names.now.keys ≤ most_pending }
     ensures { result ≡ number_of names.now.keys name.now }
 {
     let place = names.get_index_of(name)?;

@@ -2,7 +2,7 @@
 
 ghost use Rattle.std.specs.Prelude.{◌≡◌, ◌≢◌, ◌+◌, ◌≤◌, ◌<◌, ◌^◌, ◌++◌, ◌∷◌, [], nat_lt, ◌&&◌};
 ghost use Rattle.std.specs.Prelude.{if◌then◌else◌, length, map, All, true, false, Ok, IfOk, IfErr, OnOk, OnErr, vec_len, vec_capacity};
-ghost use Rattle.plan_base.specs.Limits.{most_version, most_seconds};
+ghost use Rattle.plan_base.specs.Limits.{most_version, most_seconds, most_pending, most_members};
 ghost use Rattle.plan_base.specs.declared.parts.Op.TheVariants.{Many};
 ghost use Rattle.site_model.specs.Limits.{most_targets};
 ghost use Rattle.request_model.specs.Ranges.{IsGroup};
@@ -14,7 +14,6 @@ ghost use Rattle.desk_events.specs.declared.refusal.FullOf.TheVariants.{Requests
 ghost use Rattle.desk_events.specs.declared.refusal.Refusal.TheVariants.{Full};
 ghost use Rattle.desk_core.specs.Desk.{DeskSeen, seen, Decides};
 ghost use Rattle.desk_core.specs.Kept.{IsDesk, IsRoomy};
-ghost use Rattle.desk_core.specs.Limits.{most_pending};
 ghost use Rattle.plan_base.specs.Operators.{is_single};
 ghost use Rattle.desk_core.specs.Asking.{last_of, seen_made};
 ghost use Rattle.desk_core.specs.Submitting.{value_of, wanted_of, asks_of, targets_with, on_submit, on_made};
@@ -27,13 +26,10 @@ use crate::targets::{number_targets, targets_of};
 use allocations::Hold;
 use desk_events::{CommandFault, FullOf, Refusal, Reply};
 use desk_runs::{Ask, Group, Request};
-use plan_base::{GroupNo, ListOf, Op, RequestNo, Sec, Span};
+use plan_base::{GroupNo, ListOf, MOST_PENDING, Op, RequestNo, Sec, Span};
 use request_model::GroupDoc;
 use site_model::Network;
 use std::alloc::{AllocError, Global};
-
-/// The most pending requests of a desk.
-const MOST_PENDING: usize = 1_024;
 
 /// A group that is to be booked.
 #[derive(Drop)]
@@ -173,7 +169,7 @@ impl NewGroup {
         group: &Group,
     ) -> Result<NewGroup, AllocError>
         requires count { length wanted ≡ length group.now.requests }
-        requires few { length group.now.requests ≤ 256 }
+        requires few { length group.now.requests ≤ most_members }
         requires short { All (λ q. q.seconds ≤ most_seconds) group.now.requests }
         ensures { IfOk result (λ new. new ≡ new_group document wanted group.now) }
     {
@@ -211,7 +207,7 @@ impl Desk {
     ) -> Result<NewGroup, AllocError>
         requires there { (1 ≤ number.0) × (number.0 ≤ length self.now.runs.groups) }
         requires count { length wanted ≡ length (group_of self.now.runs.groups number).requests }
-        requires few { length (group_of self.now.runs.groups number).requests ≤ 256 }
+        requires few { length (group_of self.now.runs.groups number).requests ≤ most_members }
         requires short { All (λ q. q.seconds ≤ most_seconds) (group_of self.now.runs.groups number).requests }
         ensures { IfOk result (λ new. new ≡ new_group document wanted (group_of self.now.runs.groups number)) }
     {

@@ -1,6 +1,6 @@
 -- The commands: for each the members after `do`, in the order in which they are read, with their kinds and ranges.
 use Rattle.std.specs.Prelude.{is_some, if◌then◌else◌, Result, Ok}
-use Rattle.plan_base.specs.Limits.{most_version, least_len, most_len, most_slices, most_quota, most_seconds, most_lanes, most_rounds, most_workers, most_ms}
+use Rattle.plan_base.specs.Limits.{most_version, least_len, most_len, most_slices, most_quota, most_seconds, most_lanes, most_rounds, most_workers, most_ms, most_carried, most_grant, most_percent, most_number}
 use Rattle.serde_json.specs.Data.{Members}
 use Rattle.plan_base.specs.declared.number.GroupNo.{GroupNo}
 use Rattle.plan_json.specs.declared.member.Member.TheVariants as member
@@ -53,7 +53,7 @@ telescope_of ms =
     member_of text_in ms member.Enclosure >>= λ enclosure.
     member_of text_in ms member.Telescope >>= λ telescope.
     member_of text_in ms member.Class >>= λ class.
-    each_of text_in 1 16 ms member.Instruments >>= λ instruments.
+    each_of text_in 1 most_carried ms member.Instruments >>= λ instruments.
     Ok (command.Telescope site enclosure telescope class instruments)
 
 -- `site`, `spans`
@@ -105,7 +105,7 @@ reopen_of ms =
 abbrev pub grant_of : Members → Result Command JsonFault
 grant_of ms =
     key_of ms >>= λ key.
-    member_of (number_in 1 1000000000) ms member.Seconds >>= λ seconds.
+    member_of (number_in 1 most_grant) ms member.Seconds >>= λ seconds.
     Ok (command.Grant key seconds)
 
 -- `group`: a request group
@@ -118,7 +118,7 @@ submit_of ms = document_in ms >>= λ group. Ok (command.Submit group)
 
 -- `group_number`, whether or not a group has it
 abbrev pub group_number_of : Members → Result GroupNo JsonFault
-group_number_of ms = member_of (number_in 0 4294967295) ms member.GroupNumber >>= λ n. Ok (record { 0 = n })
+group_number_of ms = member_of (number_in 0 most_number) ms member.GroupNumber >>= λ n. Ok (record { 0 = n })
 
 -- `group_number`, that of the group to be replaced, then `group`, the one in its place
 abbrev pub amend_of : Members → Result Command GroupFault
@@ -138,8 +138,8 @@ clock_of ms = member_of moment_in ms member.At >>= λ at. Ok (command.Clock at)
 -- `request`, by its number, `percent`, and `used` in seconds
 abbrev pub report_of : Members → Result Command JsonFault
 report_of ms =
-    member_of (number_in 0 4294967295) ms member.Request >>= λ request.
-    member_of (number_in 0 100) ms member.Percent >>= λ percent.
+    member_of (number_in 0 most_number) ms member.Request >>= λ request.
+    member_of (number_in 0 most_percent) ms member.Percent >>= λ percent.
     member_of (number_in 0 most_seconds) ms member.Used >>= λ used.
     Ok (command.Report (record { 0 = request }) percent used)
 

@@ -1,6 +1,6 @@
 -- The ranges of what is read: each command's texts, numbers, spans and counts.
 use Rattle.std.specs.Prelude.{◌≡◌, ℕ, ◌≤◌, List, [], length, All, Option, IfSome, ⊤}
-use Rattle.plan_base.specs.Limits.{most_version, least_len, most_len, most_slices, most_quota, most_seconds, most_lanes, most_rounds, most_workers, most_ms}
+use Rattle.plan_base.specs.Limits.{most_version, least_len, most_len, most_slices, most_quota, most_seconds, most_lanes, most_rounds, most_workers, most_ms, most_carried, most_spans, most_grant, most_percent}
 use Rattle.plan_base.specs.declared.claim.Claim.{Claim}
 use Rattle.plan_base.specs.declared.number.Sec.{Sec}
 use Rattle.plan_base.specs.declared.span.Span.{Span}
@@ -41,12 +41,12 @@ pub record IsTelescope (site enclosure telescope class : List ℕ) (instruments 
   pub in_enclosure : IsText enclosure
   pub code : IsText telescope
   pub of_class : IsText class
-  pub count : IsBetween 1 16 (length instruments)
+  pub count : IsBetween 1 most_carried (length instruments)
   pub types : All IsText instruments
 
 -- at most 512, each with a second
 pub record AreSpans (spans : List Span) : Type 0 where
-  pub count : length spans ≤ 512
+  pub count : length spans ≤ most_spans
   pub each : All IsWindow spans
 
 -- the site's name has 1 to 128 bytes, and there are at most 512 spans, each with a second, in any order
@@ -91,11 +91,11 @@ pub record IsKey (key : Key) : Type 0 where
 -- the account's key is in its range, and it gets 1 to 10^9 seconds
 pub record IsGrant (key : Key) (seconds : ℕ) : Type 0 where
   pub to : IsKey key
-  pub amount : IsBetween 1 1000000000 seconds
+  pub amount : IsBetween 1 most_grant seconds
 
 -- at most 100 percent were taken, in at most 86,400 seconds
 pub record IsReport (percent used : ℕ) : Type 0 where
-  pub part : percent ≤ 100
+  pub part : percent ≤ most_percent
   pub time : used ≤ most_seconds
 
 -- a version that a desk may have, and a claim that a document allows

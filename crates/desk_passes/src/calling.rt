@@ -1,6 +1,7 @@
 // The calls of a pass.
 
 ghost use Rattle.std.specs.Prelude.{◌≡◌, ◌<◌, ℕ, [], ◌∷◌, length, Some, None, IfOk, OnOk, OnErr};
+ghost use Rattle.plan_io.specs.Limits.{most_input_lines};
 ghost use Rattle.desk_events.specs.declared.entry.EventEntry.{EventEntry};
 ghost use Rattle.desk_book.specs.Seen.{take_of};
 ghost use Rattle.desk_book.specs.Doing.{IsPublished as IsBookPublished};
@@ -146,7 +147,7 @@ impl SharedDesk {
     ) -> Result<CallAnswer, AllocError>
         requires desk { IsPassOf self.now pass.old }
         requires shut { (view pass.old).take ≡ None }
-        requires room { lines_done (view pass.old).own < 65536 }
+        requires room { lines_done (view pass.old).own < most_input_lines }
         ensures desk { IsPassOf self.now pass.new }
         ensures caller { (view pass.new).caller ≡ (view pass.old).caller }
         ensures ok { IfOk result (λ answer. IsCalled (view pass.old) line answer (view pass.new)) }

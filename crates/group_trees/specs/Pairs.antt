@@ -1,7 +1,7 @@
 -- The two numbers of a node: the greatest sum over all choices, and that over the choices that aren't empty.
 use Rattle.std.specs.Prelude.{◌≡◌, ◌≢◌, ℕ, ◌≤◌, ◌*◌, ℤ, pos, neg_ℤ, ◌+ℤ◌, ◌≤ℤ◌, ◌⊎◌, true, List, [], length, All}
 use Rattle.plan_base.specs.declared.parts.Parts.{Parts}
-use Rattle.plan_base.specs.Limits.{most_net_price}
+use Rattle.plan_base.specs.Limits.{most_net_price, most_pending}
 use Rattle.plan_base.specs.Requests.{IsKnown}
 use Rattle.group_trees.specs.Trees.{Node, Nodes, is_full, are_full}
 use Rattle.group_trees.specs.Choices.{leaves, all_leaves}
@@ -19,7 +19,7 @@ pub record IsPair (P : List ℕ → Type 0) (c : ℕ → ℤ) (x : Greatest) : T
 
 -- no sum over 1,024 leaves is greater
 abbrev pub most_sum : ℕ
-most_sum = 1024 * most_net_price
+most_sum = most_pending * most_net_price
 
 -- the number lies from minus the greatest sum to the greatest sum
 abbrev pub IsSum : ℤ → Type 0
@@ -40,11 +40,11 @@ pub record IsJoined (first rest x : Greatest) : Type 0 where
 -- the leaves are requests, at most 1,024, and each node has children
 pub record IsSound (s : Parts) (t : Node) : Type 0 where
   pub known : All (IsKnown s) (leaves t)
-  pub few : length (leaves t) ≤ 1024
+  pub few : length (leaves t) ≤ most_pending
   pub full : is_full t ≡ true
 
 -- the same of several nodes: all their leaves are requests, at most 1,024 together, and each node has children
 pub record AreSound (s : Parts) (ts : Nodes) : Type 0 where
   pub known : All (IsKnown s) (all_leaves ts)
-  pub few : length (all_leaves ts) ≤ 1024
+  pub few : length (all_leaves ts) ≤ most_pending
   pub full : are_full ts ≡ true

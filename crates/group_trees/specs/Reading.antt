@@ -2,6 +2,7 @@
 use Rattle.std.specs.Prelude.{ℕ, nat_le, max, List, [], ◌∷◌, length, is_some, if◌then◌else◌, Result, Ok, Err}
 use Rattle.std.specs.Ordering.{nat_cmp, match_ordering}
 use Rattle.std.specs.Cmp.Lexicographic.{slice_cmp}
+use Rattle.plan_base.specs.Limits.{most_number}
 use Rattle.serde_json.specs.Data.{Data, null, boolean, number, string, array, object, Items, no_items, item, Members, no_members, member, depth}
 use Rattle.plan_base.specs.declared.parts.Op.{Op}
 use Rattle.plan_base.specs.declared.parts.Op.TheVariants.{Single, Many, OneOf, And}
@@ -19,6 +20,14 @@ use Rattle.plan_json.specs.Elements.{each_of}
 use Rattle.group_trees.specs.declared.branch.Branch.{Branch}
 use Rattle.group_trees.specs.declared.branch.Branch.TheVariants as branch
 use Rattle.group_trees.specs.Trees.{Node, leaf, many, one_of, all_of, Nodes, none, and_then, nodes_of}
+
+-- the most children of a node that is read
+abbrev pub most_children : ℕ
+most_children = 32
+
+-- the most trees of a document
+abbrev pub most_trees : ℕ
+most_trees = 1024
 
 -- the kind of node, which is no SINGLE
 abbrev pub branch_of : Member → Op → Result Branch JsonFault
@@ -40,7 +49,7 @@ grown branch.And ts = all_of ts
 -- the tree that an object is, whose `children` are read as these: `leaf` is read where it is there, and else `operator`, then `children`
 abbrev pub tree_with : Members → Result Nodes JsonFault → Result Node JsonFault
 tree_with ms children =
-    if is_some (value_of ms key.Leaf) then result_map leaf (member_of (number_in 0 4294967295) ms key.Leaf)
+    if is_some (value_of ms key.Leaf) then result_map leaf (member_of (number_in 0 most_number) ms key.Leaf)
     else (member_of branch_in ms key.Operator >>= λ kind. result_map (grown kind) children)
 
 abbrev mutual
@@ -64,7 +73,7 @@ abbrev mutual
   children_in (boolean b) = Err (WrongKind key.Children)
   children_in (number n) = Err (WrongKind key.Children)
   children_in (string s) = Err (WrongKind key.Children)
-  children_in (array ds) = if nat_le (length (elements ds)) 32 then nodes_in ds else Err (OutOfRange key.Children)
+  children_in (array ds) = if nat_le (length (elements ds)) most_children then nodes_in ds else Err (OutOfRange key.Children)
   children_in (object ms) = Err (WrongKind key.Children)
 
   -- the nodes that the items are, each an element of `children`
@@ -79,12 +88,12 @@ tree_of ms = tree_with ms (children_under ms)
 -- the same by the elements of the list of children
 abbrev pub tree_listed : Members → Result Node JsonFault
 tree_listed ms =
-    if is_some (value_of ms key.Leaf) then result_map leaf (member_of (number_in 0 4294967295) ms key.Leaf)
-    else (member_of branch_in ms key.Operator >>= λ kind. each_of tree_in 0 32 ms key.Children >>= λ ts. Ok (grown kind (nodes_of ts)))
+    if is_some (value_of ms key.Leaf) then result_map leaf (member_of (number_in 0 most_number) ms key.Leaf)
+    else (member_of branch_in ms key.Operator >>= λ kind. each_of tree_in 0 most_children ms key.Children >>= λ ts. Ok (grown kind (nodes_of ts)))
 
 -- the trees that a document has: `trees`, a list of at most 1,024
 abbrev pub trees_given : Members → Result (List Node) JsonFault
-trees_given ms = each_of tree_in 0 1024 ms key.Trees
+trees_given ms = each_of tree_in 0 most_trees ms key.Trees
 
 -- how deep the deepest of the values is
 abbrev pub deepest : List Data → ℕ

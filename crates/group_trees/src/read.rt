@@ -8,7 +8,7 @@ ghost use Rattle.plan_json.specs.Object.{object_in};
 ghost use Rattle.plan_json.specs.Elements.{each_of};
 ghost use Rattle.plan_json.specs.Shown.{members_of, elements_of, element_of, named_by};
 ghost use Rattle.group_trees.specs.Trees.{seen, trees_seen};
-ghost use Rattle.group_trees.specs.Reading.{tree_in, tree_listed, trees_given};
+ghost use Rattle.group_trees.specs.Reading.{tree_in, tree_listed, trees_given, most_children};
 
 use crate::branch::{grown, read_branch};
 use crate::tree::Tree;
@@ -40,8 +40,8 @@ fn read_tree(alloc: Global, doc: &Doc) -> Result<Tree, JsonFault>
 /// The trees that the member `children` is.
 #[cycle(read)]
 fn read_children(alloc: Global, doc: &Doc) -> Result<Vec<Tree>, JsonFault>
-    ensures value { IfOk result (λ ts. each_of tree_in 0 32 (members_of doc.now) key.Children ≡ Ok (trees_seen ts.items)) }
-    ensures fault { IfErr result (λ e. e ≢ NoMemory → each_of tree_in 0 32 (members_of doc.now) key.Children ≡ Err e) }
+    ensures value { IfOk result (λ ts. each_of tree_in 0 most_children (members_of doc.now) key.Children ≡ Ok (trees_seen ts.items)) }
+    ensures fault { IfErr result (λ e. e ≢ NoMemory → each_of tree_in 0 most_children (members_of doc.now) key.Children ≡ Err e) }
 {
     let children = doc.list(Member::Children, 0, MOST_CHILDREN)?;
     read_all(alloc, &children)

@@ -2,7 +2,7 @@
 
 ghost use Rattle.std.specs.Prelude.{◌≡◌, ◌<◌, length, All, None, IfOk, SomeIff};
 ghost use Rattle.plan_base.specs.Requests.{listed, place_of, IsKnown};
-ghost use Rattle.groups.specs.Places.{AreNotes, ArePlaces};
+ghost use Rattle.groups.specs.Places.{AreNotes, ArePlaces, remainders};
 
 use plan_base::{RequestNo, Snapshot};
 use std::alloc::{AllocError, Global};
@@ -68,7 +68,7 @@ impl Places {
 
 /// Nothing noted for any remainder.
 fn no_notes(alloc: Global) -> Result<Vec<Option<Note>>, AllocError>
-    ensures count { IfOk result (λ noted. length noted.items ≡ 4096) }
+    ensures count { IfOk result (λ noted. length noted.items ≡ remainders) }
     ensures none { IfOk result (λ noted. All (λ note. note ≡ None) noted.items) }
 {
     let mut noted = Vec::with_capacity(alloc, REMAINDERS)?;

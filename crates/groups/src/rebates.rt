@@ -1,6 +1,7 @@
 // What a group gives at net prices, and which of its requests it takes.
 
 ghost use Rattle.std.specs.Prelude.{◌≡◌, ◌<◌, ◌≤◌, ℕ, ℤ, pos, ◌≤ℤ◌, List, length, slice_index, All};
+ghost use Rattle.plan_base.specs.Limits.{most_members};
 ghost use Rattle.plan_base.specs.Requests.{listed, members};
 ghost use Rattle.plan_base.specs.Bound.{price, net_price, IsRebate};
 ghost use Rattle.plan_base.specs.Round.{is_taken};
@@ -51,7 +52,7 @@ fn prices_of_group<'a>(snapshot: &Snapshot, group: usize, prices: &'a Prices) ->
     requires range { All IsNetInRange prices.now.0 }
     ensures value { result.now ≡ group_prices snapshot.now prices.now.0 group }
     ensures range { All IsNetInRange result.now }
-    ensures few { length result.now ≤ 256 }
+    ensures few { length result.now ≤ most_members }
 {
     let count = member_count(snapshot, group);
     let first = first_place(snapshot, group);
@@ -64,7 +65,7 @@ pub fn member_count(snapshot: &Snapshot, group: usize) -> usize
     requires { group < length snapshot.now.groups }
     ensures value { result ≡ length (members snapshot.now group) }
     ensures some { 0 < result }
-    ensures few { result ≤ 256 }
+    ensures few { result ≤ most_members }
 {
     snapshot.parts().groups.as_slice()[group].requests.len()
 }

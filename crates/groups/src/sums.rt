@@ -1,13 +1,14 @@
 // Sums of a group's prices, and their greatest.
 
 ghost use Rattle.std.specs.Prelude.{◌≡◌, ◌≤◌, length, All};
+ghost use Rattle.plan_base.specs.Limits.{most_members};
 ghost use Rattle.plan_base.specs.NetPrices.{IsNetInRange, positive, positive_sum, price_sum, IsGreatestPrice};
 
 use plan_base::{Sum, larger};
 
 /// The sum of at most 256 prices.
 pub(crate) fn price_sum(prices: &[i64]) -> i64
-    requires few { length prices.now ≤ 256 }
+    requires few { length prices.now ≤ most_members }
     requires range { All IsNetInRange prices.now }
     ensures { result ≡ price_sum prices.now }
 {
@@ -20,7 +21,7 @@ pub(crate) fn price_sum(prices: &[i64]) -> i64
 
 /// The sum of those of at most 256 prices that are above 0.
 pub(crate) fn positive_sum(prices: &[i64]) -> i64
-    requires few { length prices.now ≤ 256 }
+    requires few { length prices.now ≤ most_members }
     requires range { All IsNetInRange prices.now }
     ensures { result ≡ positive_sum prices.now }
 {

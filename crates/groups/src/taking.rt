@@ -2,6 +2,7 @@
 
 ghost use Rattle.std.specs.Prelude.{◌≡◌, ◌≤◌, ◌<◌, ℕ, pos, int_lt, length, slice_index_or};
 ghost use Rattle.std.specs.List.{IsFirstBest};
+ghost use Rattle.plan_base.specs.Limits.{most_members};
 ghost use Rattle.plan_base.specs.NetPrices.{price_sum};
 ghost use Rattle.groups.specs.Takings.{takes_at, takes_by};
 
@@ -24,7 +25,7 @@ impl Taking {
     /// requests where the sum of their prices is above 0. It passes over the prices once.
     pub fn at(op: Op, prices: &[i64]) -> Taking
         requires some { 0 < length prices.now }
-        requires few { length prices.now ≤ 256 }
+        requires few { length prices.now ≤ most_members }
         ensures { (i : ℕ) → i < length prices.now → takes_by result (slice_index_or prices.now i (pos 0)) i ≡ takes_at op prices.now i }
     {
         match op {
@@ -68,7 +69,7 @@ struct Sum {
 
 /// The sum of at most 256 prices of any size.
 fn wide_sum(prices: &[i64]) -> i128
-    requires few { length prices.now ≤ 256 }
+    requires few { length prices.now ≤ most_members }
     ensures { result ≡ price_sum prices.now }
 {
     let mut sum = Sum { value: 0 };

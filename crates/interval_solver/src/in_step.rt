@@ -1,6 +1,7 @@
 // The bests of a telescope at several lists of prices at once.
 
 ghost use Rattle.std.specs.Prelude.{◌≡◌, ℕ, ◌≤◌, ◌<◌, ◌+◌, length, All};
+ghost use Rattle.interval_solver.specs.Limits.{most_at_once};
 ghost use Rattle.plan_base.specs.Requests.{listed};
 ghost use Rattle.plan_base.specs.Starts.{IsPossibleStart};
 ghost use Rattle.plan_base.specs.Verdict.{IsPriceInRange};
@@ -29,7 +30,7 @@ impl<'a> Rows<'a> {
         table: &mut [[i64; L]],
         uses: &mut [Uses<'_>],
     ) -> [i64; L]
-        requires lanes { (1 ≤ L) × (L ≤ 64) }
+        requires lanes { (1 ≤ L) × (L ≤ most_at_once) }
         requires count { length prices.now ≡ length (listed self.now.snapshot) }
         requires range { All (IsForLanes L IsPriceInRange) prices.now }
         requires entries { length table.old ≡ self.now.snapshot.slices + 1 }

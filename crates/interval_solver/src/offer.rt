@@ -1,7 +1,7 @@
 // What a request offers at each slice.
 
 ghost use Rattle.std.specs.Prelude.{◌≡◌, ◌≤◌, All};
-ghost use Rattle.plan_base.specs.Limits.{most_seconds, most_value, least_len, most_len};
+ghost use Rattle.plan_base.specs.Limits.{most_seconds, most_value, least_len, most_len, most_pending, most_fade};
 ghost use Rattle.plan_base.specs.Snapshot.{IsMoment};
 ghost use Rattle.interval_solver.specs.Offers.{IsOfferRange, IsOffer, offer_worth};
 
@@ -26,10 +26,10 @@ pub(crate) struct Offer {
 pub(crate) fn offer_of(len: u32, place: u32, request: &RequestPart) -> Offer
     requires least { least_len ≤ len }
     requires most { len ≤ most_len }
-    requires place { place ≤ 1024 }
+    requires place { place ≤ most_pending }
     requires seconds { request.now.seconds ≤ most_seconds }
     requires value { request.now.value ≤ most_value }
-    requires fade { request.now.fade ≤ 1000 }
+    requires fade { request.now.fade ≤ most_fade }
     requires moments { All (λ w. IsMoment w.from.0) request.now.windows }
     ensures range { IsOfferRange result }
     ensures offer { IsOffer len request.now place result }

@@ -2,6 +2,7 @@
 
 ghost use Rattle.std.specs.Prelude.{◌≡◌, ℕ, ◌+◌, ◌*◌, ◌<◌, ◌≤◌, ◌+ℤ◌, [], length, slice_index_or, All, Contains, FitsSigned};
 ghost use Rattle.std.specs.Int.{w64};
+ghost use Rattle.interval_solver.specs.Limits.{most_at_once};
 ghost use Rattle.plan_base.specs.Limits.{most_slices, most_value};
 ghost use Rattle.plan_base.specs.Tables.{row, entry};
 ghost use Rattle.plan_base.specs.Verdict.{IsPriceInRange};
@@ -18,7 +19,7 @@ use crate::vectors::{larger, less, plus};
 /// Writes the greatest surplus from each slice on, in each lane at the lane's prices: an entry is the greatest of the
 /// next one and of what each start in its row gives. The last one, after all slices, is 0.
 pub(crate) fn fill<const L: usize>(rows: &StartRows, prices: &[[i64; L]], table: &mut [[i64; L]])
-    requires lanes { L ≤ 64 }
+    requires lanes { L ≤ most_at_once }
     requires count { length table.old ≡ length rows.now + 1 }
     requires few { length rows.now ≤ most_slices }
     requires fit { DoRowsFit (length prices.now) rows.now }
@@ -71,7 +72,7 @@ fn fill_block<const L: usize>(
     table: &mut [[i64; L]],
     block: usize,
 )
-    requires lanes { L ≤ 64 }
+    requires lanes { L ≤ most_at_once }
     requires block { block < length wholes.now }
     requires few { length rows.now ≤ most_slices }
     requires fit { DoRowsFit (length prices.now) rows.now }

@@ -1,5 +1,6 @@
 -- What lanes in step keep beyond what contracts see.
 use Rattle.std.specs.Prelude.{◌≡◌, ℕ, ◌+◌, ◌*◌, ◌≤◌, ℤ, List, [], length, All}
+use Rattle.interval_solver.specs.Limits.{most_at_once}
 use Rattle.plan_base.specs.declared.parts.Parts.{Parts}
 use Rattle.plan_base.specs.Requests.{listed}
 use Rattle.plan_base.specs.Round.{greatest_value}
@@ -43,7 +44,7 @@ pub record AreTables (s : Parts) (n : ℕ) (prices table bests : List (List ℤ)
 -- what n lanes of a snapshot need for their rounds
 pub record IsReady (s : Parts) (n : ℕ) (rs : List RowsOf) (ls : List LanePrices) (us : List Started) (x : BoundParts) (r : Repairing) (vmax : ℕ) : Type 0 where
   pub some : 1 ≤ n
-  pub few : n ≤ 64
+  pub few : n ≤ most_at_once
   pub rows : AreRowsOf s (length s.telescopes) rs
   pub lanes_count : length ls ≡ n
   pub lanes : All (IsLane s) ls

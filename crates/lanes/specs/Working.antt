@@ -1,5 +1,6 @@
 -- What a worker keeps.
 use Rattle.std.specs.Prelude.{◌≡◌, ◌≢◌, ℕ, ◌+◌, ◌≤◌, ◌<◌, ◌⊎◌, true, List, [], ◌∷◌, length, map, take, slice_index_or, All, Contains, HoldsAt}
+use Rattle.interval_solver.specs.Limits.{most_at_once}
 use Rattle.plan_base.specs.Limits.{most_lanes, most_rounds}
 use Rattle.plan_base.specs.declared.claim.Settings.{Settings}
 use Rattle.board.specs.declared.seat.SeatView.{SeatView}
@@ -23,7 +24,7 @@ pub record IsEquipped (L : ℕ) (w : Worker L) : Type 0 where
   pub founds_count : length w.lanes.items ≡ L
   pub some : 1 ≤ w.share
   pub share : w.share ≤ L
-  pub room : L ≤ 64
+  pub room : L ≤ most_at_once
   pub taken : w.taken ≤ w.share
   pub prices : All (λ y. ArePrices w.steps.snapshot y.found.prices y.found.quota_prices) w.lanes.items
   pub seats : (view w.seat).seats ≡ 1

@@ -2,11 +2,12 @@
 
 ghost use Rattle.std.specs.Prelude.{◌≡◌, ◌≤◌, length, IfOk, vec_capacity};
 ghost use Rattle.std.specs.List.Sorted.{IsSortedBy, IsPermutation};
+ghost use Rattle.plan_base.specs.Limits.{most_pending};
 ghost use Rattle.plan_base.specs.Repaired.{is_listed_before};
 ghost use Rattle.lanes.specs.Found.{nothing, cleared, lowered, raised, bettered};
 
 use plan_base::{
-    Claim, ListOf, MOST_REQUESTS, Placement, Prices, QuotaPrices, Snapshot, listing_of,
+    Claim, ListOf, MOST_PENDING, Placement, Prices, QuotaPrices, Snapshot, listing_of,
 };
 use prices::{zero_prices, zero_quota_prices};
 use std::alloc::{AllocError, Global};
@@ -37,13 +38,14 @@ impl Drop for Found {
 
 impl Model for Found {
     ghost use Rattle.std.specs.Prelude.{◌≤◌, vec_capacity};
+    ghost use Rattle.plan_base.specs.Limits.{most_pending};
     ghost use Rattle.lanes.specs.Found.{FoundSeen};
 
     ghost Value = { FoundSeen };
 
     ghost view = { λ a. record { bound = a.bound; prices = a.prices.0; quota_prices = a.quota_prices.0; value = a.value; plan = a.plan.items } };
 
-    ghost invariant = { λ a. 1024 ≤ vec_capacity a.plan };
+    ghost invariant = { λ a. most_pending ≤ vec_capacity a.plan };
 }
 
 impl Found {
@@ -56,7 +58,7 @@ impl Found {
             prices: zero_prices(alloc, snapshot.request_count())?,
             quota_prices: zero_quota_prices(alloc, snapshot.parts().quotas.len())?,
             value,
-            plan: Vec::with_capacity(alloc, MOST_REQUESTS)?,
+            plan: Vec::with_capacity(alloc, MOST_PENDING)?,
         })
     }
 
@@ -85,7 +87,7 @@ impl Found {
 
     /// Keeps the plan that later ones have to pass.
     pub(crate) fn hold(&mut self, plan: &[Placement])
-        requires { length plan.now ≤ 1024 }
+        requires { length plan.now ≤ most_pending }
         ensures { self.new ≡ record self.old { plan = plan.now } }
     {
         copy_plan(plan, &mut self.plan);
@@ -131,7 +133,7 @@ impl Found {
 
     /// Keeps the plan of a round with its value, where it is greater than all before.
     pub(crate) fn raise(&mut self, value: u64, plan: &[Placement])
-        requires { length plan.now ≤ 1024 }
+        requires { length plan.now ≤ most_pending }
         ensures { self.new ≡ raised self.old value plan.now }
     {
         if value > self.value {
@@ -144,7 +146,7 @@ impl Found {
     pub(crate) fn take(&mut self, later: &Found)
         requires count { length later.now.prices ≡ length self.old.prices }
         requires quota_count { length later.now.quota_prices ≡ length self.old.quota_prices }
-        requires few { length later.now.plan ≤ 1024 }
+        requires few { length later.now.plan ≤ most_pending }
         ensures { self.new ≡ bettered self.old later.now }
     {
         self.lower(later.bound, &later.prices, &later.quota_prices);

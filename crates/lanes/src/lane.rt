@@ -1,7 +1,7 @@
 // One lane, round by round.
 
 ghost use Rattle.std.specs.Prelude.{◌≡◌, ◌+◌, ◌≤◌, ◌<◌, List, length, IfOk};
-ghost use Rattle.plan_base.specs.Limits.{most_rounds};
+ghost use Rattle.plan_base.specs.Limits.{most_rounds, most_lanes};
 ghost use Rattle.plan_base.specs.declared.claim.Placement.{Placement};
 ghost use Rattle.plan_base.specs.Starts.{value_of_plan};
 ghost use Rattle.plan_base.specs.Feasible.{IsFeasible};
@@ -54,7 +54,7 @@ impl<'a> Lane<'a> {
 
     /// Begins a lane, below 8, at its first round: all prices are 0.
     pub fn begin(&mut self, lane: u32)
-        requires { lane < 8 }
+        requires { lane < most_lanes }
         ensures { self.new ≡ record { snapshot = self.old.snapshot; lane = lane; made = 0 } }
     {
         self.steps.begin(0, lane);

@@ -1,7 +1,7 @@
 // The prices of one lane, from round to round.
 
 ghost use Rattle.std.specs.Prelude.{◌≡◌, ◌+◌, ◌<◌, length, replicate, IfOk};
-ghost use Rattle.plan_base.specs.Limits.{most_rounds};
+ghost use Rattle.plan_base.specs.Limits.{most_rounds, most_lanes};
 ghost use Rattle.plan_base.specs.declared.parts.Parts.{Parts};
 ghost use Rattle.plan_base.specs.Requests.{listed};
 ghost use Rattle.plan_base.specs.Canonical.{IsCanonicalStarts};
@@ -50,7 +50,7 @@ impl LanePrices {
 
     /// Begins a lane, below 8, at its first round: all prices are 0.
     pub(crate) fn begin(&mut self, lane: u32)
-        requires { lane < 8 }
+        requires { lane < most_lanes }
         ensures lane { self.new.lane ≡ lane }
         ensures made { self.new.made ≡ 0 }
         ensures is_lane { (s : Parts) → IsLane s self.old → IsLane s self.new }

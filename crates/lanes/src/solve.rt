@@ -1,6 +1,7 @@
 // The plan of a snapshot, sought by workers over all lanes.
 
 ghost use Rattle.std.specs.Prelude.{◌≡◌, ◌≤◌, ◌<◌, ◌+◌, ℕ, length, slice_index_or, All, IfOk, MatchResult, vec_len};
+ghost use Rattle.interval_solver.specs.Limits.{most_at_once};
 ghost use Rattle.plan_base.specs.Planned.{IsPlanned};
 ghost use Rattle.plan_base.specs.Solved.{IsOutcome};
 ghost use Rattle.snapshot_starts.specs.Runs.{AreAllStarts};
@@ -128,7 +129,7 @@ fn plan_in_step<const L: usize, R: Threads + Sync, G: Gate>(
     rows: &[Rows<'_>],
     gate: &G,
 ) -> Result<Claim, AllocError>
-    requires lanes { (1 ≤ L) × (L ≤ 64) }
+    requires lanes { (1 ≤ L) × (L ≤ most_at_once) }
     requires settings { IsInRange taken.now.settings }
     requires starts { AreAllStarts taken.now.snapshot starts.now }
     requires rows { AreRowsOf taken.now.snapshot (length taken.now.snapshot.telescopes) rows.now }
@@ -158,7 +159,7 @@ fn workers_of<'a, const L: usize>(
     seat: &mut BoardSeat,
     value: u64,
 ) -> Result<Vec<Worker<'a, L>>, AllocError>
-    requires lanes { (1 ≤ L) × (L ≤ 64) }
+    requires lanes { (1 ≤ L) × (L ≤ most_at_once) }
     requires settings { IsInRange taken.now.settings }
     requires starts { AreAllStarts taken.now.snapshot starts.now }
     requires rows { AreRowsOf taken.now.snapshot (length taken.now.snapshot.telescopes) rows.now }
@@ -189,7 +190,7 @@ fn worker_of<'a, const L: usize>(
     value: u64,
     number: u32,
 ) -> Result<Worker<'a, L>, AllocError>
-    requires lanes { (1 ≤ L) × (L ≤ 64) }
+    requires lanes { (1 ≤ L) × (L ≤ most_at_once) }
     requires settings { IsInRange taken.now.settings }
     requires starts { AreAllStarts taken.now.snapshot starts.now }
     requires rows { AreRowsOf taken.now.snapshot (length taken.now.snapshot.telescopes) rows.now }

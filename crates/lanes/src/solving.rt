@@ -1,6 +1,7 @@
 // All telescopes, solved for several lanes in step.
 
 ghost use Rattle.std.specs.Prelude.{◌≡◌, ◌≢◌, ℕ, ◌+◌, ◌≤◌, ◌<◌, length, slice_index_or, All};
+ghost use Rattle.interval_solver.specs.Limits.{most_at_once};
 ghost use Rattle.plan_base.specs.Verdict.{IsPriceInRange};
 ghost use Rattle.plan_base.specs.Requests.{listed};
 ghost use Rattle.interval_solver.specs.Tables.{IsEntry};
@@ -65,7 +66,7 @@ pub(crate) fn solve_telescopes<const L: usize>(
     bests: &mut [[i64; L]],
     uses: &mut [Uses<'_>],
 )
-    requires lanes { (1 ≤ L) × (L ≤ 64) }
+    requires lanes { (1 ≤ L) × (L ≤ most_at_once) }
     requires rows { AreRowsOf snapshot.now (length snapshot.now.telescopes) rows.now }
     requires count { length prices.now ≡ length (listed snapshot.now) }
     requires range { All (IsForLanes L IsPriceInRange) prices.now }

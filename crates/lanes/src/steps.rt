@@ -1,7 +1,8 @@
 // Lanes whose rounds are made in step.
 
 ghost use Rattle.std.specs.Prelude.{◌≡◌, ◌≢◌, ℕ, ◌+◌, ◌*◌, ◌≤◌, ◌<◌, length, All, HoldsAt, IfOk};
-ghost use Rattle.plan_base.specs.Limits.{most_rounds};
+ghost use Rattle.interval_solver.specs.Limits.{most_at_once};
+ghost use Rattle.plan_base.specs.Limits.{most_rounds, most_lanes};
 ghost use Rattle.plan_base.specs.Round.{greatest_value};
 ghost use Rattle.snapshot_starts.specs.Runs.{AreAllStarts};
 ghost use Rattle.interval_solver.specs.Solving.{AreRowsOf};
@@ -85,7 +86,7 @@ impl<'a, const L: usize> Steps<'a, L> {
         starts: &Starts,
         rows: &'a [Rows<'a>],
     ) -> Result<Self, AllocError>
-        requires lanes { (1 ≤ L) × (L ≤ 64) }
+        requires lanes { (1 ≤ L) × (L ≤ most_at_once) }
         requires starts { AreAllStarts snapshot.now starts.now }
         requires rows { AreRowsOf snapshot.now (length snapshot.now.telescopes) rows.now }
         ensures snapshot { IfOk result (λ steps. steps.snapshot ≡ snapshot.now) }
@@ -111,7 +112,7 @@ impl<'a, const L: usize> Steps<'a, L> {
     /// Begins a lane, below 8, as one of those in step: its prices are all 0, and no round was made.
     pub(crate) fn begin(&mut self, place: usize, lane: u32)
         requires place { place < L }
-        requires lane { lane < 8 }
+        requires lane { lane < most_lanes }
         ensures same_snapshot { self.new.snapshot ≡ self.old.snapshot }
         ensures begun { IsLaneNow self.old.snapshot place lane 0 self.old.lanes self.new.lanes }
     {

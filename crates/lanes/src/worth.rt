@@ -1,7 +1,7 @@
 // What starts and plans are worth.
 
 ghost use Rattle.std.specs.Prelude.{◌≡◌, ◌≤◌, length, All};
-ghost use Rattle.plan_base.specs.Limits.{most_value};
+ghost use Rattle.plan_base.specs.Limits.{most_value, most_pending};
 ghost use Rattle.plan_base.specs.Starts.{IsPossibleStart, worth_at, value_of_plan};
 
 use plan_base::{Placement, Snapshot, faded, least_from, slices_for};
@@ -9,7 +9,7 @@ use plan_base::{Placement, Snapshot, faded, least_from, slices_for};
 /// What a plan is worth, of at most 1,024 possible starts.
 pub(crate) fn value_of(snapshot: &Snapshot, plan: &[Placement]) -> u64
     requires possible { All (IsPossibleStart snapshot.now) plan.now }
-    requires few { length plan.now ≤ 1024 }
+    requires few { length plan.now ≤ most_pending }
     ensures { result ≡ value_of_plan snapshot.now plan.now }
 {
     let mut value = 0;

@@ -7,6 +7,7 @@ use Rattle.std.proofs.lemmas.Bool.{eq-eqb}
 use Rattle.std.proofs.lemmas.List.{length-map, get_or_past}
 use Rattle.std.proofs.lemmas.List.Elements.{All-nil, All-map}
 use Rattle.std.proofs.lemmas.List.Sums.{sum_by-le}
+use Rattle.plan_base.specs.Limits.{most_pending, most_telescopes}
 use Rattle.plan_base.specs.declared.parts.Parts.{Parts}
 use Rattle.plan_base.specs.declared.fault.Counted.TheVariants.{Telescopes, Requests, Quotas}
 use Rattle.plan_base.specs.declared.number.TelescopeNo.{TelescopeNo}
@@ -25,13 +26,13 @@ use Rattle.plan_base.proofs.Sizes.{start_size_above}
 use Rattle.plan_base.proofs.Known.{known_has, IsListedAs, known_as, known_or_is, requests_known, worth_between, value_at_most}
 
 -- how many there are of each
-telescopes_at_most : (s : Parts) → IsOrderly s → length s.telescopes ≤ 32
+telescopes_at_most : (s : Parts) → IsOrderly s → length s.telescopes ≤ most_telescopes
 telescopes_at_most s o = o.within Telescopes 0 0 (omega arith)
 
-requests_at_most : (s : Parts) → IsOrderly s → length (listed s) ≤ 1024
+requests_at_most : (s : Parts) → IsOrderly s → length (listed s) ≤ most_pending
 requests_at_most s o = o.within Requests 0 0 (omega arith)
 
-quotas_at_most : (s : Parts) → IsOrderly s → length s.quotas ≤ 1024
+quotas_at_most : (s : Parts) → IsOrderly s → length s.quotas ≤ most_pending
 quotas_at_most s o = o.within Quotas 0 0 (omega arith)
 
 -- the numbers of the requests of the group at place g, as they are listed
@@ -75,7 +76,7 @@ pub value_limit : (s : Parts) (plan : List Placement) → IsOrderly s → IsFeas
 value_limit s plan o f =
     let sum : value_of_plan s plan ≤ length plan * 288000000 = sum_by-le (worth_at s) 288000000 plan (λ i d l. worth_at_most s _ o (f.possible i d l)) in
     let count : length plan ≤ length (listed s) = length_of_plan s plan f in
-    let most : length (listed s) ≤ 1024 = requests_at_most s o in
+    let most : length (listed s) ≤ most_pending = requests_at_most s o in
     omega arith
 
 -- by telescope
@@ -216,7 +217,7 @@ rebates_between s prices quota_prices b o a u sum =
     gather (λ x. pos (10 ^ 12)) (λ x. x.group) (listed s) (length s.groups) (IsRebate s (net_price s prices quota_prices)) b sum
     (λ i d l. omega (arith, ints)) (λ g y l rebate. rebate_at_most s prices quota_prices g y o a u rebate) in
     let is : total (λ x. pos (10 ^ 12)) (listed s) ≡ pos (length (listed s) * 10 ^ 12) = total_constant (10 ^ 12) (listed s) in
-    let most : length (listed s) ≤ 1024 = requests_at_most s o in
+    let most : length (listed s) ≤ most_pending = requests_at_most s o in
     (least, omega (arith, ints))
 
 -- by quota

@@ -25,7 +25,7 @@ use Rattle.plan_base.specs.declared.fault.SnapshotFault.TheVariants.{
   NoSuchQuota,
   QuotaRange,
 }
-use Rattle.plan_base.specs.Limits.{most_moment, most_slices, most_seconds, most_value, most_quota, most_version, least_len, most_len, most_first}
+use Rattle.plan_base.specs.Limits.{most_moment, most_slices, most_seconds, most_value, most_quota, most_version, least_len, most_len, most_first, most_pending, most_members, most_asked, most_windows, most_configurations, most_telescopes, most_visibility, most_fade}
 use Rattle.plan_base.specs.Requests.{listed}
 use Rattle.plan_base.specs.Skies.{SkiesRise}
 
@@ -52,16 +52,16 @@ pub record IsInRanges (s : Parts) : Type 0 where
 
 -- how many there may be
 abbrev pub limit_of : Counted → ℕ
-limit_of Telescopes = 32
+limit_of Telescopes = most_telescopes
 limit_of Usable = 2048
 limit_of Skies = 32768
-limit_of Spans = 262144
-limit_of Groups = 1024
-limit_of Requests = 1024
-limit_of Windows = 32
-limit_of Targets = 16
-limit_of Fits = 32
-limit_of Quotas = 1024
+limit_of Spans = most_visibility
+limit_of Groups = most_pending
+limit_of Requests = most_pending
+limit_of Windows = most_windows
+limit_of Targets = most_configurations
+limit_of Fits = most_telescopes
+limit_of Quotas = most_pending
 
 -- how many there are, once or for each telescope or request
 abbrev pub counts_of : Parts → Counted → List ℕ
@@ -95,9 +95,9 @@ skies_rise skies = list_all (λ p. sky_below p.0 p.1) (zip skies (drop 1 skies))
 -- how many requests a group of the kind may have
 abbrev pub most_requests : Op → ℕ
 most_requests Single = 1
-most_requests Many = 256
-most_requests OneOf = 32
-most_requests And = 32
+most_requests Many = most_members
+most_requests OneOf = most_asked
+most_requests And = most_asked
 
 -- whether the group has at least one request, and no more than its kind may have
 abbrev pub has_shape : GroupPart → Bool
@@ -154,7 +154,7 @@ telescope_fault s =
 
 -- the fault of the first request that loses more than its value
 abbrev pub fade_fault : Parts → Option SnapshotFault
-fade_fault s = option_map (λ x. FadeRange x.request.request) (find (λ x. nat_lt 1000 x.request.fade) (listed s))
+fade_fault s = option_map (λ x. FadeRange x.request.request) (find (λ x. nat_lt most_fade x.request.fade) (listed s))
 
 -- the fault of the first group that names a quota that isn't in the list
 abbrev pub quota_fault : Parts → Option SnapshotFault
@@ -193,6 +193,6 @@ pub record IsOrderly (s : Parts) : Type 0 where
   pub shapes : All (λ x. (1 ≤ length x.requests) × (length x.requests ≤ most_requests x.op)) s.groups
   pub telescopes : All (λ x. All (λ t. t.0 < length s.telescopes) x.request.telescopes) (listed s)
   pub telescopes_rise : All (λ x. AllPairs (λ t u. t.0 < u.0) x.request.telescopes) (listed s)
-  pub fades : All (λ x. x.request.fade ≤ 1000) (listed s)
+  pub fades : All (λ x. x.request.fade ≤ most_fade) (listed s)
   pub quotas : All (λ x. ForSome x.quota (λ q. q < length s.quotas)) s.groups
   pub quota_ranges : All (λ q. q ≤ most_quota) s.quotas

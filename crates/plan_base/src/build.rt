@@ -6,13 +6,13 @@ ghost use Rattle.std.specs.Option.{option_map};
 ghost use Rattle.plan_base.specs.Snapshot.{is_apart, sky_below, skies_rise, most_requests, has_shape, fits_after, names_quota};
 ghost use Rattle.plan_base.specs.Snapshot.{first_some, span_fault, apart_fault, group_fault};
 ghost use Rattle.plan_base.specs.Snapshot.{request_fault, shape_fault, telescope_fault, fade_fault, quota_fault, quota_range_fault};
-ghost use Rattle.plan_base.specs.Limits.{most_quota};
+ghost use Rattle.plan_base.specs.Limits.{most_quota, most_pending, most_fade};
 ghost use Rattle.plan_base.specs.Rows.{rows_from};
 ghost use Rattle.plan_base.specs.declared.parts.Parts.{Parts};
 ghost use Rattle.plan_base.specs.Faults.{all_requests, has_empty, first_unfit, unfit_in, fault_within_limits};
 
 use crate::fault::SnapshotFault;
-use crate::greatest::MOST_QUOTA;
+use crate::greatest::{MOST_ASKED, MOST_FADE, MOST_MEMBERS, MOST_QUOTA};
 use crate::number::{RequestNo, TelescopeNo};
 use crate::parts::{GroupPart, Op, Parts, Sky};
 use crate::rows::Row;
@@ -20,7 +20,7 @@ use crate::span::Span;
 
 /// The first fault of parts within the limits, whose requests have these rows.
 pub(crate) fn fault_within_limits(parts: &Parts, rows: &[Row]) -> Option<SnapshotFault>
-    requires few { length parts.now.quotas ≤ 1024 }
+    requires few { length parts.now.quotas ≤ most_pending }
     requires rows { rows.now ≡ rows_from 0 parts.now.groups }
     ensures { result ≡ fault_within_limits parts.now }
 {
@@ -202,8 +202,8 @@ fn most_requests(op: Op) -> usize
 {
     match op {
         Op::Single => 1,
-        Op::Many => 256,
-        Op::OneOf | Op::And => 32,
+        Op::Many => MOST_MEMBERS,
+        Op::OneOf | Op::And => MOST_ASKED,
     }
 }
 
@@ -264,12 +264,12 @@ fn fade_fault(parts: &Parts) -> Option<SnapshotFault>
 }
 
 fn fading_request(groups: &[GroupPart]) -> Option<RequestNo>
-    ensures { result ≡ option_map (λ q. q.request) (find (λ q. nat_lt 1000 q.fade) (all_requests groups.now)) }
+    ensures { result ≡ option_map (λ q. q.request) (find (λ q. nat_lt most_fade q.fade) (all_requests groups.now)) }
 {
     groups
         .iter()
         .flat_map(|x| x.requests.as_slice())
-        .find(|q| q.fade > 1_000)
+        .find(|q| u32::from(q.fade) > MOST_FADE)
         .map(|q| q.request)
 }
 
@@ -292,7 +292,7 @@ fn names_quota(count: usize, quota: Option<u16>) -> bool
 }
 
 fn quota_range_fault(parts: &Parts) -> Option<SnapshotFault>
-    requires { length parts.now.quotas ≤ 1024 }
+    requires { length parts.now.quotas ≤ most_pending }
     ensures { result ≡ quota_range_fault parts.now }
 {
     match excessive_quota(parts.quotas.as_slice()) {

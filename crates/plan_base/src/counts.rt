@@ -6,7 +6,9 @@ ghost use Rattle.plan_base.specs.Requests.{listed};
 ghost use Rattle.plan_base.specs.Faults.{all_requests, first_over, site_limit_fault, request_limit_fault};
 
 use crate::fault::{Counted, SnapshotFault};
-use crate::greatest::{MOST_REQUESTS, MOST_TELESCOPES};
+use crate::greatest::{
+    MOST_CONFIGURATIONS, MOST_PENDING, MOST_TELESCOPES, MOST_VISIBILITY, MOST_WINDOWS,
+};
 use crate::parts::{GroupPart, Parts, Sky, TelescopePart};
 use std::alloc::AllocError;
 
@@ -49,12 +51,12 @@ fn limit_of(what: Counted) -> u64
 {
     match what {
         Counted::Telescopes | Counted::Fits => MOST_TELESCOPES as u64,
-        Counted::Windows => 32,
+        Counted::Windows => u64::from(MOST_WINDOWS),
         Counted::Usable => 2_048,
         Counted::Skies => 32_768,
-        Counted::Spans => 262_144,
-        Counted::Groups | Counted::Requests | Counted::Quotas => MOST_REQUESTS as u64,
-        Counted::Targets => 16,
+        Counted::Spans => MOST_VISIBILITY as u64,
+        Counted::Groups | Counted::Requests | Counted::Quotas => MOST_PENDING as u64,
+        Counted::Targets => u64::from(MOST_CONFIGURATIONS),
     }
 }
 

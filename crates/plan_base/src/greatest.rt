@@ -48,11 +48,63 @@ pub const MOST_ROUNDS: u32 = 256;
 /// The most workers that seek a plan.
 pub const MOST_WORKERS: u32 = 8;
 
-/// The most requests of a snapshot, and the most groups and quotas.
-pub const MOST_REQUESTS: usize = 1_024;
+/// The most requests of a snapshot, which a desk has pending, and so the most placements of a plan; the most groups
+/// and quotas.
+pub const MOST_PENDING: usize = 1_024;
 
-/// The most telescopes of a snapshot.
-pub(crate) const MOST_TELESCOPES: usize = 32;
+/// The most requests of a group: those of a cadence.
+pub const MOST_MEMBERS: usize = 256;
+
+/// The most requests that a document lists, and so the most of a `ONEOF` or an `AND`.
+pub const MOST_ASKED: usize = 32;
+
+/// The most windows of a request.
+pub const MOST_WINDOWS: u32 = 32;
+
+/// The most configurations of a request, and so the most targets; the most lengths of exposures of a configuration.
+pub const MOST_CONFIGURATIONS: u32 = 16;
+
+/// The most exposures of one length.
+pub const MOST_EXPOSURES: u32 = 10_000;
+
+/// The most thousandths of its value that a request loses with each slice of delay: all of it.
+pub const MOST_FADE: u32 = 1_000;
+
+/// All of an observation, in percent.
+pub const MOST_PERCENT: u32 = 100;
+
+/// The least intra-proposal priority, in thousandths.
+pub const LEAST_IPP: u32 = 500;
+
+/// The greatest intra-proposal priority, in thousandths.
+pub const MOST_IPP: u32 = 2_000;
+
+/// The greatest priority.
+pub const MOST_PRIORITY: u32 = 100;
+
+/// The most bytes of a name, and of a text of a line that is no document.
+pub const MOST_NAME: usize = 128;
+
+/// The most accounts of a desk.
+pub const MOST_ACCOUNTS: usize = 1_024;
+
+/// The most seconds that one line grants.
+pub const MOST_GRANT: u32 = 1_000_000_000;
+
+/// The most instrument types that a telescope carries.
+pub const MOST_CARRIED: u32 = 16;
+
+/// The most callers that a desk has at once.
+pub const MOST_CALLERS: u8 = 8;
+
+/// The most telescopes.
+pub const MOST_TELESCOPES: usize = 32;
+
+/// The most spans of all skies.
+pub const MOST_VISIBILITY: usize = 262_144;
+
+/// The most spans of a list in a line.
+pub const MOST_SPANS: u32 = 512;
 
 /// The most possible starts of a snapshot that is planned.
 pub const MOST_STARTS: u64 = 1_048_576;

@@ -8,14 +8,13 @@ ghost use Rattle.std.specs.Cmp.{partial_equiv_from_equiv};
 ghost use Rattle.std.specs.Hash as fed;
 ghost use Rattle.std.specs.Cmp.Rules.{hashing};
 ghost use Rattle.std.proofs.Common.{rules};
+ghost use Rattle.plan_base.specs.Limits.{most_name};
 
+use crate::greatest::MOST_NAME;
 use std::alloc::{AllocError, Global};
 use std::cmp::Ordering;
 use std::hash::{Hash, Hasher};
 use std::marker::Model;
-
-/// The most bytes that a name has.
-const NAME_BYTES: usize = 128;
 
 /// A text of 0 to 128 bytes of UTF-8: a proposal, a site, a code, an instrument type or a target. Contracts see its
 /// bytes, and order and equality are those of the bytes.
@@ -32,21 +31,22 @@ impl Drop for Name {
 impl Model for Name {
     ghost use Rattle.std.specs.Prelude.{List, ℕ, ◌≤◌, length};
     ghost use Rattle.std.specs.String.{string_bytes};
+    ghost use Rattle.plan_base.specs.Limits.{most_name};
 
     ghost Value = { List ℕ };
 
     ghost view = { λ a. string_bytes a.text };
 
-    ghost invariant = { λ a. length (string_bytes a.text) ≤ 128 };
+    ghost invariant = { λ a. length (string_bytes a.text) ≤ most_name };
 }
 
 impl Name {
     /// The name with this text; none where the text has more than 128 bytes. Fails only for want of memory.
     pub fn new(alloc: Global, text: &str) -> Result<Option<Name>, AllocError>
-        ensures short { length text.now ≤ 128 → IfOk result (λ name. name ≡ Some text.now) }
-        ensures long { 128 < length text.now → IfOk result (λ name. name ≡ None) }
+        ensures short { length text.now ≤ most_name → IfOk result (λ name. name ≡ Some text.now) }
+        ensures long { most_name < length text.now → IfOk result (λ name. name ≡ None) }
     {
-        if text.len() > NAME_BYTES {
+        if text.len() > MOST_NAME {
             return Ok(None);
         }
         let text = String::from_str(alloc, text)?;
@@ -56,7 +56,7 @@ impl Name {
     /// The text.
     pub fn text(&self) -> &str
         ensures value { result.now ≡ self.now }
-        ensures short { length self.now ≤ 128 }
+        ensures short { length self.now ≤ most_name }
     {
         self.text.as_str()
     }

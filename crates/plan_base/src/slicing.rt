@@ -1,7 +1,7 @@
 // Seconds as slices, and values that fade by the slice.
 
 ghost use Rattle.std.specs.Prelude.{◌≡◌, ◌≤◌, map, fold, min, All};
-ghost use Rattle.plan_base.specs.Limits.{most_value, least_len, most_len};
+ghost use Rattle.plan_base.specs.Limits.{most_value, least_len, most_len, most_fade};
 ghost use Rattle.plan_base.specs.Snapshot.{IsMoment};
 ghost use Rattle.plan_base.specs.Starts.{slices_for, least_of, faded};
 
@@ -23,7 +23,7 @@ pub fn slices_for(len: u64, seconds: u64) -> u64
 /// never below 1.
 pub fn faded(value: u64, fade: u64, delay: u64) -> u64
     requires value { value ≤ most_value }
-    requires fade { fade ≤ 1000 }
+    requires fade { fade ≤ most_fade }
     ensures value { result ≡ faded value fade delay }
     ensures most { result ≤ most_value }
 {

@@ -1,6 +1,7 @@
 // Parts to which no fault applies, with a row for each request.
 
 ghost use Rattle.std.specs.Prelude.{◌≡◌, ◌≢◌, ◌≤◌, ◌<◌, length, None, Some, All, Contains, OnOk, IfOk, IfErr, MatchOption, SomeIff, HoldsAt};
+ghost use Rattle.plan_base.specs.Limits.{most_pending};
 ghost use Rattle.plan_base.specs.Requests.{listed, place_of, IsKnown};
 ghost use Rattle.plan_base.specs.Skies.{IsSkyOf};
 ghost use Rattle.plan_base.specs.Snapshot.{IsInRanges, IsSnapshot, IsOrderly, fault_of};
@@ -72,7 +73,7 @@ impl Snapshot {
     /// How many requests there are, at most 1,024.
     pub fn request_count(&self) -> usize
         ensures value { result ≡ length (listed self.now) }
-        ensures few { result ≤ 1024 }
+        ensures few { result ≤ most_pending }
     {
         self.rows.len()
     }
@@ -127,7 +128,7 @@ impl Snapshot {
     pub fn recall_valid(&self)
         ensures valid { IsSnapshot self.now }
         ensures orderly { IsOrderly self.now }
-        ensures few { length (listed self.now) ≤ 1024 }
+        ensures few { length (listed self.now) ≤ most_pending }
     {
         let _ = self.parts();
         let _ = self.request_count();

@@ -20,7 +20,8 @@ use Rattle.plan_json.specs.Operator.{operator_name, operator_in}
 use Rattle.plan_json.specs.Whole.{number_in}
 use Rattle.plan_json.specs.Values.{whole, list_of, given, given_if, in_byte_order, those_there}
 use Rattle.plan_json.proofs.Back.{number_back}
-use Rattle.plan_doc.specs.Snapshot.{most_items, span_in, telescope_number_in, target_number_in, telescope_in, sky_in, request_in, group_in, parts_of}
+use Rattle.plan_doc.specs.Limits.{most_items}
+use Rattle.plan_doc.specs.Snapshot.{span_in, telescope_number_in, target_number_in, telescope_in, sky_in, request_in, group_in, parts_of}
 use Rattle.plan_doc.specs.Written.{span_data, telescope_number_data, target_number_data, telescope_data, sky_data, request_data, group_data}
 use Rattle.plan_doc.specs.Written.{snapshot_members, snapshot_data, snapshot_of_bytes, claim_data, claim_of_bytes}
 use Rattle.plan_doc.specs.Ranges.{IsClaim, HasMoments, IsTelescope, IsSky, IsRequest, IsGroup, AreParts}

@@ -26,7 +26,8 @@ use Rattle.plan_json.specs.List.{list_of_count_in}
 use Rattle.plan_json.specs.Whole.{number_in}
 use Rattle.plan_json.proofs.Ranges.{Gives, any, weaker, either, after, made, number_between, number_member, number_member_or, each_member}
 use Rattle.plan_doc.specs.Claim.{placement_of, placement_in, price_in, quota_price_in, quota_prices_of, claim_of}
-use Rattle.plan_doc.specs.Snapshot.{most_items, span_of, span_in, telescope_number_in, target_number_in, telescope_of, telescope_in, sky_of, sky_in}
+use Rattle.plan_doc.specs.Limits.{most_items}
+use Rattle.plan_doc.specs.Snapshot.{span_of, span_in, telescope_number_in, target_number_in, telescope_of, telescope_in, sky_of, sky_in}
 use Rattle.plan_doc.specs.Snapshot.{request_of, request_in, group_of, group_in, quotas_of, parts_of}
 use Rattle.plan_doc.specs.Ranges.{IsPlacement, IsPrice, AreUpTo, IsClaim, HasMoments, IsTelescope, IsSky, IsRequest, IsGroup, AreParts}
 use Rattle.plan_doc.specs.Laws.{ClaimsAreInRange, SnapshotsAreInRange}

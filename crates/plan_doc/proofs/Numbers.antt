@@ -10,7 +10,8 @@ use Rattle.plan_json.specs.Object.{value_of, member_of}
 use Rattle.plan_json.specs.Whole.{within, whole_number, whole_in, number_in}
 use Rattle.plan_json.specs.Values.{integer}
 use Rattle.plan_json.proofs.Ranges.{Gives, if_test}
-use Rattle.plan_doc.specs.Claim.{highest_price, price_in}
+use Rattle.plan_doc.specs.Limits.{highest_price}
+use Rattle.plan_doc.specs.Claim.{price_in}
 use Rattle.plan_doc.specs.Ranges.{IsPrice}
 
 mapped : {A B C E : Type 0} (f : B → C) (g : A → Result B E) (r : Result A E) → result_and_then (λ x. result_map f (g x)) r ≡ result_map f (result_and_then g r)

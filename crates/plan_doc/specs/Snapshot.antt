@@ -1,5 +1,5 @@
 -- Which documents are snapshots, and what is the first fault of the others.
-use Rattle.std.specs.Prelude.{ℕ, ◌^◌, List, [], is_some, if◌then◌else◌, Option, Some, None, Result, Ok, Err}
+use Rattle.std.specs.Prelude.{ℕ, List, [], is_some, if◌then◌else◌, Option, Some, None, Result, Ok, Err}
 use Rattle.serde_json.specs.Data.{Data, Members}
 use Rattle.plan_base.specs.declared.number.TelescopeNo.{TelescopeNo}
 use Rattle.plan_base.specs.declared.number.TargetNo.{TargetNo}
@@ -10,7 +10,7 @@ use Rattle.plan_base.specs.declared.parts.RequestPart.{RequestPart}
 use Rattle.plan_base.specs.declared.parts.GroupPart.{GroupPart}
 use Rattle.plan_base.specs.declared.parts.Parts.{Parts}
 use Rattle.plan_base.specs.declared.fault.SnapshotFault.{SnapshotFault}
-use Rattle.plan_base.specs.Limits.{most_moment, most_seconds, most_value, most_slices, most_version, most_first, least_len, most_len}
+use Rattle.plan_base.specs.Limits.{most_moment, most_seconds, most_value, most_slices, most_version, most_first, least_len, most_len, most_fade, most_number}
 use Rattle.plan_base.specs.Snapshot.{fault_of}
 use Rattle.plan_json.specs.declared.member.Member.{Member}
 use Rattle.plan_json.specs.declared.member.Member.TheVariants as key
@@ -20,13 +20,10 @@ use Rattle.plan_json.specs.Operator.{operator_in}
 use Rattle.plan_json.specs.List.{list_of_count_in}
 use Rattle.plan_json.specs.Reading.{result_map, ◌>>=◌}
 use Rattle.plan_json.specs.Whole.{number_in}
+use Rattle.plan_doc.specs.Limits.{most_items, highest_number, highest_quota}
 use Rattle.plan_doc.specs.declared.fault.DocFault.{DocFault}
 use Rattle.plan_doc.specs.Fault.{fault_of_snapshot, in_document}
 use Rattle.plan_json.specs.Elements.{item, each_of}
-
--- the most elements of a list
-abbrev pub most_items : ℕ
-most_items = 65536
 
 -- the first moment, then the last; how they lie is judged with the whole snapshot
 abbrev pub span_of : Member → List Data → Result Span JsonFault
@@ -41,16 +38,16 @@ span_in m d = list_of_count_in m 2 d >>= span_of m
 
 -- the number of a telescope, 0 to 65,535; whether the snapshot has it is judged with the whole snapshot
 abbrev pub telescope_number_in : Member → Data → Result TelescopeNo JsonFault
-telescope_number_in m d = result_map (λ n. record { 0 = n }) (number_in 0 65535 m d)
+telescope_number_in m d = result_map (λ n. record { 0 = n }) (number_in 0 highest_number m d)
 
 -- the number of a target, 0 to 65,535
 abbrev pub target_number_in : Member → Data → Result TargetNo JsonFault
-target_number_in m d = result_map (λ n. record { 0 = n }) (number_in 0 65535 m d)
+target_number_in m d = result_map (λ n. record { 0 = n }) (number_in 0 highest_number m d)
 
 -- `site`, `usable`
 abbrev pub telescope_of : Members → Result TelescopePart JsonFault
 telescope_of ms =
-    member_of (number_in 0 65535) ms key.Site >>= λ site.
+    member_of (number_in 0 highest_number) ms key.Site >>= λ site.
     each_of span_in 0 most_items ms key.Usable >>= λ usable.
     Ok (record { site = record { 0 = site }; usable = usable })
 
@@ -61,8 +58,8 @@ telescope_in m d = object_in m d >>= telescope_of
 -- `target`, `site`, `spans`
 abbrev pub sky_of : Members → Result Sky JsonFault
 sky_of ms =
-    member_of (number_in 0 65535) ms key.Target >>= λ target.
-    member_of (number_in 0 65535) ms key.Site >>= λ site.
+    member_of (number_in 0 highest_number) ms key.Target >>= λ target.
+    member_of (number_in 0 highest_number) ms key.Site >>= λ site.
     each_of span_in 0 most_items ms key.Spans >>= λ spans.
     Ok (record { target = record { 0 = target }; site = record { 0 = site }; spans = spans })
 
@@ -73,13 +70,13 @@ sky_in m d = object_in m d >>= sky_of
 -- `request`, `seconds`, `value`, `telescopes`, `targets`, `windows`, `fade`
 abbrev pub request_of : Members → Result RequestPart JsonFault
 request_of ms =
-    member_of (number_in 0 4294967295) ms key.Request >>= λ request.
+    member_of (number_in 0 most_number) ms key.Request >>= λ request.
     member_of (number_in 1 most_seconds) ms key.Seconds >>= λ seconds.
     member_of (number_in 1 most_value) ms key.Value >>= λ value.
     each_of telescope_number_in 0 most_items ms key.Telescopes >>= λ telescopes.
     each_of target_number_in 0 most_items ms key.Targets >>= λ targets.
     each_of span_in 0 most_items ms key.Windows >>= λ windows.
-    or_default 0 (number_in 0 1000) ms key.Fade >>= λ fade.
+    or_default 0 (number_in 0 most_fade) ms key.Fade >>= λ fade.
     Ok (record {
       request = record { 0 = request };
       seconds = seconds;
@@ -97,10 +94,10 @@ request_in m d = object_in m d >>= request_of
 -- `group`, `operator`, `requests`, `quota`
 abbrev pub group_of : Members → Result GroupPart JsonFault
 group_of ms =
-    member_of (number_in 0 4294967295) ms key.Group >>= λ group.
+    member_of (number_in 0 most_number) ms key.Group >>= λ group.
     member_of operator_in ms key.Operator >>= λ op.
     each_of request_in 0 most_items ms key.Requests >>= λ requests.
-    if_there (number_in 0 65535) ms key.Quota >>= λ quota.
+    if_there (number_in 0 highest_number) ms key.Quota >>= λ quota.
     Ok (record { group = record { 0 = group }; op = op; requests = requests; quota = quota })
 
 -- the group that an object is, an element of the list that the member is
@@ -109,7 +106,7 @@ group_in m d = object_in m d >>= group_of
 
 -- `quotas`, or none where it isn't there
 abbrev pub quotas_of : Members → Result (List ℕ) JsonFault
-quotas_of ms = if is_some (value_of ms key.Quotas) then each_of (number_in 0 (10 ^ 12)) 0 most_items ms key.Quotas else Ok []
+quotas_of ms = if is_some (value_of ms key.Quotas) then each_of (number_in 0 highest_quota) 0 most_items ms key.Quotas else Ok []
 
 -- `version`, `len`, `first`, `slices`, `telescopes`, `skies`, `groups`, `quotas`
 abbrev pub parts_of : Members → Result Parts JsonFault

@@ -1,7 +1,8 @@
 -- What a run reads and writes that answers the whole of its input.
-use Rattle.std.specs.Prelude.{◌≡◌, ℕ, ◌≤◌, List, [], length}
+use Rattle.std.specs.Prelude.{◌≡◌, ◌+◌, ℕ, ◌≤◌, List, [], length}
 use Rattle.std.specs.declared.option.Option.{Option}
 use Rattle.std.specs.Io.KnownBytes.{Consumes, IsAtEnd}
+use Rattle.plan_io.specs.Limits.{most_input_bytes}
 use Rattle.plan_io.specs.declared.document.Said.{Said}
 use Rattle.plan_io.specs.declared.document.Said.TheVariants as said
 use Rattle.plan_io.specs.declared.sink.PutAnswer.TheVariants.{WriteFault as Failed}
@@ -20,7 +21,7 @@ status_of said.NoDocument = NoDocument
 pub record IsInput (left left' : Option (List ℕ)) (input : List ℕ) : Type 0 where
   pub taken : Consumes left left' input
   pub ended : IsAtEnd left'
-  pub within : length input ≤ 67108864
+  pub within : length input ≤ most_input_bytes
 
 -- an answer that says so was written whole
 abbrev pub IsWritten : (List ℕ → List ℕ → Said → Type 0) → List ℕ → Option (List ℕ) → Option (List ℕ) → Said → Type 0
@@ -57,9 +58,9 @@ IsDocumentRun IsAnswer left left' held held' Done = IsReadAndAnswered IsAnswer l
 IsDocumentRun IsAnswer left left' held held' No = IsReadAndAnswered IsAnswer left left' held held' No
 IsDocumentRun IsAnswer left left' held held' NoDocument = IsReadAndAnswered IsAnswer left left' held held' NoDocument
 IsDocumentRun IsAnswer left left' held held' WriteFault = IsReadAndAnswered IsAnswer left left' held held' WriteFault
-IsDocumentRun IsAnswer left left' held held' NoMemory = TakesUpTo 67108865 left left'
-IsDocumentRun IsAnswer left left' held held' InputOver = (taken : List ℕ) × Consumes left left' taken × (length taken ≡ 67108865)
-IsDocumentRun IsAnswer left left' held held' ReadFault = TakesUpTo 67108864 left left'
+IsDocumentRun IsAnswer left left' held held' NoMemory = TakesUpTo (most_input_bytes + 1) left left'
+IsDocumentRun IsAnswer left left' held held' InputOver = (taken : List ℕ) × Consumes left left' taken × (length taken ≡ most_input_bytes + 1)
+IsDocumentRun IsAnswer left left' held held' ReadFault = TakesUpTo most_input_bytes left left'
 IsDocumentRun IsAnswer left left' held held' Words = Unit {0}
 IsDocumentRun IsAnswer left left' held held' NoCaller = ⊥
 

@@ -1,3 +1,4 @@
+pub mod Limits
 pub mod Source
 pub mod Sink
 pub mod Whole

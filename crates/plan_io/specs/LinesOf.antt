@@ -1,11 +1,12 @@
 -- The lines of some bytes.
 use Rattle.std.specs.Prelude.{ℕ, List, [], ◌∷◌, ◌++◌, length, Bool, true, false, if◌then◌else◌, nat_le, nat_eq}
+use Rattle.plan_io.specs.Limits.{longest_line}
 use Rattle.plan_io.specs.declared.lines.ScriptLine.{ScriptLine}
 use Rattle.plan_io.specs.declared.lines.ScriptLine.TheVariants.{Bytes, TooLong}
 
 -- what a piece counts as: a piece of more than 1,048,576 bytes is too long
 abbrev pub line_of : List ℕ → ScriptLine
-line_of piece = if nat_le (length piece) 1048576 then Bytes piece else TooLong
+line_of piece = if nat_le (length piece) longest_line then Bytes piece else TooLong
 
 -- a last piece without a newline counts where it isn't empty
 abbrev pub last_of : List ℕ → List ScriptLine

@@ -1,6 +1,7 @@
 //! Reading a source line by line.
 ghost use Rattle.std.specs.Prelude.{◌≡◌, ◌<◌, ◌≤◌, ◌↔◌, ◌^◌, ◌+◌, ◌-◌, [], length, max, true, false, IfOk, IsOkAnd, OnErr, IsTrue};
 ghost use Rattle.std.specs.Io.KnownBytes.{IsAtEnd};
+ghost use Rattle.plan_io.specs.Limits.{most_read};
 ghost use Rattle.plan_io.specs.Newline.{NoNewline};
 ghost use Rattle.plan_io.specs.LinesSeen.{IsFresh, IsWithin, HasLine};
 ghost use Rattle.plan_io.specs.LinesOf.{after_newline};
@@ -203,7 +204,7 @@ impl Lines {
     fn read_size(&self) -> usize
         requires { IsWithin self.now }
         ensures some { 0 < result }
-        ensures room { result ≤ 65536 }
+        ensures room { result ≤ most_read }
         ensures within { result ≤ max 1 (self.now.most_bytes - self.now.taken) }
         ensures one { self.now.answered ≡ self.now.most_lines → result ≡ 1 }
     {
@@ -221,7 +222,7 @@ impl Lines {
         requires clear { NoNewline self.old.held }
         ensures turn { IfOk result (λ turn. IsTurn self.old (S.left source.old) self.new (S.left source.new) turn) }
         ensures cause { IfOk result (λ turn. IsTurnCause (S.faults source.old) (S.faults source.new) turn) }
-        ensures ahead { IfOk result (λ turn. turn ≡ Turn.More → length (after_newline self.new.held) < 65536) }
+        ensures ahead { IfOk result (λ turn. turn ≡ Turn.More → length (after_newline self.new.held) < most_read) }
         ensures more { IfOk result (λ turn. turn ≡ Turn.More → self.new.answered < self.new.most_lines) }
         ensures one { self.old.answered ≡ self.old.most_lines → self.new.taken ≤ self.old.taken + 1 }
         ensures err { OnErr result ((self.new ≡ self.old) × (source.new ≡ source.old)) }
@@ -279,7 +280,7 @@ impl Lines {
         ensures at_hand { HasLine self.old → (source.new ≡ source.old) × IfOk result IsLine }
 
         // A line is answered once its block was read, not once all is read. Of lines that are too many, one byte is taken.
-        ensures ahead { ¬ HasLine self.old → IfOk result (λ answer. IsLine answer → length self.new.held < 65536) }
+        ensures ahead { ¬ HasLine self.old → IfOk result (λ answer. IsLine answer → length self.new.held < most_read) }
         ensures one { self.old.answered ≡ self.old.most_lines → self.new.taken ≤ self.old.taken + 1 }
 
         // What was answered once as the last is answered ever after.
@@ -320,7 +321,7 @@ impl Lines {
         requires clear { NoNewline self.old.held }
         ensures next { IfOk result (λ answer. IsNext self.old (S.left source.old) self.new (S.left source.new) answer) }
         ensures cause { IfOk result (λ answer. IsNextCause self.old (S.faults source.old) (S.faults source.new) answer) }
-        ensures ahead { IfOk result (λ answer. IsLine answer → length self.new.held < 65536) }
+        ensures ahead { IfOk result (λ answer. IsLine answer → length self.new.held < most_read) }
         ensures one { self.old.answered ≡ self.old.most_lines → self.new.taken ≤ self.old.taken + 1 }
         ensures err { OnErr result (ReadsOn self.old (S.left source.old) [] self.new (S.left source.new)) }
         ensures err_state { OnErr result ((self.new.failed ≡ false) × IsWithin self.new

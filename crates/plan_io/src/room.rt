@@ -1,5 +1,6 @@
 //! Room for one read of a source.
 ghost use Rattle.std.specs.Prelude.{◌≡◌, ◌≤◌, length, vec_len, IfOk};
+ghost use Rattle.plan_io.specs.Limits.{most_read};
 ghost use Rattle.plan_io.specs.Source.{Reads, IsReadCause};
 
 use super::source::{ReadAnswer, Source};
@@ -10,7 +11,7 @@ pub(crate) const ROOM: usize = 65_536;
 
 /// Room for one read.
 pub(crate) fn read_room(alloc: Global) -> Result<Vec<u8>, AllocError>
-    ensures { IfOk result (λ room. vec_len room ≡ 65536) }
+    ensures { IfOk result (λ room. vec_len room ≡ most_read) }
 {
     vec![in alloc; 0u8; ROOM]
 }

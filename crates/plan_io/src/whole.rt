@@ -1,5 +1,6 @@
 //! Reading a source to its end.
 ghost use Rattle.std.specs.Prelude.{◌+◌, ◌^◌, ◌<◌, ◌≤◌, length, IfOk, OnErr};
+ghost use Rattle.plan_io.specs.Limits.{most_read};
 ghost use Rattle.plan_io.specs.Whole.{IsWholeTurn, IsWholeTurnCause, ReadsWhole, IsWholeCause, StopsReading};
 
 use super::byte_list::ByteList;
@@ -55,7 +56,7 @@ fn read_more<S: Source>(
 /// How many bytes a read asks for where so many are allowed: all of them, and one to see whether there are more.
 fn read_size(allowed: u64) -> usize
     ensures some { 0 < result }
-    ensures room { result ≤ 65536 }
+    ensures room { result ≤ most_read }
     ensures within { result ≤ allowed + 1 }
 {
     allowed.saturating_add(1).min(ROOM as u64) as usize

@@ -1,5 +1,6 @@
 -- The ranges in which members are read.
 use Rattle.std.specs.Prelude.{ℕ, ◌≤◌, List, length}
+use Rattle.plan_base.specs.Limits.{most_name}
 
 -- the number lies in the range
 pub record IsBetween (least most n : ℕ) : Type 0 where
@@ -8,4 +9,4 @@ pub record IsBetween (least most n : ℕ) : Type 0 where
 
 -- the text has 1 to 128 bytes
 abbrev pub IsText : List ℕ → Type 0
-IsText s = IsBetween 1 128 (length s)
+IsText s = IsBetween 1 most_name (length s)

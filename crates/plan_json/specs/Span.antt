@@ -1,5 +1,6 @@
 -- Which JSON values are spans.
 use Rattle.std.specs.Prelude.{List, [], ◌∷◌, nat_lt, if◌then◌else◌, Result, Ok, Err}
+use Rattle.plan_base.specs.Limits.{most_spans}
 use Rattle.serde_json.specs.Data.{Data, Members}
 use Rattle.plan_base.specs.declared.number.Sec.{Sec}
 use Rattle.plan_base.specs.declared.span.Span.{Span}
@@ -32,4 +33,4 @@ span_in m d = result_and_then (span_of_elements m) (elements_in m d)
 
 -- the spans that the member is: a list of at most 512
 abbrev pub spans_of : Members → Member → Result (List Span) JsonFault
-spans_of ms m = each_of span_in 0 512 ms m
+spans_of ms m = each_of span_in 0 most_spans ms m

@@ -20,12 +20,9 @@ use crate::fault::JsonFault;
 use crate::list::DocList;
 use crate::member::Member;
 use crate::{operator, value};
-use plan_base::{ListOf, Name, Op, Sec, Span};
+use plan_base::{ListOf, MOST_SPANS, Name, Op, Sec, Span};
 use serde_json::{Map, Value};
 use std::alloc::Global;
-
-/// The most spans of a list of spans.
-const SPANS: u32 = 512;
 
 /// A JSON object: a whole document, which owns what was read, or an object inside one, read in place. A member with
 /// the value `null` counts as absent; where a name stands twice in the text, its last value is read.
@@ -249,7 +246,7 @@ impl<'a> Doc<'a> {
         ensures fault { IfErr result
             (λ e. e ≢ NoMemory → spans_of (members_of self.now) member ≡ Err e) }
     {
-        read_list(alloc, &Spans, self, member, 0, SPANS)
+        read_list(alloc, &Spans, self, member, 0, MOST_SPANS)
     }
 
     /// The list of `least` to `most` elements, read in place. Fails with [`JsonFault::Missing`];

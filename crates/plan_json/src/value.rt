@@ -14,15 +14,12 @@ ghost use Rattle.plan_json.specs.Object.{object_in};
 use crate::fault::JsonFault;
 use crate::member::Member;
 use crate::moment::second_of;
-use plan_base::{Name, Sec, Span};
+use plan_base::{MOST_NAME, Name, Sec, Span};
 use serde_json::{Map, Value};
 use std::alloc::Global;
 
 /// The last second of the year 9999.
 const LAST_MOMENT: i64 = 253_402_300_799;
-
-/// The most bytes of a text.
-const MOST_TEXT: usize = 128;
 
 /// The whole number from `least` to `most`.
 pub(crate) fn whole_in(
@@ -67,7 +64,7 @@ pub(crate) fn word_in(value: &Value, member: Member) -> Result<&str, JsonFault>
     let Some(word) = value.as_str() else {
         return Err(JsonFault::WrongKind { member });
     };
-    if word.is_empty() || word.len() > MOST_TEXT {
+    if word.is_empty() || word.len() > MOST_NAME {
         return Err(JsonFault::OutOfRange { member });
     }
     Ok(word)

@@ -1,6 +1,7 @@
 // One round of prices.
 
 ghost use Rattle.std.specs.Prelude.{◌≡◌, ◌≤◌, ◌≤ℤ◌, ℕ, ℤ, pos, List, length, slice_index_or, All};
+ghost use Rattle.plan_base.specs.Limits.{most_pending};
 ghost use Rattle.plan_base.specs.declared.claim.Placement.{Placement};
 ghost use Rattle.plan_base.specs.Requests.{listed};
 ghost use Rattle.plan_base.specs.Bound.{price, net_price};
@@ -14,7 +15,7 @@ use crate::demands::add_demands;
 use crate::moves::{move_prices, move_quota_prices};
 use crate::steps::step_size;
 use crate::taken::write_taken;
-use plan_base::{MOST_REQUESTS, Prices, QuotaPrices, Snapshot};
+use plan_base::{MOST_PENDING, Prices, QuotaPrices, Snapshot};
 
 /// One round: each price goes up by the step where the request is used more often than its group takes it, down by it
 /// where less often, and stays else. What groups take is by net prices, those of the two lists before the call. A quota
@@ -49,27 +50,27 @@ pub fn advance(
 }
 
 /// Whether its group takes each request at the net prices.
-fn taken_flags(snapshot: &Snapshot, net: &[i64]) -> [bool; MOST_REQUESTS]
+fn taken_flags(snapshot: &Snapshot, net: &[i64]) -> [bool; MOST_PENDING]
     requires { length net.now ≡ length (listed snapshot.now) }
-    ensures count { length result ≡ 1024 }
-    ensures room { length (listed snapshot.now) ≤ 1024 }
+    ensures count { length result ≡ most_pending }
+    ensures room { length (listed snapshot.now) ≤ most_pending }
     ensures taken { AreTaken snapshot.now (price snapshot.now net.now) result }
 {
     snapshot.recall_valid();
-    let mut taken = [false; MOST_REQUESTS];
+    let mut taken = [false; MOST_PENDING];
     write_taken(snapshot, net, &mut taken);
     taken
 }
 
 /// How many seconds are taken of each quota.
-fn demands_of(snapshot: &Snapshot, taken: &[bool]) -> [u64; MOST_REQUESTS]
+fn demands_of(snapshot: &Snapshot, taken: &[bool]) -> [u64; MOST_PENDING]
     requires { length (listed snapshot.now) ≤ length taken.now }
-    ensures count { length result ≡ 1024 }
-    ensures room { length snapshot.now.quotas ≤ 1024 }
+    ensures count { length result ≡ most_pending }
+    ensures room { length snapshot.now.quotas ≤ most_pending }
     ensures demand { (c : ℕ → ℤ) (q : ℕ) → AreTaken snapshot.now c taken.now → slice_index_or result q 0 ≡ demand_of snapshot.now c q }
 {
     snapshot.recall_valid();
-    let mut demands = [0; MOST_REQUESTS];
+    let mut demands = [0; MOST_PENDING];
     add_demands(snapshot, taken, &mut demands);
     demands
 }

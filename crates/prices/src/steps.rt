@@ -1,7 +1,7 @@
 // How far prices move in a round.
 
 ghost use Rattle.std.specs.Prelude.{◌≡◌, ◌<◌, ◌^◌, pos};
-ghost use Rattle.plan_base.specs.Limits.{most_rounds};
+ghost use Rattle.plan_base.specs.Limits.{most_rounds, most_lanes};
 ghost use Rattle.plan_base.specs.Round.{step_of, quota_step};
 ghost use Rattle.prices.specs.Rounds.{step_size};
 
@@ -12,7 +12,7 @@ const HOUR: u64 = 3600;
 /// greatest value of a request, halved once for each lane before this one and shared by the rounds up to this one,
 /// rounded down, but at least 1.
 pub fn step_of(lane: u32, round: u32, vmax: u32) -> i64
-    requires lane { lane < 8 }
+    requires lane { lane < most_lanes }
     requires round { round < most_rounds }
     ensures { result ≡ pos (step_of lane round vmax) }
 {

@@ -1,6 +1,7 @@
 // Which requests the groups take.
 
 ghost use Rattle.std.specs.Prelude.{◌≡◌, ◌+◌, ◌≤◌, ◌<◌, ℕ, false, length, slice_index, slice_index_or};
+ghost use Rattle.plan_base.specs.Limits.{most_members};
 ghost use Rattle.plan_base.specs.Requests.{listed, members};
 ghost use Rattle.plan_base.specs.Bound.{price};
 ghost use Rattle.plan_base.specs.Round.{is_taken};
@@ -44,7 +45,7 @@ fn write_group(snapshot: &Snapshot, group: usize, first: usize, net: &[i64], tak
 /// Writes from a place on which requests a group of this kind takes at their net prices.
 fn write_members(op: Op, prices: &[i64], first: usize, taken: &mut [bool])
     requires some { 0 < length prices.now }
-    requires few { length prices.now ≤ 256 }
+    requires few { length prices.now ≤ most_members }
     requires room { first + length prices.now ≤ length taken.old }
     ensures count { length taken.new ≡ length taken.old }
     ensures before { (k : ℕ) → k < first → slice_index_or taken.new k false ≡ slice_index_or taken.old k false }

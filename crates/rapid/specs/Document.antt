@@ -11,11 +11,15 @@ use Rattle.plan_doc.specs.Publication.{publication_of}
 use Rattle.plan_doc.specs.Snapshot.{group_in}
 use Rattle.rapid.specs.declared.document.RapidDocument.{RapidDocument}
 
+-- the most groups that a document has to insert
+abbrev pub most_groups : ℕ
+most_groups = 64
+
 -- `snapshot`, `claim`, `groups`
 abbrev pub rapid_document_of : Members → Result RapidDocument DocFault
 rapid_document_of ms =
     publication_of ms >>= λ publication.
-    in_document (each_of group_in 1 64 ms key.Groups) >>= λ groups.
+    in_document (each_of group_in 1 most_groups ms key.Groups) >>= λ groups.
     Ok (record { publication = publication; groups = groups })
 
 -- the document that the bytes are

@@ -1,6 +1,7 @@
 // A plan that is being built, with a mark at each slot that it occupies.
 
 ghost use Rattle.std.specs.Prelude.{◌≡◌, ◌-◌, ◌≤◌, ◌<◌, ◌↔◌, [], ◌∷◌, ◌++◌, length, take, Contains, HoldsAt, IsTrue, IfOk, MatchOption};
+ghost use Rattle.plan_base.specs.Limits.{most_pending};
 ghost use Rattle.plan_base.specs.Snapshot.{IsOrderly};
 ghost use Rattle.plan_base.specs.Starts.{IsPossibleStart, size_of};
 ghost use Rattle.plan_base.specs.Feasible.{requests_of};
@@ -63,7 +64,7 @@ impl<'a> Draft<'a> {
     pub(crate) fn placed(&self) -> &[Placement]
         ensures value { result.now ≡ self.now.placed }
         ensures so_far { IsFeasibleSoFar self.now.snapshot self.now.placed }
-        ensures few { length self.now.placed ≤ 1024 }
+        ensures few { length self.now.placed ≤ most_pending }
     {
         self.recall();
         self.build.placed()
@@ -73,7 +74,7 @@ impl<'a> Draft<'a> {
     pub(crate) fn recall(&self)
         ensures orderly { IsOrderly self.now.snapshot }
         ensures so_far { IsFeasibleSoFar self.now.snapshot self.now.placed }
-        ensures few { length self.now.placed ≤ 1024 }
+        ensures few { length self.now.placed ≤ most_pending }
     {
         self.snapshot.recall_valid();
         let _ = self.build.placed();

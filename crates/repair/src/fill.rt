@@ -1,6 +1,7 @@
 // Passes over all groups, until one adds nothing.
 
 ghost use Rattle.std.specs.Prelude.{◌≡◌, ◌≤◌, length};
+ghost use Rattle.plan_base.specs.Limits.{most_pending};
 ghost use Rattle.plan_base.specs.Fill.{IsPass, IsFilled};
 ghost use Rattle.repair.specs.Trials.{AreTrials};
 ghost use Rattle.repair.specs.Steps.{AddsSome};
@@ -15,7 +16,7 @@ fn pass(draft: &mut Draft<'_>, trials: &Trials) -> bool
     ensures same { draft.new.snapshot ≡ draft.old.snapshot }
     ensures pass { IsPass draft.old.snapshot draft.old.placed draft.new.placed }
     ensures added { AddsSome result draft.old.placed draft.new.placed }
-    ensures few { length draft.new.placed ≤ 1024 }
+    ensures few { length draft.new.placed ≤ most_pending }
 {
     let mut added = false;
     for group in &trials.order {

@@ -1,6 +1,7 @@
 // What requests are worth, and where they stand among all.
 
 ghost use Rattle.std.specs.Prelude.{◌≡◌, ◌≤◌, ◌<◌, length, IfOk};
+ghost use Rattle.plan_base.specs.Limits.{most_pending};
 ghost use Rattle.plan_base.specs.Requests.{listed, place_of, IsKnown};
 ghost use Rattle.repair.specs.Worths.{AreOffers, AreOffersOf, IsOffer, IsOfferOf};
 
@@ -73,7 +74,7 @@ impl Offers {
 /// The offers of all requests, in their order.
 fn offers_of(alloc: Global, snapshot: &Snapshot) -> Result<Vec<Offer>, AllocError>
     ensures offers { IfOk result (λ offers. AreOffersOf snapshot.now (length (listed snapshot.now)) offers.items) }
-    ensures few { IfOk result (λ offers. length offers.items ≤ 1024) }
+    ensures few { IfOk result (λ offers. length offers.items ≤ most_pending) }
 {
     let count = snapshot.request_count();
     let mut offers = Vec::with_capacity(alloc, count)?;

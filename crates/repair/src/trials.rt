@@ -1,7 +1,7 @@
 // What fill tries of a snapshot, made once.
 
 ghost use Rattle.std.specs.Prelude.{◌≡◌, ◌≤◌, ◌<◌, max, length, map, fold, sum_by, All, IfOk};
-ghost use Rattle.plan_base.specs.Limits.{most_value};
+ghost use Rattle.plan_base.specs.Limits.{most_value, most_members};
 ghost use Rattle.plan_base.specs.Requests.{IsKnown};
 ghost use Rattle.plan_base.specs.Fill.{worth_of_group, IsFillOrder};
 ghost use Rattle.snapshot_starts.specs.Runs.{AreAllStarts};
@@ -72,7 +72,7 @@ fn fill_order(alloc: Global, snapshot: &Snapshot) -> Result<Vec<usize>, AllocErr
 }
 
 fn group_worths(alloc: Global, groups: &[GroupPart]) -> Result<Vec<u64>, AllocError>
-    requires count { All (λ x. length x.requests ≤ 256) groups.now }
+    requires count { All (λ x. length x.requests ≤ most_members) groups.now }
     requires values { All (λ x. All (λ q. q.value ≤ most_value) x.requests) groups.now }
     ensures { IfOk result (λ worths. worths.items ≡ map worth_of_group groups.now) }
 {
@@ -85,7 +85,7 @@ fn group_worths(alloc: Global, groups: &[GroupPart]) -> Result<Vec<u64>, AllocEr
 
 /// The sum of the values of a group's requests, for a ONEOF the greatest of them.
 fn group_worth(group: &GroupPart) -> u64
-    requires count { length group.now.requests ≤ 256 }
+    requires count { length group.now.requests ≤ most_members }
     requires values { All (λ q. q.value ≤ most_value) group.now.requests }
     ensures { result ≡ worth_of_group group.now }
 {
@@ -106,7 +106,7 @@ fn greatest_value(requests: &[RequestPart]) -> u64
 }
 
 fn value_sum(requests: &[RequestPart]) -> u64
-    requires count { length requests.now ≤ 256 }
+    requires count { length requests.now ≤ most_members }
     requires values { All (λ q. q.value ≤ most_value) requests.now }
     ensures { result ≡ sum_by (λ v. v) (map (λ q. q.value) requests.now) }
 {

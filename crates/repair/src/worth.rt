@@ -1,7 +1,7 @@
 // What starts are worth.
 
 ghost use Rattle.std.specs.Prelude.{◌≡◌, ◌≤◌, length, All};
-ghost use Rattle.plan_base.specs.Limits.{most_value};
+ghost use Rattle.plan_base.specs.Limits.{most_value, most_pending};
 ghost use Rattle.plan_base.specs.Starts.{IsPossibleStart, worth_at, value_of_plan};
 ghost use Rattle.repair.specs.Worths.{AreOffers, IsOffer};
 
@@ -23,7 +23,7 @@ pub(crate) fn worth_of(snapshot: &Snapshot, offer: Offer, start: Placement) -> u
 /// What a plan is worth.
 pub(crate) fn value_of(snapshot: &Snapshot, offers: &Offers, plan: &[Placement]) -> u64
     requires possible { All (IsPossibleStart snapshot.now) plan.now }
-    requires few { length plan.now ≤ 1024 }
+    requires few { length plan.now ≤ most_pending }
     requires offers { AreOffers snapshot.now offers.now }
     ensures { result ≡ value_of_plan snapshot.now plan.now }
 {

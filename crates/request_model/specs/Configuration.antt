@@ -1,7 +1,7 @@
 -- What is taken of one target, and of which instrument type all configurations of a request are.
 use Rattle.std.specs.Prelude.{ℕ, List, [], ◌∷◌, map, Bool, bytes_eq, if◌then◌else◌, Result, Ok, Err}
 use Rattle.std.specs.List.{list_all}
-use Rattle.plan_base.specs.Limits.{most_ms}
+use Rattle.plan_base.specs.Limits.{most_ms, most_configurations, most_exposures}
 use Rattle.serde_json.specs.Data.{Data, Members}
 use Rattle.plan_json.specs.declared.member.Member.{Member}
 use Rattle.plan_json.specs.declared.member.Member.TheVariants.{Name, InstrumentType, Target, InstrumentConfigs, ExposureTimeMs, ExposureCount, Configurations}
@@ -22,7 +22,7 @@ use Rattle.request_model.specs.Fault.{in_group}
 abbrev pub exposure_of : Members → Result Exposure JsonFault
 exposure_of ms =
     member_of (number_in 1 most_ms) ms ExposureTimeMs >>= λ time.
-    member_of (number_in 1 10000) ms ExposureCount >>= λ number.
+    member_of (number_in 1 most_exposures) ms ExposureCount >>= λ number.
     Ok (record { ms = time; count = number })
 
 -- the exposures of one length that an object is
@@ -35,7 +35,7 @@ typed_of ms =
     member_of text_in ms InstrumentType >>= λ type.
     member_of object_in ms Target >>= λ sky.
     member_of text_in sky Name >>= λ name.
-    each_of exposure_in 1 16 ms InstrumentConfigs >>= λ all.
+    each_of exposure_in 1 most_configurations ms InstrumentConfigs >>= λ all.
     Ok (record { instrument = type; configuration = record { target = name; exposures = all } })
 
 -- the configuration that an object is, with its instrument type
@@ -56,4 +56,4 @@ of_one_type index (t ∷ ts) =
 
 -- the configurations of the request at that place, all of one instrument type
 abbrev pub configurations_of : ℕ → Members → Result OfOneType GroupFault
-configurations_of index ms = in_group (each_of typed_in 1 16 ms Configurations) >>= of_one_type index
+configurations_of index ms = in_group (each_of typed_in 1 most_configurations ms Configurations) >>= of_one_type index

@@ -1,6 +1,6 @@
 -- Which groups have a document: their texts, numbers and counts are in the ranges in which they are read.
 use Rattle.std.specs.Prelude.{◌≡◌, ◌<◌, ◌≤◌, List, length, All, IfSome, true}
-use Rattle.plan_base.specs.Limits.{most_ms, most_period}
+use Rattle.plan_base.specs.Limits.{most_ms, most_period, most_exposures, most_configurations, most_windows, most_percent, most_fade, least_ipp, most_ipp, most_priority}
 use Rattle.plan_base.specs.declared.span.Span.{Span}
 use Rattle.plan_json.specs.Moment.{last_moment}
 use Rattle.plan_json.specs.Ranges.{IsBetween, IsText}
@@ -17,17 +17,17 @@ use Rattle.request_model.specs.Group.{is_shape}
 -- 1 to 10,000 exposures of 1 to 86,400,000 milliseconds each
 pub record IsExposure (e : Exposure) : Type 0 where
   pub time : IsBetween 1 most_ms e.ms
-  pub number : IsBetween 1 10000 e.count
+  pub number : IsBetween 1 most_exposures e.count
 
 -- the target's name has 1 to 128 bytes, and there are 1 to 16 lengths of exposures, each in its ranges
 pub record IsConfiguration (c : ConfigDoc) : Type 0 where
   pub name : IsText c.target
-  pub count : IsBetween 1 16 (length c.exposures)
+  pub count : IsBetween 1 most_configurations (length c.exposures)
   pub each : All IsExposure c.exposures
 
 -- 1 to 16, each in its ranges
 pub record AreConfigurations (cs : List ConfigDoc) : Type 0 where
-  pub count : IsBetween 1 16 (length cs)
+  pub count : IsBetween 1 most_configurations (length cs)
   pub each : All IsConfiguration cs
 
 -- the class has 1 to 128 bytes, and so have the site, the enclosure and the telescope where they are named
@@ -51,7 +51,7 @@ pub record IsWindow (w : Span) : Type 0 where
 
 -- 1 to 32 windows, each with a second, in any order
 pub record AreWindows (ws : List Span) : Type 0 where
-  pub count : IsBetween 1 32 (length ws)
+  pub count : IsBetween 1 most_windows (length ws)
   pub each : All IsWindow ws
 
 -- a cadence in its ranges, or windows in theirs
@@ -65,14 +65,14 @@ pub record IsRequest (r : RequestDoc) : Type 0 where
   pub times : IsWhen r.when
   pub type : IsText r.instrument
   pub taken : AreConfigurations r.configurations
-  pub least : r.threshold ≤ 100
-  pub lost : r.fade ≤ 1000
+  pub least : r.threshold ≤ most_percent
+  pub lost : r.fade ≤ most_fade
 
 -- texts, ipp and priority are in their ranges, and the operator may have so many requests, each of which is in its ranges
 pub record IsGroup (g : GroupDoc) : Type 0 where
   pub title : IsText g.name
   pub payer : IsText g.proposal
-  pub share : IsBetween 500 2000 g.ipp
-  pub rank : IsBetween 1 100 g.priority
+  pub share : IsBetween least_ipp most_ipp g.ipp
+  pub rank : IsBetween 1 most_priority g.priority
   pub shape : is_shape g.op (length g.requests) ≡ true
   pub each : All IsRequest g.requests

@@ -1,5 +1,6 @@
 -- A request.
 use Rattle.std.specs.Prelude.{ℕ, Result, Ok}
+use Rattle.plan_base.specs.Limits.{most_percent, most_fade}
 use Rattle.serde_json.specs.Data.{Data, Members}
 use Rattle.plan_json.specs.declared.member.Member.TheVariants.{Location, AcceptabilityThreshold, Fade, Requests}
 use Rattle.plan_json.specs.Object.{member_of, object_in, or_default}
@@ -18,8 +19,8 @@ request_of index ms =
     in_group (member_of object_in ms Location >>= location_of) >>= λ place.
     when_of index ms >>= λ times.
     configurations_of index ms >>= λ all.
-    in_group (or_default 90 (number_in 0 100) ms AcceptabilityThreshold) >>= λ least.
-    in_group (or_default 0 (number_in 0 1000) ms Fade) >>= λ lost.
+    in_group (or_default 90 (number_in 0 most_percent) ms AcceptabilityThreshold) >>= λ least.
+    in_group (or_default 0 (number_in 0 most_fade) ms Fade) >>= λ lost.
     Ok (record {
       location = place;
       when = times;

@@ -1,6 +1,6 @@
 -- When a request may be observed.
 use Rattle.std.specs.Prelude.{ℕ, List, is_some, nat_lt, if◌then◌else◌, Result, Ok, Err}
-use Rattle.plan_base.specs.Limits.{most_period}
+use Rattle.plan_base.specs.Limits.{most_period, most_windows}
 use Rattle.serde_json.specs.Data.{Data, Members}
 use Rattle.plan_base.specs.declared.span.Span.{Span}
 use Rattle.plan_json.specs.declared.member.Member.TheVariants as member
@@ -36,7 +36,7 @@ window_in index window d =
 
 -- `windows` of the request at place `index`: 1 to 32, in the document's order, or the first fault of one
 abbrev pub windows_of : ℕ → Members → Result (List Span) GroupFault
-windows_of index ms = in_group (member_of (λ m. list_in m 1 32) ms member.Windows) >>= read_from (window_in index) 0
+windows_of index ms = in_group (member_of (λ m. list_in m 1 most_windows) ms member.Windows) >>= read_from (window_in index) 0
 
 -- `cadence`, or else `windows`, which aren't read where a cadence stands
 abbrev pub when_of : ℕ → Members → Result When GroupFault

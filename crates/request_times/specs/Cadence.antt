@@ -2,6 +2,7 @@
 use Rattle.std.specs.Prelude.{ℕ, ◌+◌, ◌*◌, ◌-◌, ◌/◌, nat_le, nat_lt, min, max, Bool, ◌&&◌, List, [], ◌∷◌, map, filter, Result, Ok, Err, if◌then◌else◌}
 use Rattle.std.specs.Int.{div_ceil}
 use Rattle.std.specs.List.{range_with_len}
+use Rattle.plan_base.specs.Limits.{most_members}
 use Rattle.plan_base.specs.declared.span.Span.{Span}
 use Rattle.request_model.specs.declared.request.Cadence.{Cadence}
 use Rattle.request_model.specs.declared.time_fault.TimeFault.{TimeFault}
@@ -44,5 +45,5 @@ if_any (w ∷ ws) = Ok (w ∷ ws)
 abbrev pub expansion : Cadence → ℕ → Result (List Span) TimeFault
 expansion c seconds =
     if is_cadence c
-    then (if nat_le (centre_count c) 256 then if_any (windows_of c seconds (centre_count c)) else Err (TooManyWindows (centre_count c)))
+    then (if nat_le (centre_count c) most_members then if_any (windows_of c seconds (centre_count c)) else Err (TooManyWindows (centre_count c)))
     else Err BadCadence

@@ -1,18 +1,15 @@
 // The windows of a cadence.
 
 ghost use Rattle.std.specs.Prelude.{◌≡◌, ◌≢◌, ◌<◌, ◌≤◌, ◌^◌, length, true, IfOk, IfErr, Ok, Err};
-ghost use Rattle.plan_base.specs.Limits.{most_seconds};
+ghost use Rattle.plan_base.specs.Limits.{most_seconds, most_members};
 ghost use Rattle.plan_json.specs.Ranges.{IsBetween};
 ghost use Rattle.request_model.specs.Ranges.{IsCadence};
 ghost use Rattle.request_model.specs.declared.time_fault.TimeFault.TheVariants.{NoMemory};
 ghost use Rattle.request_times.specs.Cadence.{centre, centre_count, window, is_long, windows_of, is_cadence, expansion};
 
-use plan_base::{Sec, Span};
+use plan_base::{MOST_MEMBERS, Sec, Span};
 use request_model::{Cadence, TimeFault};
 use std::alloc::{AllocError, Global};
-
-/// The most centres that a cadence may have.
-const MOST_CENTRES: u64 = 256;
 
 /// The windows of the cadence, in order, for a request of so many seconds, 1 to 86,400: one round each centre, half of
 /// the jitter before it, rounded down, and the rest from it on, cut at start and end, and dropped where what is left is
@@ -24,14 +21,14 @@ pub fn expand_cadence(alloc: Global, cadence: Cadence, seconds: u32) -> Result<V
     requires seconds { seconds ≤ most_seconds }
     ensures value { IfOk result (λ windows. expansion cadence seconds ≡ Ok windows.items) }
     ensures fault { IfErr result (λ e. e ≢ NoMemory → expansion cadence seconds ≡ Err e) }
-    ensures memory { IfErr result (λ e. e ≡ NoMemory → (is_cadence cadence ≡ true) × (centre_count cadence ≤ 256)) }
-    ensures count { IfOk result (λ windows. IsBetween 1 256 (length windows.items)) }
+    ensures memory { IfErr result (λ e. e ≡ NoMemory → (is_cadence cadence ≡ true) × (centre_count cadence ≤ most_members)) }
+    ensures count { IfOk result (λ windows. IsBetween 1 most_members (length windows.items)) }
 {
     if !is_cadence(cadence) {
         return Err(TimeFault::BadCadence);
     }
     let count = centre_count(cadence);
-    if count > MOST_CENTRES {
+    if count > MOST_MEMBERS as u64 {
         return Err(TimeFault::TooManyWindows { count });
     }
     let windows = windows_of(alloc, cadence, seconds, count as u32)?;

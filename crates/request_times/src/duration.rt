@@ -1,6 +1,7 @@
 // How long a request takes.
 
 ghost use Rattle.std.specs.Prelude.{◌≡◌, ◌+◌, ◌≤◌, length, All, sum_by, IfOk};
+ghost use Rattle.plan_base.specs.Limits.{most_configurations};
 ghost use Rattle.plan_json.specs.Ranges.{IsBetween};
 ghost use Rattle.request_model.specs.Ranges.{IsExposure, AreConfigurations};
 ghost use Rattle.request_times.specs.Duration.{exposure_ms, request_ms, duration, IsOverhead};
@@ -43,7 +44,7 @@ fn request_ms(instrument: Instrument, configurations: &[ConfigDoc]) -> u64
 
 fn configuration_ms(instrument: Instrument, exposures: &[Exposure]) -> u64
     requires overhead { IsOverhead instrument }
-    requires count { IsBetween 1 16 (length exposures.now) }
+    requires count { IsBetween 1 most_configurations (length exposures.now) }
     requires range { All IsExposure exposures.now }
     ensures value { result ≡ instrument.config_ms + sum_by (exposure_ms instrument) exposures.now }
     ensures small { result ≤ 27_650_000_000_000 }

@@ -19,7 +19,7 @@ use Rattle.desk_events.specs.Line.{command_of_line}
 use Rattle.desk_events.specs.Entry.{text_of_entry, text_of_history}
 use Rattle.desk_events.specs.Laws.{IsTelling}
 use Rattle.desk_core.specs.Desk.{StateSeen, start}
-use Rattle.session.specs.Limits.{most_session_bytes, most_session_lines}
+use Rattle.plan_io.specs.Limits.{most_input_bytes, most_input_lines}
 use Rattle.session.specs.Line.{DoesLine, BeginsLine, AddsLine}
 use Rattle.session.specs.Session.{WritesPrefix, Gathers, IsGathered, IsCutOff, IsUnwritten, IsEnded, IsWrittenOn}
 use Rattle.session.proofs.Done.{AreDone, done_none, one_more, are_more, does_version, sound_done, sound_begun, whole_done}
@@ -33,8 +33,8 @@ first_reader = record {
   long = false;
   taken = 0;
   answered = 0;
-  most_bytes = most_session_bytes;
-  most_lines = most_session_lines;
+  most_bytes = most_input_bytes;
+  most_lines = most_input_lines;
   failed = false;
   ended = false;
 }

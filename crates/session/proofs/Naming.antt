@@ -14,7 +14,8 @@ use Rattle.plan_io.specs.Reading.{HasAnswered, ReadsFirst}
 use Rattle.plan_io.proofs.Loops.{so_far_start, so_far_line, so_far_ends, so_far_first, so_far_cut}
 use Rattle.desk_core.specs.History.{script_of}
 use Rattle.desk_book.specs.Seen.{BookSeen, empty_book, with_line}
-use Rattle.session.specs.Limits.{most_live_bytes, most_session_lines}
+use Rattle.plan_io.specs.Limits.{most_input_lines}
+use Rattle.session.specs.Limits.{most_live_bytes}
 use Rattle.session.specs.Live.{caller_of, scripts_of, EachNamesCaller, HasRead, HasNoCaller}
 use Rattle.session.specs.LiveParts.{IsSent, HasReadSome}
 use Rattle.session.proofs.Done.{one_more}
@@ -75,7 +76,7 @@ live_reader = record {
   taken = 0;
   answered = 0;
   most_bytes = most_live_bytes;
-  most_lines = most_session_lines;
+  most_lines = most_input_lines;
   failed = false;
   ended = false;
 }
@@ -162,7 +163,7 @@ room_for a b c old new number book line n caller =
 -- the first of what was read
 read_first : (a c : Option (List ℕ)) (new : LinesSeen) (lines : List ScriptLine) → HasAnswered live_reader a lines new c → new.taken ≤ new.most_bytes
     → new.answered ≤ new.most_lines
-    → ReadsFirst most_live_bytes most_session_lines a lines c
+    → ReadsFirst most_live_bytes most_input_lines a lines c
 read_first a c new lines read bytes within = so_far_first live_reader new a c lines live_fresh refl refl bytes within read
 
 -- the line was sent
@@ -235,6 +236,6 @@ pub some_sent : (a b c : Option (List ℕ)) (old new : LinesSeen) (number : ℕ)
     → NextNaming a b c old new number book line → HasReadSome a c
 some_sent a b c old new number book line n =
     let d = n.naming in
-    let read : ReadsFirst most_live_bytes most_session_lines a (d.lines ++ line ∷ []) c =
+    let read : ReadsFirst most_live_bytes most_input_lines a (d.lines ++ line ∷ []) c =
     read_first a c new (d.lines ++ line ∷ []) n.read n.bytes n.within in
-    (d.lines, record { read = one_fewer most_live_bytes most_session_lines a c d.lines line read; named = d.named })
+    (d.lines, record { read = one_fewer most_live_bytes most_input_lines a c d.lines line read; named = d.named })

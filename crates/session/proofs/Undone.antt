@@ -6,7 +6,8 @@ use Rattle.plan_io.specs.declared.sink.PutAnswer.TheVariants as put
 use Rattle.plan_io.specs.declared.status.Status.{Status}
 use Rattle.plan_io.specs.declared.status.Status.TheVariants.{WriteFault, NoMemory, NoCaller}
 use Rattle.plan_io.specs.Sink.{Adds, Puts}
-use Rattle.session.specs.Limits.{most_live_bytes, most_session_lines}
+use Rattle.plan_io.specs.Limits.{most_input_lines}
+use Rattle.session.specs.Limits.{most_live_bytes}
 use Rattle.session.specs.Live.{HasReadFirst, HasNoCaller, no_caller_text, IsLive}
 use Rattle.session.specs.LiveParts.{HasReadSome, IsRefused}
 use Rattle.session.proofs.Naming.{some_none, one_fewer}
@@ -21,7 +22,7 @@ undone_first a w = undone_memory a a w (some_none a)
 
 -- the lines before the one without a caller
 named_first : (a b : Option (List ℕ)) (lines : List ScriptLine) → HasNoCaller a b lines → HasReadFirst a b lines
-named_first a b lines none = record { read = one_fewer most_live_bytes most_session_lines a b lines none.line none.read; named = none.named }
+named_first a b lines none = record { read = one_fewer most_live_bytes most_input_lines a b lines none.line none.read; named = none.named }
 
 -- a line names no caller
 pub refused_line : (a b w w' : Option (List ℕ)) (number : ℕ) (status : Status)

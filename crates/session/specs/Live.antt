@@ -20,7 +20,8 @@ use Rattle.plan_json.specs.Line.{line_of}
 use Rattle.plan_json.specs.Object.{document_of, member_of}
 use Rattle.plan_json.specs.Values.{has, whole, object_of}
 use Rattle.plan_json.specs.Whole.{number_in}
-use Rattle.session.specs.Limits.{most_live_bytes, most_session_lines}
+use Rattle.plan_io.specs.Limits.{most_input_lines}
+use Rattle.session.specs.Limits.{most_live_bytes, last_caller}
 use Rattle.session.specs.Session.{IsAnswered, IsPartlyAnswered, IsBrokenOff}
 
 -- the one word `live`, or the one word `passes`
@@ -31,7 +32,7 @@ AreLiveWords words = IsOneWord (codes "live") words ⊎ IsOneWord (codes "passes
 
 -- the caller of an object, if it is a whole number from 0 to 7
 abbrev pub caller_in : Members → Option ℕ
-caller_in members = result_ok (member_of (number_in 0 7) members member.Caller)
+caller_in members = result_ok (member_of (number_in 0 last_caller) members member.Caller)
 
 -- the caller of the object that bytes are, if they are one
 abbrev pub caller_of_bytes : List ℕ → Option ℕ
@@ -62,18 +63,18 @@ scripts_of lines = map (λ caller. filter (names caller) lines) callers
 
 -- the lines up to this ending, within the limits, were read, and each names a caller
 pub record HasRead (ending : LineAnswer) (left left' : Option (List ℕ)) (lines : List ScriptLine) : Type 0 where
-  pub read : ReadsAll most_live_bytes most_session_lines left lines ending left'
+  pub read : ReadsAll most_live_bytes most_input_lines left lines ending left'
   pub named : EachNamesCaller lines
 
 -- the first lines of what was read, within the limits, each name a caller
 pub record HasReadFirst (left left' : Option (List ℕ)) (lines : List ScriptLine) : Type 0 where
-  pub read : ReadsFirst most_live_bytes most_session_lines left lines left'
+  pub read : ReadsFirst most_live_bytes most_input_lines left lines left'
   pub named : EachNamesCaller lines
 
 -- the first lines of what was read, within the limits, each name a caller, and the line after them names none
 pub record HasNoCaller (left left' : Option (List ℕ)) (lines : List ScriptLine) : Type 0 where
   pub line : ScriptLine
-  pub read : ReadsFirst most_live_bytes most_session_lines left (lines ++ line ∷ []) left'
+  pub read : ReadsFirst most_live_bytes most_input_lines left (lines ++ line ∷ []) left'
   pub named : EachNamesCaller lines
   pub none : caller_of line ≡ None
 

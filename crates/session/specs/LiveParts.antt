@@ -2,6 +2,7 @@
 use Rattle.std.specs.Prelude.{◌≡◌, ℕ, ◌+◌, ◌<◌, Bool, true, false, List, ◌++◌, length, take, slice_get, None, Some}
 use Rattle.std.specs.declared.option.Option.{Option}
 use Rattle.std.specs.List.{AllByRecursion}
+use Rattle.plan_base.specs.Limits.{most_callers}
 use Rattle.plan_io.specs.declared.lines.ScriptLine.{ScriptLine}
 use Rattle.plan_io.specs.declared.lines.LineAnswer.TheVariants as ending
 use Rattle.plan_io.specs.declared.sink.PutAnswer.{PutAnswer}
@@ -23,7 +24,7 @@ use Rattle.session.specs.Live.{caller_of, scripts_of, HasRead, HasReadFirst, Has
 
 -- a line that names a caller was added to that caller's script; one that names none changes nothing
 abbrev pub IsSent : BookSeen → ScriptLine → BookSeen → Bool → Type 0
-IsSent old line new true = (caller : ℕ) × (caller < 8) × (caller_of line ≡ Some caller) × (new ≡ with_line old caller line)
+IsSent old line new true = (caller : ℕ) × (caller < most_callers) × (caller_of line ≡ Some caller) × (new ≡ with_line old caller line)
 IsSent old line new false = (caller_of line ≡ None) × (new ≡ old)
 
 -- what was read: all lines, which are the scripts of the book; or it ended before

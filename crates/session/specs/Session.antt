@@ -17,7 +17,7 @@ use Rattle.desk_events.specs.Entry.{text_of_history}
 use Rattle.desk_events.specs.Laws.{IsTelling}
 use Rattle.desk_core.specs.History.{EachAfter, IsLegal, IsWhole}
 use Rattle.desk_book.specs.Claims.{IsClaimEntry}
-use Rattle.session.specs.Limits.{most_session_bytes, most_session_lines}
+use Rattle.plan_io.specs.Limits.{most_input_bytes, most_input_lines}
 
 -- ---- the history of a session
 
@@ -40,7 +40,7 @@ pub record IsAnswered (scripts : List (List ScriptLine)) (held held' : Option (L
 -- the lines up to this ending, within the limits, were read and answered; they are the script of the one caller
 pub record IsEnded (ending : LineAnswer) (left left' held held' : Option (List ℕ)) : Type 0 where
   pub lines : List ScriptLine
-  pub read : ReadsAll most_session_bytes most_session_lines left lines ending left'
+  pub read : ReadsAll most_input_bytes most_input_lines left lines ending left'
   pub answered : IsAnswered (lines ∷ []) held held'
 
 -- a prefix of the text was written
@@ -64,13 +64,13 @@ pub record IsBrokenOff (scripts : List (List ScriptLine)) (held held' : Option (
 -- the first lines of what was read, within the limits, were done, and less than the replies to them was written
 pub record IsUnwritten (left left' held held' : Option (List ℕ)) : Type 0 where
   pub lines : List ScriptLine
-  pub read : ReadsFirst most_session_bytes most_session_lines left lines left'
+  pub read : ReadsFirst most_input_bytes most_input_lines left lines left'
   pub answered : IsBrokenOff (lines ∷ []) held held'
 
 -- the first lines of what was read, within the limits, were done, and a prefix of the replies to them was written
 pub record IsCutOff (left left' held held' : Option (List ℕ)) : Type 0 where
   pub lines : List ScriptLine
-  pub read : ReadsFirst most_session_bytes most_session_lines left lines left'
+  pub read : ReadsFirst most_input_bytes most_input_lines left lines left'
   pub answered : IsPartlyAnswered (lines ∷ []) held held'
 
 -- what was read and written at each status
@@ -105,7 +105,7 @@ Gathers held held' replies text = (told : List ℕ) × Adds held held' told × (
 -- of the text of a sound history of the first lines of what was read a prefix was written, and the rest is gathered
 pub record IsGathered (left left' held held' : Option (List ℕ)) (replies : List ℕ) : Type 0 where
   pub lines : List ScriptLine
-  pub read : ReadsFirst most_session_bytes most_session_lines left lines left'
+  pub read : ReadsFirst most_input_bytes most_input_lines left lines left'
   pub history : List EventEntry
   pub sound : IsSound (lines ∷ []) history
   pub telling : AllByRecursion IsTelling history

@@ -11,15 +11,13 @@ mod same;
 mod writing;
 
 use desk_book::Book;
+use plan_base::MOST_CALLERS;
 use plan_io::{Gate, Sink, Source, Status};
 use reading::{Input, read_input};
 use std::alloc::{AllocError, Global};
 use std::sync::Wait;
 use std::thread::Threads;
 use writing::{write_history, write_refusal};
-
-/// How many callers a session may have.
-const CALLERS: u8 = 8;
 
 /// How the threads of callers share their desk.
 #[derive(Clone, Copy)]
@@ -94,7 +92,7 @@ fn play<R: Threads + Wait + Sync, S: Source, K: Sink, G: Gate>(
     ensures over { result ≡ Status.InputOver → sink.new ≡ sink.old }
     ensures cause { IsSessionCause (S.faults source.old) (S.faults source.new) (K.faults sink.old) (K.faults sink.new) result }
 {
-    let Ok(mut book) = Book::new(alloc, CALLERS) else {
+    let Ok(mut book) = Book::new(alloc, MOST_CALLERS) else {
         return Status::NoMemory;
     };
     match read_input(alloc, source, &mut book) {

@@ -10,7 +10,7 @@ use Rattle.plan_base.specs.declared.number.TelescopeNo.{TelescopeNo}
 use Rattle.site_model.specs.declared.code.Code.{Code}
 use Rattle.site_model.specs.declared.telescope.Telescope.{Telescope}
 use Rattle.site_model.specs.Kept.{IsOfSite, IsAtSite}
-use Rattle.site_model.specs.Limits.{most_telescopes}
+use Rattle.plan_base.specs.Limits.{most_telescopes}
 
 -- the numbers are those of the telescopes of the site below n
 pub record AtSoFar (entries : List (Code × Telescope)) (site : SiteNo) (n : ℕ) (numbers : List TelescopeNo) : Type 0 where

@@ -13,7 +13,8 @@ use Rattle.site_model.specs.declared.telescope.Telescope.{Telescope}
 use Rattle.site_model.specs.declared.network.Network.TheInside.{Inside}
 use Rattle.site_model.specs.Names.{is_code, number_of, numbered}
 use Rattle.site_model.specs.Kept.{name_at, ArePlaces}
-use Rattle.site_model.specs.Limits.{most_instruments, most_sites, most_telescopes, most_targets}
+use Rattle.plan_base.specs.Limits.{most_telescopes}
+use Rattle.site_model.specs.Limits.{most_instruments, most_sites, most_targets}
 use Rattle.site_model.specs.Registry.{code_number, is_coded, with_telescope, site_number}
 use Rattle.site_model.specs.Calendar.{CalendarSeen}
 use Rattle.site_model.specs.NetworkInside.{seen_telescope, seen_registry, IsTied, IsRegistry}

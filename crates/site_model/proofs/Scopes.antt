@@ -19,7 +19,7 @@ use Rattle.site_model.specs.declared.telescope.Telescope.{Telescope}
 use Rattle.site_model.specs.declared.network.Network.TheInside.{Inside}
 use Rattle.site_model.specs.Names.{is_name, is_code, number_of}
 use Rattle.site_model.specs.Kept.{IsOfSite, IsAtSite}
-use Rattle.site_model.specs.Limits.{most_telescopes}
+use Rattle.plan_base.specs.Limits.{most_telescopes}
 use Rattle.site_model.specs.Registry.{RegistrySeen, codes_of, code_number, InScope, scope_refusal, IsScopeList}
 use Rattle.site_model.specs.NetworkInside.{seen_telescope, seen_registry, IsTied, IsRegistry}
 use Rattle.site_model.proofs.Numbered.{list_any-none, list_any-some, name_same, same_number, position_some}

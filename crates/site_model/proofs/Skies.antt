@@ -10,7 +10,8 @@ use Rattle.plan_base.specs.declared.span.Span.{Span}
 use Rattle.plan_base.proofs.Orders.{pairs_head, pairs_tail}
 use Rattle.site_model.specs.declared.calendar.SkyKey.{SkyKey}
 use Rattle.site_model.specs.declared.fault.FullOf.TheVariants.{Visibility}
-use Rattle.site_model.specs.Limits.{most_visibility, most_spans, full}
+use Rattle.plan_base.specs.Limits.{most_visibility, most_spans}
+use Rattle.site_model.specs.Limits.{full}
 use Rattle.site_model.specs.Calendar.{CalendarSeen, is_sky, sky_of, pieces_of, sky_refusal, SkiesAreCounted}
 
 -- the pieces of a sky count in the place of those of the one before it

@@ -13,7 +13,8 @@ use Rattle.site_model.specs.declared.changes.Change.TheVariants.{Close, Reopen}
 use Rattle.site_model.specs.declared.changes.Closed.{Closed}
 use Rattle.site_model.specs.declared.fault.SiteFault.{SiteFault}
 use Rattle.site_model.specs.declared.fault.FullOf.TheVariants.{Visibility, Closures}
-use Rattle.site_model.specs.Limits.{most_telescopes, most_sites, most_visibility, most_closures, most_spans, full}
+use Rattle.plan_base.specs.Limits.{most_telescopes, most_visibility, most_spans}
+use Rattle.site_model.specs.Limits.{most_sites, most_closures, full}
 
 -- the night of each site and the closures of each telescope, one list for each number that there may be, and the skies
 -- that were given, each of a target at a site

@@ -1,7 +1,8 @@
 -- How a calendar keeps its sets.
 use Rattle.std.specs.Prelude.{◌≡◌, [], length}
 use Rattle.site_model.specs.declared.calendar.Calendar.TheInside.{Inside}
-use Rattle.site_model.specs.Limits.{most_telescopes, most_sites}
+use Rattle.plan_base.specs.Limits.{most_telescopes}
+use Rattle.site_model.specs.Limits.{most_sites}
 use Rattle.site_model.specs.Calendar.{CalendarSeen, pieces_of, IsWithinLimits}
 
 -- what is seen of the fields

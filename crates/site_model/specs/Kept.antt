@@ -7,7 +7,7 @@ use Rattle.plan_base.specs.declared.number.TelescopeNo.{TelescopeNo}
 use Rattle.site_model.specs.declared.code.Code.{Code}
 use Rattle.site_model.specs.declared.telescope.Telescope.{Telescope}
 use Rattle.site_model.specs.Names.{is_name, number_of}
-use Rattle.site_model.specs.Limits.{most_telescopes}
+use Rattle.plan_base.specs.Limits.{most_telescopes}
 
 -- the name at a place
 abbrev pub name_at : List (List ℕ) → ℕ → List ℕ

@@ -1,5 +1,6 @@
 -- How many there may be, and what is answered where there are as many.
 use Rattle.std.specs.Prelude.{ℕ, nat_le, Option, Some, None, if◌then◌else◌}
+use Rattle.plan_base.specs.Limits.{most_telescopes, most_visibility}
 use Rattle.site_model.specs.declared.fault.SiteFault.{SiteFault}
 use Rattle.site_model.specs.declared.fault.SiteFault.TheVariants.{Full}
 use Rattle.site_model.specs.declared.fault.FullOf.{FullOf}
@@ -9,10 +10,6 @@ use Rattle.site_model.specs.declared.fault.FullOf.TheVariants.{Instruments, Tele
 abbrev pub most_instruments : ℕ
 most_instruments = 64
 
--- the most telescopes
-abbrev pub most_telescopes : ℕ
-most_telescopes = 32
-
 -- the most sites
 abbrev pub most_sites : ℕ
 most_sites = 16
@@ -21,17 +18,9 @@ most_sites = 16
 abbrev pub most_targets : ℕ
 most_targets = 2048
 
--- the most pieces of all skies
-abbrev pub most_visibility : ℕ
-most_visibility = 262144
-
 -- the most pieces of one telescope's closures
 abbrev pub most_closures : ℕ
 most_closures = 512
-
--- the most spans that a line hands in, for a night or a sky
-abbrev pub most_spans : ℕ
-most_spans = 512
 
 -- the most spans in which a telescope is usable, by its night and its closures
 abbrev pub most_usable : ℕ

@@ -4,7 +4,8 @@ use Rattle.std.specs.Map.{keys_of}
 use Rattle.site_model.specs.declared.code.Code.{Code}
 use Rattle.site_model.specs.declared.telescope.Telescope.{Telescope}
 use Rattle.site_model.specs.declared.network.Network.TheInside.{Inside}
-use Rattle.site_model.specs.Limits.{most_instruments, most_telescopes, most_sites, most_targets}
+use Rattle.plan_base.specs.Limits.{most_telescopes}
+use Rattle.site_model.specs.Limits.{most_instruments, most_sites, most_targets}
 use Rattle.site_model.specs.Names.{number_of}
 use Rattle.site_model.specs.Kept.{name_at, ArePlaces}
 use Rattle.site_model.specs.Registry.{RegistrySeen, TelescopeSeen}

@@ -12,7 +12,8 @@ use Rattle.site_model.specs.declared.code.InstrumentTimes.{InstrumentTimes}
 use Rattle.site_model.specs.declared.fault.SiteFault.{SiteFault}
 use Rattle.site_model.specs.declared.fault.SiteFault.TheVariants.{NoSuchTelescope, NoSuchSite, Repeated, NoSuchInstrument}
 use Rattle.site_model.specs.declared.fault.FullOf.TheVariants.{Instruments, Telescopes, Sites, Targets}
-use Rattle.site_model.specs.Limits.{most_telescopes, full_of}
+use Rattle.plan_base.specs.Limits.{most_telescopes}
+use Rattle.site_model.specs.Limits.{full_of}
 use Rattle.site_model.specs.Names.{◌>>=◌, is_name, is_code, is_named, number_of, numbered, first_unnamed}
 
 -- a telescope as it was registered: its code, its class and the instruments that it carries

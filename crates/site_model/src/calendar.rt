@@ -3,7 +3,8 @@
 ghost use Rattle.std.specs.Prelude.{◌≡◌, ◌≢◌, ◌<◌, ◌≤◌, [], All, IfOk, IfErr, OnOk, OnErr, length, replicate};
 ghost use Rattle.interval_set.specs.Spans.{IsDifference};
 ghost use Rattle.site_model.specs.declared.fault.SiteFault.TheVariants.{NoMemory};
-ghost use Rattle.site_model.specs.Limits.{most_telescopes, most_sites, most_spans, most_usable};
+ghost use Rattle.plan_base.specs.Limits.{most_telescopes, most_spans};
+ghost use Rattle.site_model.specs.Limits.{most_sites, most_usable};
 ghost use Rattle.site_model.specs.Calls.{ChangesOrRefuses};
 ghost use Rattle.site_model.specs.Calendar.{no_calendar, set_at, sky_of, with_night, with_sky, sky_refusal};
 ghost use Rattle.site_model.specs.Calendar.{IsListed, IsClosureLine, IsFullClosure, IsWithinLimits};

@@ -4,6 +4,7 @@ ghost use Rattle.std.specs.Prelude.{◌≡◌, None, Some, IfErr, OnOk};
 ghost use Rattle.site_model.specs.declared.fault.SiteFault.TheVariants.{NoMemory};
 ghost use Rattle.site_model.specs.Limits.{most_of, full, full_of};
 
+use plan_base::{MOST_TELESCOPES, MOST_VISIBILITY};
 use std::alloc::{AllocError, AllocFailed};
 use thiserror::Error;
 
@@ -31,10 +32,10 @@ impl FullOf {
     {
         match self {
             FullOf::Instruments => 64,
-            FullOf::Telescopes => 32,
+            FullOf::Telescopes => MOST_TELESCOPES,
             FullOf::Sites => 16,
             FullOf::Targets => 2_048,
-            FullOf::Visibility => 262_144,
+            FullOf::Visibility => MOST_VISIBILITY,
             FullOf::Closures => 512,
         }
     }

@@ -4,7 +4,8 @@ ghost use Rattle.std.specs.Prelude.{◌≡◌, ◌≢◌, ◌<◌, ◌≤◌, �
 ghost use Rattle.std.specs.Option.{option_map, option_copied};
 ghost use Rattle.site_model.specs.declared.changes.Change.TheVariants.{Close, Reopen};
 ghost use Rattle.site_model.specs.declared.fault.SiteFault.TheVariants.{NoMemory};
-ghost use Rattle.site_model.specs.Limits.{most_telescopes, most_sites, most_targets, most_spans, most_usable};
+ghost use Rattle.plan_base.specs.Limits.{most_telescopes, most_spans};
+ghost use Rattle.site_model.specs.Limits.{most_sites, most_targets, most_usable};
 ghost use Rattle.site_model.specs.Calls.{ChangesOrRefuses};
 ghost use Rattle.site_model.specs.Names.{number_of};
 ghost use Rattle.site_model.specs.Registry.{times_of, codes_of, code_number, site_number, fits_at, IsScopeList};

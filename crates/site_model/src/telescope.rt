@@ -5,7 +5,7 @@ ghost use Rattle.std.specs.List.{IsDistinct};
 ghost use Rattle.std.specs.Option.{option_map_or};
 ghost use Rattle.indexmap.specs.IndexMap.{keys};
 ghost use Rattle.site_model.specs.declared.fault.SiteFault.TheVariants.{NoMemory};
-ghost use Rattle.site_model.specs.Limits.{most_telescopes};
+ghost use Rattle.plan_base.specs.Limits.{most_telescopes};
 ghost use Rattle.site_model.specs.Names.{is_name};
 ghost use Rattle.site_model.specs.Kept as kept;
 ghost use Rattle.site_model.specs.Kept.{IsAtSite};

@@ -1,6 +1,7 @@
 // Requests as they are drawn, and their documents.
 
 ghost use Rattle.std.specs.Prelude.{◌≡◌, ◌≤◌, ◌*◌, IfOk, OnOk};
+ghost use Rattle.plan_base.specs.Limits.{most_asked};
 ghost use Rattle.workload.specs.Generator.{number_after};
 ghost use Rattle.workload.specs.Requests.{request_from, requests_from};
 ghost use Rattle.workload.specs.Documents.{exposure_data, configuration_data, window_data, request_data};
@@ -53,7 +54,7 @@ pub(crate) fn draw_requests(
     draws: &mut Draws,
     count: u32,
 ) -> Result<ListOf<Request>, AllocError>
-    requires { count ≤ 32 }
+    requires { count ≤ most_asked }
     ensures drawn { IfOk result (λ requests. requests ≡ requests_from draws.old.x count) }
     ensures next { OnOk result (draws.new.x ≡ number_after draws.old.x (5 * count)) }
 {

@@ -1,6 +1,7 @@
 // A caller's next line.
 
 ghost use Rattle.std.specs.Prelude.{◌≡◌, ◌<◌, ◌-◌, length, take, None, IfOk, OnOk, OnErr, IfSome, MatchOption};
+ghost use Rattle.plan_io.specs.Limits.{most_input_lines};
 ghost use Rattle.desk_core.specs.History.{script_of, IsPlanning};
 ghost use Rattle.desk_events.specs.Line.{command_of_line};
 ghost use Rattle.desk_events.specs.Ranges.{IsCommand};
@@ -150,7 +151,7 @@ impl Book {
     /// line left, and fewer than 65,536 lines. Want of memory leaves the script, too, as before.
     pub fn call(&mut self, caller: u8, line: ScriptLine) -> Result<BookCall, AllocError>
         requires caller { caller < length self.old.scripts }
-        requires room { length (script_of self.old.scripts caller) < 65536 }
+        requires room { length (script_of self.old.scripts caller) < most_input_lines }
         requires shut { take_of self.old.takes caller ≡ None }
         requires over { next_line self.old caller ≡ None }
         ensures ok { IfOk result (λ answer. IsDone (with_line self.old caller line) caller (command_of_line line) answer self.new) }

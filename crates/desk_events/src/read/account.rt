@@ -8,12 +8,9 @@ ghost use Rattle.desk_events.specs.Commands.{grant_of};
 
 use crate::command::Command;
 use allocations::{Account, Key};
-use plan_base::Name;
+use plan_base::{MOST_GRANT, Name};
 use plan_json::{Doc, JsonFault, Member};
 use std::alloc::{AllocError, Global};
-
-/// The most seconds of a grant.
-const MOST_GRANT: u32 = 1_000_000_000;
 
 fn account_named(word: &str) -> Option<Account>
     ensures { result ≡ account_named word.now }

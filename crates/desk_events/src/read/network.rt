@@ -7,12 +7,9 @@ ghost use Rattle.plan_json.specs.Text.{text_in};
 ghost use Rattle.desk_events.specs.Commands.{instrument_of, telescope_of, night_of, visibility_of};
 
 use crate::command::Command;
-use plan_base::{MOST_MS, Name};
+use plan_base::{MOST_CARRIED, MOST_MS, Name};
 use plan_json::{Doc, DocList, Element, JsonFault, Member, read_list};
 use std::alloc::Global;
-
-/// The most instrument types of a telescope.
-const MOST_INSTRUMENTS: u32 = 16;
 
 /// An `instrument` line.
 pub(crate) fn read_instrument(alloc: Global, doc: &Doc) -> Result<Command, JsonFault>
@@ -59,7 +56,7 @@ pub(crate) fn read_telescope(alloc: Global, doc: &Doc) -> Result<Command, JsonFa
         doc,
         Member::Instruments,
         1,
-        MOST_INSTRUMENTS,
+        MOST_CARRIED,
     )?;
     Ok(Command::Telescope {
         site,

@@ -10,8 +10,8 @@ ghost use Rattle.desk_events.specs.Commands.{open_of, clock_of, report_of};
 
 use crate::command::Command;
 use plan_base::{
-    LEAST_LEN, MOST_LANES, MOST_LEN, MOST_QUOTA, MOST_ROUNDS, MOST_SECONDS, MOST_SLICES,
-    MOST_WORKERS, RequestNo,
+    LEAST_LEN, MOST_LANES, MOST_LEN, MOST_PERCENT, MOST_QUOTA, MOST_ROUNDS, MOST_SECONDS,
+    MOST_SLICES, MOST_WORKERS, RequestNo,
 };
 use plan_json::{Doc, JsonFault, Member};
 
@@ -60,7 +60,7 @@ pub(crate) fn read_report(doc: &Doc) -> Result<Command, JsonFault>
     ensures { result ≡ report_of (members_of doc.now) }
 {
     let request = doc.number(Member::Request, 0, u32::MAX)?;
-    let percent = doc.number(Member::Percent, 0, 100)?;
+    let percent = doc.number(Member::Percent, 0, MOST_PERCENT)?;
     let used = doc.number(Member::Used, 0, MOST_SECONDS)?;
     Ok(Command::Report {
         request: RequestNo(request),

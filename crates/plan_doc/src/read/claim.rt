@@ -1,6 +1,7 @@
 // Claims.
 
-ghost use Rattle.std.specs.Prelude.{◌≡◌, ◌≢◌, ◌^◌, IfOk, IfErr, Ok, Err};
+ghost use Rattle.std.specs.Prelude.{◌≡◌, ◌≢◌, IfOk, IfErr, Ok, Err};
+ghost use Rattle.plan_doc.specs.Limits.{highest_value, highest_bound};
 ghost use Rattle.plan_json.specs.declared.fault.JsonFault.TheVariants.{NoMemory};
 ghost use Rattle.plan_json.specs.declared.member.Member.TheVariants as key;
 ghost use Rattle.plan_json.specs.Object.{member_of};
@@ -101,7 +102,7 @@ fn read_quota_prices(
 
 #[tactic(auto, using(crate::proofs::Numbers::member_number))]
 fn read_value(doc: &Doc) -> Result<u64, JsonFault>
-    ensures { result ≡ member_of (number_in 0 (10 ^ 12)) (members_of doc.now) key.Value }
+    ensures { result ≡ member_of (number_in 0 highest_value) (members_of doc.now) key.Value }
 {
     let value = doc.whole(Member::Value, 0, HIGHEST_VALUE)?;
     Ok(value as u64)
@@ -109,7 +110,7 @@ fn read_value(doc: &Doc) -> Result<u64, JsonFault>
 
 #[tactic(auto, using(crate::proofs::Numbers::member_number))]
 fn read_bound(doc: &Doc) -> Result<u64, JsonFault>
-    ensures { result ≡ member_of (number_in 0 (10 ^ 17)) (members_of doc.now) key.Bound }
+    ensures { result ≡ member_of (number_in 0 highest_bound) (members_of doc.now) key.Bound }
 {
     let bound = doc.whole(Member::Bound, 0, HIGHEST_BOUND)?;
     Ok(bound as u64)

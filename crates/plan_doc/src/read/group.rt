@@ -1,6 +1,7 @@
 // Requests and groups.
 
 ghost use Rattle.std.specs.Prelude.{◌≡◌, ◌≢◌, IfOk, IfErr, Ok, Err};
+ghost use Rattle.plan_doc.specs.Limits.{highest_number};
 ghost use Rattle.plan_json.specs.declared.fault.JsonFault.TheVariants.{NoMemory};
 ghost use Rattle.plan_json.specs.declared.member.Member.TheVariants as key;
 ghost use Rattle.plan_json.specs.Elements.{each_of};
@@ -13,8 +14,8 @@ ghost use Rattle.plan_doc.specs.Snapshot.{telescope_number_in, target_number_in,
 use crate::read::number::number_at;
 use crate::read::sky::{HIGHEST_NUMBER, MOST_ITEMS, read_spans};
 use plan_base::{
-    GroupNo, GroupPart, ListOf, MOST_SECONDS, MOST_VALUE, RequestNo, RequestPart, TargetNo,
-    TelescopeNo,
+    GroupNo, GroupPart, ListOf, MOST_FADE, MOST_SECONDS, MOST_VALUE, RequestNo, RequestPart,
+    TargetNo, TelescopeNo,
 };
 use plan_json::{Doc, DocList, Element, JsonFault, Member, read_list};
 use std::alloc::Global;
@@ -60,7 +61,7 @@ fn read_request(alloc: Global, doc: &Doc) -> Result<RequestPart, JsonFault>
     )?;
     let targets = read_list(alloc, &TargetNumbers, doc, Member::Targets, 0, MOST_ITEMS)?;
     let windows = read_spans(alloc, doc, Member::Windows)?;
-    let fade = doc.number_or(Member::Fade, 0, 1_000, 0)?;
+    let fade = doc.number_or(Member::Fade, 0, MOST_FADE, 0)?;
     Ok(RequestPart {
         request: RequestNo(request),
         seconds,
@@ -85,7 +86,7 @@ impl Element<RequestPart> for Requests {
 
 /// The place of the quota, if the group names one.
 fn read_quota(doc: &Doc) -> Result<Option<u16>, JsonFault>
-    ensures { result ≡ if_there (number_in 0 65535) (members_of doc.now) key.Quota }
+    ensures { result ≡ if_there (number_in 0 highest_number) (members_of doc.now) key.Quota }
 {
     let place = doc.optional_number(Member::Quota, 0, HIGHEST_NUMBER)?;
     Ok(place.map(|place| place as u16))

@@ -4,7 +4,8 @@ ghost use Rattle.std.specs.Prelude.{◌≡◌, ◌≢◌, IfOk, IfErr, Ok, Err};
 ghost use Rattle.plan_json.specs.declared.fault.JsonFault.TheVariants.{NoMemory};
 ghost use Rattle.plan_json.specs.Elements.{each_of};
 ghost use Rattle.plan_json.specs.Shown.{members_of};
-ghost use Rattle.plan_doc.specs.Snapshot.{most_items, span_in, telescope_of, telescope_in, sky_of, sky_in};
+ghost use Rattle.plan_doc.specs.Limits.{most_items};
+ghost use Rattle.plan_doc.specs.Snapshot.{span_in, telescope_of, telescope_in, sky_of, sky_in};
 
 use crate::read::number::number_at;
 use plan_base::{ListOf, MOST_MOMENT, Sec, SiteNo, Sky, Span, TargetNo, TelescopePart};

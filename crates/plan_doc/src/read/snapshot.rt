@@ -1,6 +1,7 @@
 // Snapshots.
 
 ghost use Rattle.std.specs.Prelude.{◌≡◌, ◌≢◌, IfOk, IfErr, Ok, Err};
+ghost use Rattle.plan_doc.specs.Limits.{highest_quota};
 ghost use Rattle.plan_base.specs.Snapshot.{IsInRanges};
 ghost use Rattle.plan_json.specs.declared.fault.JsonFault.TheVariants as json;
 ghost use Rattle.plan_json.specs.Shown.{members_of};
@@ -25,7 +26,7 @@ const HIGHEST_QUOTA: u64 = 1_000_000_000_000;
 struct QuotaSeconds;
 
 impl Element<u64> for QuotaSeconds {
-    ghost element_in = { number_in 0 1000000000000 };
+    ghost element_in = { number_in 0 highest_quota };
 
     fn read(&self, _alloc: Global, list: &DocList, index: u32) -> Result<u64, JsonFault> {
         number_at(list, index, HIGHEST_QUOTA)

@@ -8,15 +8,9 @@ ghost use Rattle.request_model.specs.declared.fault.GroupFault.TheVariants.{NoMe
 
 use crate::fault::GroupFault;
 use crate::request::{ConfigDoc, Exposure};
-use plan_base::{ListOf, MOST_MS, Name};
+use plan_base::{ListOf, MOST_CONFIGURATIONS, MOST_EXPOSURES, MOST_MS, Name};
 use plan_json::{Doc, DocList, Element, JsonFault, Member, read_list};
 use std::alloc::{AllocError, Global};
-
-/// The most exposures of one length.
-const MOST_EXPOSURES: u32 = 10_000;
-
-/// The most exposures of a configuration, and configurations of a request.
-const MOST_CONFIGURATIONS: u32 = 16;
 
 /// A configuration, with its instrument type.
 #[derive(Drop)]

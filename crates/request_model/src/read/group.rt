@@ -1,6 +1,7 @@
 // Request groups.
 
 ghost use Rattle.std.specs.Prelude.{◌≡◌, ◌≢◌, ◌≤◌, IfOk, IfErr, Ok, Err};
+ghost use Rattle.plan_base.specs.Limits.{most_ipp};
 ghost use Rattle.plan_json.specs.Shown.{members_of};
 ghost use Rattle.request_model.specs.declared.fault.GroupFault.TheVariants.{NoMemory};
 ghost use Rattle.request_model.specs.Ranges.{IsGroup};
@@ -10,7 +11,7 @@ use crate::fault::GroupFault;
 use crate::group::{GroupDoc, ObsKind};
 use crate::read::request::read_requests;
 use crate::request::RequestDoc;
-use plan_base::{ListOf, Op};
+use plan_base::{LEAST_IPP, ListOf, MOST_ASKED, MOST_IPP, MOST_PRIORITY, Op};
 use plan_json::{Doc, JsonFault, Member};
 use std::alloc::Global;
 
@@ -46,11 +47,11 @@ fn read_kind(doc: &Doc) -> Result<ObsKind, JsonFault>
 /// stands alone, `ipp_thousandths` is missing.
 fn read_ipp(doc: &Doc) -> Result<u32, JsonFault>
     ensures value { result ≡ ipp_of (members_of doc.now) }
-    ensures small { IfOk result (λ ipp. ipp ≤ 2000) }
+    ensures small { IfOk result (λ ipp. ipp ≤ most_ipp) }
 {
     let member = Member::IppThousandths;
     if doc.has(member) {
-        doc.number(member, 500, 2000)
+        doc.number(member, LEAST_IPP, MOST_IPP)
     } else if doc.has(Member::IppValue) {
         Err(JsonFault::Missing { member })
     } else {
@@ -63,7 +64,7 @@ fn is_shape(op: Op, count: u32) -> bool
 {
     match op {
         Op::Single => count == 1,
-        Op::Many | Op::OneOf | Op::And => (2..=32).contains(&count),
+        Op::Many | Op::OneOf | Op::And => (2..=MOST_ASKED as u32).contains(&count),
     }
 }
 
@@ -90,7 +91,7 @@ fn read_members(alloc: Global, doc: &Doc) -> Result<GroupDoc, GroupFault>
     let op = doc.operator(Member::Operator)?;
     let kind = read_kind(doc)?;
     let ipp = read_ipp(doc)?;
-    let priority = doc.number_or(Member::Priority, 1, 100, PRIORITY)?;
+    let priority = doc.number_or(Member::Priority, 1, MOST_PRIORITY, PRIORITY)?;
     let requests = read_shaped(alloc, doc, op)?;
     Ok(GroupDoc {
         name,

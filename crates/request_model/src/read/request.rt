@@ -12,7 +12,7 @@ use crate::read::configuration::read_configurations;
 use crate::read::location::read_location;
 use crate::read::when::read_when;
 use crate::request::RequestDoc;
-use plan_base::ListOf;
+use plan_base::{ListOf, MOST_FADE, MOST_PERCENT};
 use plan_json::{Doc, DocList, Member};
 use std::alloc::Global;
 
@@ -27,8 +27,8 @@ fn read_request(alloc: Global, doc: &Doc, index: u32) -> Result<RequestDoc, Grou
     let location = read_location(alloc, &doc.object(Member::Location)?)?;
     let when = read_when(alloc, doc, index)?;
     let taken = read_configurations(alloc, doc, index)?;
-    let threshold = doc.number_or(Member::AcceptabilityThreshold, 0, 100, THRESHOLD)?;
-    let fade = doc.number_or(Member::Fade, 0, 1000, 0)?;
+    let threshold = doc.number_or(Member::AcceptabilityThreshold, 0, MOST_PERCENT, THRESHOLD)?;
+    let fade = doc.number_or(Member::Fade, 0, MOST_FADE, 0)?;
     Ok(RequestDoc {
         location,
         when,

@@ -9,12 +9,9 @@ ghost use Rattle.request_model.specs.When.{cadence_of, window_in, when_of};
 
 use crate::fault::GroupFault;
 use crate::request::{Cadence, When};
-use plan_base::{ListOf, MOST_PERIOD, Span};
+use plan_base::{ListOf, MOST_PERIOD, MOST_WINDOWS, Span};
 use plan_json::{Doc, DocList, JsonFault, Member};
 use std::alloc::Global;
-
-/// The most windows of a request.
-const MOST_WINDOWS: u32 = 32;
 
 fn read_cadence(doc: &Doc) -> Result<Cadence, JsonFault>
     ensures { result ≡ cadence_of (members_of doc.now) }

@@ -1,5 +1,6 @@
 //! Lines that are called, each caller's from a thread of its own and through a pass of its own.
 ghost use Rattle.std.specs.Prelude.{◌≡◌, ◌<◌, ◌≤◌, ◌+◌, ℕ, length, None, IfOk, OnOk};
+ghost use Rattle.plan_io.specs.Limits.{most_input_lines};
 ghost use Rattle.desk_book.specs.Seen.{IsOver};
 ghost use Rattle.desk_passes.specs.Seen.{lines_done};
 ghost use Rattle.desk_passes.specs.Steps.{first_view};
@@ -7,11 +8,11 @@ ghost use Rattle.desk_passes.specs.Rule.{EachIsBack};
 ghost use Rattle.desk_passes.specs.Calls.{IsRootOf, IsPassOf, root_view, view};
 ghost use Rattle.session.specs.Passes.{IsFresh, IsOf, EachPass, OnlyOut};
 
-use super::CALLERS;
 use super::same::is_same;
 use desk_book::Book;
 use desk_passes::{CallAnswer, Pass, Root, SharedDesk};
 use lanes::solve_plan_with;
+use plan_base::MOST_CALLERS;
 use plan_io::{Gate, MOST_LINES, Point, ScriptLine};
 use snapshot_starts::StartCache;
 use std::alloc::{AllocError, Global};
@@ -31,7 +32,7 @@ fn call_line<R: Threads + Wait + Sync, G: Gate>(
 ) -> Result<(), AllocError>
     requires desk { IsPassOf desk.now pass.old }
     requires shut { (view pass.old).take ≡ None }
-    requires room { lines_done (view pass.old).own < 65536 }
+    requires room { lines_done (view pass.old).own < most_input_lines }
     ensures desk { IsPassOf desk.now pass.new }
     ensures caller { (view pass.new).caller ≡ (view pass.old).caller }
     ensures shut { OnOk result ((view pass.new).take ≡ None) }
@@ -107,7 +108,7 @@ fn call_scripts<R: Threads + Wait + Sync, G: Gate>(
     thread::for_each_mut(
         rt,
         passes,
-        usize::from(CALLERS),
+        usize::from(MOST_CALLERS),
         &|_, pass: &mut Pass|
             requires { (caller : ℕ) × IsFresh desk.now caller pass.old }
             ensures desk { IsPassOf desk.entry.now pass.new }
@@ -125,7 +126,7 @@ fn make_passes(alloc: Global, desk: &SharedDesk, root: &mut Root) -> Result<Vec<
     ensures out { IfOk result (λ passes. OnlyOut (root_view root.new) (length passes.items)) }
 {
     let mut passes = Vec::new(alloc);
-    for caller in 0..CALLERS {
+    for caller in 0..MOST_CALLERS {
         let pass = desk.pass(root, caller);
         passes.push(pass)?;
     }
@@ -152,7 +153,7 @@ fn call_all<R: Threads + Wait + Sync, G: Gate>(
     sent: &Book,
     gate: &G,
 ) -> Result<Book, AllocError> {
-    let book = Book::new(alloc, CALLERS)?;
+    let book = Book::new(alloc, MOST_CALLERS)?;
     let (desk, mut root) = SharedDesk::new(alloc, book)?;
     let mut passes = make_passes(alloc, &desk, &mut root)?;
     call_scripts(rt, alloc, &desk, passes.as_mut_slice(), sent, gate);

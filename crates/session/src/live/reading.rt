@@ -1,5 +1,7 @@
 //! The lines of several callers, each in the script of the caller that it names.
 ghost use Rattle.std.specs.Prelude.{◌≡◌, ℕ, ◌<◌, length, IfOk, IfSome, OnErr};
+ghost use Rattle.plan_base.specs.Limits.{most_callers};
+ghost use Rattle.plan_io.specs.Limits.{most_input_lines};
 ghost use Rattle.plan_json.specs.Shown.{members_of};
 ghost use Rattle.desk_core.specs.History.{script_of};
 ghost use Rattle.desk_book.specs.Seen.{empty_book};
@@ -33,7 +35,7 @@ pub(crate) enum Input {
 /// The caller that an object names, 0 to 7.
 fn caller_in(doc: &Doc) -> Option<u8>
     ensures caller { result ≡ caller_in (members_of doc.now) }
-    ensures small { IfSome result (λ caller. caller < 8) }
+    ensures small { IfSome result (λ caller. caller < most_callers) }
 {
     match doc.number(Member::Caller, 0, LAST_CALLER) {
         Ok(number) => Some(number as u8),
@@ -44,7 +46,7 @@ fn caller_in(doc: &Doc) -> Option<u8>
 /// The caller that bytes name.
 fn caller_of_bytes(alloc: Global, bytes: &[u8]) -> Result<Option<u8>, AllocError>
     ensures caller { IfOk result (λ caller. caller ≡ caller_of_bytes bytes.now) }
-    ensures small { IfOk result (λ caller. IfSome caller (λ number. number < 8)) }
+    ensures small { IfOk result (λ caller. IfSome caller (λ number. number < most_callers)) }
 {
     match parse_object(alloc, bytes) {
         Ok(doc) => Ok(caller_in(&doc)),
@@ -57,7 +59,7 @@ fn caller_of_bytes(alloc: Global, bytes: &[u8]) -> Result<Option<u8>, AllocError
 /// in this range. Fails only for want of memory.
 fn caller_of(alloc: Global, line: &ScriptLine) -> Result<Option<u8>, AllocError>
     ensures caller { IfOk result (λ caller. caller ≡ caller_of line.now) }
-    ensures small { IfOk result (λ caller. IfSome caller (λ number. number < 8)) }
+    ensures small { IfOk result (λ caller. IfSome caller (λ number. number < most_callers)) }
 {
     match line {
         ScriptLine::Bytes(bytes) => caller_of_bytes(alloc, bytes.as_slice()),
@@ -67,8 +69,8 @@ fn caller_of(alloc: Global, line: &ScriptLine) -> Result<Option<u8>, AllocError>
 
 /// Adds a line to the script of the caller that it names, and says whether it names one.
 fn send_line(alloc: Global, book: &mut Book, line: ScriptLine) -> Result<bool, AllocError>
-    requires callers { length book.old.scripts ≡ 8 }
-    requires room { (caller : ℕ) → length (script_of book.old.scripts caller) < 65536 }
+    requires callers { length book.old.scripts ≡ most_callers }
+    requires room { (caller : ℕ) → length (script_of book.old.scripts caller) < most_input_lines }
     ensures { IfOk result (IsSent book.old line book.new) }
 {
     let Some(caller) = caller_of(alloc, &line)? else {

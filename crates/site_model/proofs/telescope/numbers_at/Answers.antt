@@ -1,5 +1,5 @@
 use Rattle.std.proofs.Common.{◌≡◌, ◌+◌, ◌<◌, ◌++◌, ◌∷◌, [], true, false, nat_eq, sym, ap, subst, ◌∙◌, arith}
-use Rattle.site_model.specs.Limits.{most_telescopes}
+use Rattle.plan_base.specs.Limits.{most_telescopes}
 use Rattle.site_model.proofs.AtSites.{AtSoFar, one_more, none_more, at_site}
 use Rattle.site_model.proofs.telescope.numbers_at.Goals.{then-eq+in_ok-push, else-eq}
 use Rattle.site_model.proofs.telescope.numbers_at.Goals as goal

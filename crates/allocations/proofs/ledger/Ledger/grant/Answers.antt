@@ -1,10 +1,10 @@
 use Rattle.std.proofs.Common.{◌≡◌, ◌≢◌, ap, List, ◌≤◌, length, arith}
 use Rattle.std.specs.Prelude.{Contains}
 use Rattle.std.proofs.lemmas.Result.{IfErr-weaker}
+use Rattle.plan_base.specs.Limits.{most_accounts}
 use Rattle.allocations.specs.declared.fault.LedgerFault.{LedgerFault}
 use Rattle.allocations.specs.declared.fault.LedgerFault.TheVariants.{Full, NoMemory}
 use Rattle.allocations.specs.declared.fault.FullOf.TheVariants.{Accounts}
-use Rattle.allocations.specs.declared.granting.TheConstants.{MOST_ACCOUNTS}
 use Rattle.allocations.specs.declared.key.Key.{Key}
 use Rattle.allocations.specs.Books.{accounts_of}
 use Rattle.allocations.specs.Store.{store_books}
@@ -16,9 +16,9 @@ pub returns-clause-full : goal.returns-clause-full
 returns-clause-full c =
     let s = c.self.inside.store in
     let key = c.args.key.now in
-    let P : LedgerFault → Type 0 = λ fault. fault ≢ NoMemory → (fault ≡ Full MOST_ACCOUNTS Accounts) × (Contains s.keys key → ⊥)
-    × (MOST_ACCOUNTS ≤ length s.listed) in
-    let Q : LedgerFault → Type 0 = λ fault. fault ≢ NoMemory → (fault ≡ Full MOST_ACCOUNTS Accounts) × IsFull MOST_ACCOUNTS (store_books s).entries key in
+    let P : LedgerFault → Type 0 = λ fault. fault ≢ NoMemory → (fault ≡ Full most_accounts Accounts) × (Contains s.keys key → ⊥)
+    × (most_accounts ≤ length s.listed) in
+    let Q : LedgerFault → Type 0 = λ fault. fault ≢ NoMemory → (fault ≡ Full most_accounts Accounts) × IsFull most_accounts (store_books s).entries key in
     rw (← c.self.view_is) (IfErr-weaker c.grant.result P Q
     (λ fault h ne.
     let f = h ne in

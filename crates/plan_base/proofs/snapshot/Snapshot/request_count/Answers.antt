@@ -1,4 +1,5 @@
 use Rattle.std.proofs.Common.{◌≤◌, length, lit<, arith}
+use Rattle.plan_base.specs.Limits.{most_pending}
 use Rattle.plan_base.specs.declared.fault.Counted.TheVariants.{Requests}
 use Rattle.plan_base.specs.Requests.{listed}
 use Rattle.plan_base.proofs.Orderly.{orderly}
@@ -11,5 +12,5 @@ returns-clause-value c = rw (← c.self.view_is)
 
 pub returns-clause-few : goal.returns-clause-few
 returns-clause-few c =
-    let few : length (listed c.self.inside.parts) ≤ 1024 = (orderly c.self.inside.parts c.self.invariant.0).within Requests 0 0 (lit< tt) in
+    let few : length (listed c.self.inside.parts) ≤ most_pending = (orderly c.self.inside.parts c.self.invariant.0).within Requests 0 0 (lit< tt) in
     omega (arith, c.self.inside.rows.ok.0, length-rows c.self.inside.parts c.self.inside.rows.items c.self.invariant.1)

@@ -2,7 +2,8 @@ use Rattle.std.proofs.Common.{◌≡◌, ◌+◌, ◌-◌, ◌≤◌, List, leng
 use Rattle.indexmap.specs.IndexMap.{insert_entry}
 use Rattle.plan_base.specs.declared.span.Span.{Span}
 use Rattle.site_model.specs.declared.fault.FullOf.TheVariants.{Visibility}
-use Rattle.site_model.specs.Limits.{most_spans, full}
+use Rattle.plan_base.specs.Limits.{most_spans}
+use Rattle.site_model.specs.Limits.{full}
 use Rattle.site_model.specs.Calendar.{CalendarSeen, is_sky, sky_of, pieces_of, sky_refusal}
 use Rattle.site_model.specs.CalendarInside.{seen_calendar}
 use Rattle.site_model.proofs.Calls.{changes, refuses}

@@ -1,7 +1,7 @@
 use Rattle.std.proofs.Common.{◌≤◌, List, [], Option, length, sym, subst}
 use Rattle.std.specs.Option.{unwrap_or}
 use Rattle.plan_base.specs.declared.span.Span.{Span}
-use Rattle.site_model.specs.Limits.{most_spans}
+use Rattle.plan_base.specs.Limits.{most_spans}
 use Rattle.site_model.proofs.Skies.{sky_few}
 use Rattle.site_model.proofs.calendar.Calendar.sky.Goals as goal
 

@@ -2,7 +2,8 @@ use Rattle.std.proofs.Common.{◌≤◌, List, length, sym, subst, arith}
 use Rattle.std.proofs.lemmas.Result.{IfOk-weaker}
 use Rattle.plan_base.specs.declared.span.Span.{Span}
 use Rattle.interval_set.proofs.Counts.{difference_is_no_longer}
-use Rattle.site_model.specs.Limits.{most_spans, most_closures}
+use Rattle.plan_base.specs.Limits.{most_spans}
+use Rattle.site_model.specs.Limits.{most_closures}
 use Rattle.site_model.proofs.calendar.Calendar.usable.Goals as goal
 
 pub returns-clause-few : goal.returns-clause-few

@@ -4,7 +4,7 @@ use Rattle.std.proofs.lemmas.Result.{on_ok_weaker, on_err_weaker, IfErr-weaker}
 use Rattle.plan_base.specs.declared.number.TelescopeNo.{TelescopeNo}
 use Rattle.site_model.specs.declared.fault.SiteFault.{SiteFault}
 use Rattle.site_model.specs.declared.fault.SiteFault.TheVariants.{NoMemory}
-use Rattle.site_model.specs.Limits.{most_telescopes}
+use Rattle.plan_base.specs.Limits.{most_telescopes}
 use Rattle.site_model.specs.Registry.{IsScopeList, scope_refusal}
 use Rattle.site_model.specs.Calendar.{CalendarSeen, IsListed, IsFullClosure}
 use Rattle.site_model.specs.Network.{NetworkSeen, IsClosureRefusal}
