@@ -32,6 +32,16 @@ impl Model for Spans {
     ghost invariant = { λ a. IsSortedApart a.items.items };
 }
 
+impl Clone for Spans {
+    ghost is_clone = { λ x y. y ≡ x };
+
+    fn clone(&self) -> Result<Spans, AllocError> {
+        Ok(Spans {
+            items: self.items.clone()?,
+        })
+    }
+}
+
 impl Spans {
     /// No seconds. It takes no memory.
     pub fn empty(alloc: Global) -> Self
@@ -79,15 +89,6 @@ impl Spans {
         ensures { IsTrue result ↔ (self.now ≡ []) }
     {
         self.items.is_empty()
-    }
-
-    /// The same seconds once more. Fails only for want of memory.
-    pub fn copy(&self, alloc: Global) -> Result<Self, AllocError>
-        ensures { IfOk result (λ copy. copy ≡ self.now) }
-    {
-        Ok(Spans {
-            items: Vec::from_slice(alloc, self.items.as_slice())?,
-        })
     }
 
     /// The seconds of either set. Fails only for want of memory.

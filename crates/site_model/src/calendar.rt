@@ -84,7 +84,7 @@ impl Calendar {
         ensures ok { OnOk result (self.new ≡ with_night self.old site.0 spans.now) }
         ensures err { OnErr result (self.new ≡ self.old) }
     {
-        let spans = spans.copy(self.alloc)?;
+        let spans = spans.clone()?;
         self.nights[site.0 as usize] = spans;
         Ok(())
     }
@@ -99,7 +99,7 @@ impl Calendar {
             return Err(SiteFault::full(FullOf::Visibility));
         }
         let pieces = others + spans.len();
-        let spans = spans.copy(self.alloc)?;
+        let spans = spans.clone()?;
         self.skies.insert(key, spans)?;
         self.pieces = pieces;
         Ok(())

@@ -39,8 +39,8 @@ invariant_of-self-2 c =
     let within = sky_within c.self.inside.skies.entries c.args.key in
     let old : c.len.result ≡ length (sky_of c.self.inside.skies.entries c.args.key) = c.len.ensures
     ∙ ap length (c.sky.ensures.sky ∙ ap (λ (k : CalendarSeen). sky_of k.skies c.args.key) (sym c.self.view_is)) in
-    let few : length c.in_ok-spans.spans ≤ most_spans = rw c.in_ok-spans.ensures c.requires in
-    let new : c.len-3.result ≡ length c.in_ok-spans.spans = c.len-3.ensures ∙ ap length (sym c.in_ok-spans.ensures) in
+    let few : length c.in_ok-spans.spans ≤ most_spans = rw c.in_ok-spans.ensures.cases c.requires in
+    let new : c.len-3.result ≡ length c.in_ok-spans.spans = c.len-3.ensures ∙ ap length (sym c.in_ok-spans.ensures.cases) in
     let pieces : c.self.inside.pieces - c.len.result + c.len-3.result ≡ pieces_of c.insert.new.self.entries
     = omega (arith, ap pieces_of c.in_ok-insert.ensures.entries, with, within, old, new, c.self.invariant.pieces) in
     record {
@@ -80,5 +80,5 @@ returns c =
       c.len.ensures,
       ap length c.sky.ensures.sky,
     )) in
-    let entries = c.in_ok-insert.ensures.entries ∙ ap (λ (s : List Span). insert_entry is_sky a.skies.entries c.args.key s) c.in_ok-spans.ensures in
+    let entries = c.in_ok-insert.ensures.entries ∙ ap (λ (s : List Span). insert_entry is_sky a.skies.entries c.args.key s) c.in_ok-spans.ensures.cases in
     rw (← c.self.view_is) (changes _ _ _ _ _ allowed (λ j. record (seen_calendar a) { skies = entries j }))
