@@ -1,4 +1,4 @@
-"""The desk in plain Rust, bench/desk_baseline: how it is built, and talked to."""
+"""Programs in plain Rust: how they are built, and how the desk is talked to that is one of them, bench/desk_baseline."""
 
 import json
 import os
@@ -7,7 +7,7 @@ import shutil
 import subprocess
 import sys
 
-HERE = pathlib.Path(__file__).resolve().parent.parent / "desk_baseline"
+BENCH = pathlib.Path(__file__).resolve().parent.parent
 REGISTRY = pathlib.Path("/usr/share/cargo/registry")
 
 
@@ -17,14 +17,14 @@ def cargo():
     return shutil.which("cargo", path=path) or "cargo"
 
 
-def build(target):
-    """Builds the desk in plain Rust, with Debian's serde_json."""
+def build(name, target):
+    """Builds the program in plain Rust of the folder bench/NAME, with Debian's serde_json, and gives where it is."""
     if not any(REGISTRY.glob("serde_json-*")):
         for words in (["update"], ["install", "-y", "--no-install-recommends", "librust-serde-json-dev"]):
             subprocess.run(["apt-get", "-qq", *words], check=True, stdout=sys.stderr)
     words = [cargo(), "build", "--quiet", "--release", "--offline", "--target-dir", target]
-    subprocess.run(words, check=True, cwd=HERE, stdout=sys.stderr)
-    return f"{target}/release/desk_baseline"
+    subprocess.run(words, check=True, cwd=BENCH / name, stdout=sys.stderr)
+    return f"{target}/release/{name}"
 
 
 class Plain:

@@ -1,6 +1,6 @@
 // A night from a number, as `netsched workload` does it, in plain Rust with serde_json: the lines are drawn, done on the desk of
 // bench/desk_baseline and summed up in one line. The word is the number. The plan is sought by the workers of bench/plan_baseline, which
-// are faster at it than that desk's own rounds.
+// are faster at it than that desk's own rounds. With a second word, a number of workers, the lines for so many are printed, and not done.
 
 #[path = "../../desk_baseline/src/check.rs"]
 mod check;
@@ -66,13 +66,25 @@ fn reply_to(desk: &mut Desk, line: &str) -> Reply {
     }
 }
 
-fn main() -> Result<(), Box<dyn Error>> {
-    let number = std::env::args().nth(1).ok_or("a number is needed")?;
+/// Does the lines of the night of this number, and prints their summary.
+fn do_night(number: u32) {
     let mut desk = Desk::default();
     let mut summary = Summary::default();
-    for line in night::lines(number.parse()?, WORKERS) {
+    for line in night::lines(number, WORKERS) {
         summary.add(&reply_to(&mut desk, &line));
     }
     println!("{summary}");
+}
+
+fn main() -> Result<(), Box<dyn Error>> {
+    let mut words = std::env::args().skip(1);
+    let number = words.next().ok_or("a number is needed")?.parse()?;
+    match words.next() {
+        None => do_night(number),
+        Some(workers) => {
+            let workers = workers.parse()?;
+            night::lines(number, workers).for_each(|line| println!("{line}"));
+        }
+    }
     Ok(())
 }

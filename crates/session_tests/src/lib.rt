@@ -1,5 +1,4 @@
-// Tests of a whole session, of one of a realistic night, of one with several callers, of a book of two callers, and of a desk that
-// two callers share.
+// Tests of a whole session, of one with several callers, of a book of two callers, and of a desk that two callers share.
 #![tactic(auto)]
 
 #[cfg(test)]
@@ -18,5 +17,3 @@ mod script;
 mod session_tests;
 #[cfg(test)]
 mod two_passes;
-#[cfg(test)]
-mod workload_tests;
