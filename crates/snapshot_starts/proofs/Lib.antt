@@ -7,6 +7,7 @@ pub mod InRuns
 pub mod RunOrder
 pub mod RunParts
 pub mod RunSums
+pub mod Searching
 pub mod FoundPairs
 pub mod FoundRuns
 pub mod Alike

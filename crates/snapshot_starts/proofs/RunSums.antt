@@ -1,12 +1,13 @@
 -- Where a start stands among those of runs.
-use Rattle.std.proofs.Common.{◌≡◌, ℕ, zero, suc, ◌+◌, ◌-◌, ◌^◌, ◌<◌, ◌≤◌, inl, inr, List, [], ◌∷◌, length, take, slice_index_or, refl, sym, ◌∙◌, ap}
-use Rattle.std.proofs.Common.{subst, arith}
+use Rattle.std.proofs.Common.{◌≡◌, ℕ, zero, suc, ◌+◌, ◌-◌, ◌^◌, ◌<◌, ◌≤◌, inl, inr, List, [], ◌∷◌, ◌++◌, length, take}
+use Rattle.std.proofs.Common.{slice_index_or, refl, sym, ◌∙◌, ap, subst, arith}
 use Rattle.std.specs.List.Sorted.{IsNonDecreasingBy}
 use Rattle.std.proofs.lemmas.Bool.{cases_lt}
-use Rattle.std.proofs.lemmas.List.{get_or_default, take_all, take_more, take-take}
+use Rattle.std.proofs.lemmas.List.{get_or_default, get_or_append_left, get_or_push, take_all, take_more, take-take}
 use Rattle.std.proofs.lemmas.List.Concat.{get_or-flat_map}
 use Rattle.std.proofs.lemmas.List.Sums.{sum_by-take-le, sum_by-append}
 use Rattle.plan_base.specs.declared.claim.Placement.{Placement}
+use Rattle.plan_base.specs.Limits.{most_starts}
 use Rattle.snapshot_starts.specs.declared.run.Run.{Run}
 use Rattle.snapshot_starts.specs.Runs.{start_at, starts_of_run, starts_of}
 use Rattle.snapshot_starts.specs.Kept.{count_of, CanKeep, AreSums, IsCountUpTo}
@@ -59,12 +60,32 @@ begun_before : (sums : List ℕ) (index place : ℕ) → IsCountUpTo sums index 
 begun_before sums index zero up = omega arith
 begun_before sums index (suc place) up = up.up_to place (omega arith)
 
-one_more : (runs : List Run) (place : ℕ) (d : Run) → place < length runs
+pub one_more : (runs : List Run) (place : ℕ) (d : Run) → place < length runs
     → count_of (take (place + 1) runs) ≡ count_of (take place runs) + (slice_index_or runs place d).count
 one_more runs place d l =
     let more : count_of (take (place + 1) runs) ≡ count_of (take place runs) + count_of (slice_index_or runs place d ∷ []) =
     ap count_of (take_more runs place d l) ∙ sum_by-append (λ run. run.count) (take place runs) (slice_index_or runs place d ∷ []) in
     omega arith
+
+-- the starts of the runs up to one more are few
+pub sum_within : (runs : List Run) (i : ℕ) (d : Run) → i < length runs → count_of runs ≤ most_starts
+    → count_of (take i runs) + (slice_index_or runs i d).count < 2 ^ 32
+sum_within runs i d l few =
+    let most : count_of runs ≤ 1048576 = few in
+    let more : count_of (take (i + 1) runs) ≡ count_of (take i runs) + (slice_index_or runs i d).count = one_more runs i d l in
+    let less : count_of (take (i + 1) runs) ≤ count_of runs = sum_by-take-le (λ run. run.count) runs (i + 1) in
+    omega arith
+
+-- one more sum
+pub sum_pushed : (runs : List Run) (sums : List ℕ) (i sum : ℕ) → length sums ≡ i → sum ≡ count_of (take (i + 1) runs)
+    → ((k : ℕ) → k < i → slice_index_or sums k 0 ≡ count_of (take (k + 1) runs))
+    → (k : ℕ) → k < i + 1 → slice_index_or (sums ++ sum ∷ []) k 0 ≡ count_of (take (k + 1) runs)
+sum_pushed runs sums i sum long at each k below = elim (cases_lt k i) [
+  | inl before ↦ get_or_append_left sums (sum ∷ []) 0 k (omega arith) ∙ each k before
+  | inr past ↦
+      let here : k ≡ i = omega arith in
+      get_or_push sums sum 0 k (omega arith) ∙ at ∙ ap (λ (n : ℕ). count_of (take (n + 1) runs)) (sym here)
+]
 
 place_within : (runs : List Run) (sums : List ℕ) (index place : ℕ) → AreSums runs sums → IsCountUpTo sums index place
     → index < count_of runs → place < length sums

@@ -1,6 +1,7 @@
 // What two snapshots have in common that starts depend on.
 
-ghost use Rattle.std.specs.Prelude.{◌≡◌, true, [], IsTrue, IfOk, All, Contains};
+ghost use Rattle.std.specs.Prelude.{◌≡◌, [], IsTrue, IfOk, All, Contains};
+ghost use Rattle.std.specs.declared.cmp.Ordering.{Ordering};
 ghost use Rattle.plan_base.specs.Snapshot.{IsOrderly};
 ghost use Rattle.snapshot_starts.specs.Mending.{AreSteady, IsSteadyRequest, IsSteadyTelescope, IsSteadySky, IsAskedAlike, IsSeenAlike, AreShared, sky_key};
 
@@ -108,11 +109,10 @@ impl Steady {
 
 /// Whether the item is one of the list, which rises. It looks by halves.
 fn has<T: Copy + Ord>(list: &[T], item: T) -> bool
-    requires { (a b : T) → T.eq a b ≡ true → a ≡ b }
+    requires { (a b : T) → T.cmp a b ≡ Ordering.Equal → a ≡ b }
     ensures { IsTrue result → Contains list.now item }
 {
-    let place = list.partition_point(|x| *x < item);
-    place < list.len() && list[place] == item
+    list.binary_search(&item).is_ok()
 }
 
 /// The requests that both snapshots ask for alike.
