@@ -7,6 +7,7 @@ use crate::desk::{Desk, Sending};
 use crate::finishing::finish;
 use crate::working::work;
 use desk_book::Book;
+use plan_base::MOST_CALLERS;
 use plan_io::Gate;
 use std::alloc::{AllocError, Global};
 use std::marker::Brand;
@@ -14,7 +15,7 @@ use std::sync::Wait;
 use std::thread::{self, Threads};
 
 /// The callers that a book may have.
-const CALLERS: [u8; 8] = [0, 1, 2, 3, 4, 5, 6, 7];
+const CALLERS: [u8; MOST_CALLERS as usize] = [0, 1, 2, 3, 4, 5, 6, 7];
 
 /// Does the lines of each caller in a thread of its own, as far as there is memory.
 fn work_all<S: Sending + Send + Sync, R: Threads + Wait + Sync, G: Gate>(

@@ -9,6 +9,7 @@ ghost use Rattle.session.specs.Live.{caller_in, caller_of_bytes, caller_of};
 ghost use Rattle.session.specs.LiveParts.{IsSent, IsInput, IsInputCause, HasReadSome};
 
 use desk_book::Book;
+use plan_base::MOST_CALLERS;
 use plan_io::{LineAnswer, Lines, MOST_LINES, ScriptLine, Source};
 use plan_json::{Doc, JsonFault, Member, parse_object};
 use std::alloc::{AllocError, Global};
@@ -17,7 +18,7 @@ use std::alloc::{AllocError, Global};
 const MOST_LIVE_BYTES: u64 = 16_777_216;
 
 /// The greatest number of a caller.
-const LAST_CALLER: u32 = 7;
+const LAST_CALLER: u32 = MOST_CALLERS as u32 - 1;
 
 /// What was read of a source.
 #[derive(Clone, Copy)]
