@@ -6,9 +6,9 @@ use Rattle.std.specs.List.{AllZip}
 use Rattle.std.specs.declared.vec.Vec.{Vec}
 use Rattle.std.specs.declared.alloc.Global.{Global}
 use Rattle.std.specs.declared.alloc.AllocError.{AllocError}
-use Rattle.std.proofs.lemmas.List.{take_more, append-nil, length-map}
+use Rattle.std.proofs.lemmas.List.{take_more, append_assoc, map_more, flat_map_more, length-map}
 use Rattle.std.proofs.lemmas.List.Elements.{All-nil, All-cons, All-contains, Contains-get_or}
-use Rattle.std.proofs.lemmas.List.Concat.{flat_map-append, length-flat_map}
+use Rattle.std.proofs.lemmas.List.Concat.{length-flat_map}
 use Rattle.std.proofs.lemmas.List.Sums.{sum_by-le}
 use Rattle.plan_base.specs.declared.parts.Parts.{Parts}
 use Rattle.plan_base.specs.declared.parts.RequestPart.{RequestPart}
@@ -34,6 +34,22 @@ use Rattle.snapshot_starts.proofs.InRuns.{in_flat_map, pairs_flat_map}
 abbrev of_listed : Listed → List Pair
 of_listed x = pairs_of_request x.request
 
+-- what one more item of a list gives
+pub flat_map_one_more : {X Y : Type 0} (f : X → List Y) (xs : List X) (i : ℕ) (d : X) → i < length xs
+    → flat_map f (take (i + 1) xs) ≡ flat_map f (take i xs) ++ f (slice_index_or xs i d)
+flat_map_one_more f xs i d l = ap (flat_map f) (take_more xs i d l) ∙ sym (flat_map_more f [] (take i xs) (slice_index_or xs i d))
+
+-- the pair of one more telescope
+pub pushed_pair : (r : RequestNo) (ts us : List TelescopeNo) (pairs now new : List Pair) (i : ℕ) (d : TelescopeNo) → us ≡ ts → i < length us
+    → now ≡ pairs ++ map (pair_of r) (take i ts) → new ≡ now ++ pair_of r (slice_index_or us i d) ∷ []
+    → new ≡ pairs ++ map (pair_of r) (take (i + 1) ts)
+pushed_pair r ts us pairs now new i d same l so_far e =
+    let one : map (pair_of r) (take (i + 1) ts) ≡ map (pair_of r) (take i ts) ++ pair_of r (slice_index_or ts i d) ∷ [] =
+    map_more (pair_of r) ts i d (subst (λ (xs : List TelescopeNo). i < length xs) same l) in
+    e ∙ ap (λ (xs : List TelescopeNo). now ++ pair_of r (slice_index_or xs i d) ∷ []) same
+    ∙ ap (λ (ps : List Pair). ps ++ pair_of r (slice_index_or ts i d) ∷ []) so_far
+    ∙ append_assoc pairs (map (pair_of r) (take i ts)) (pair_of r (slice_index_or ts i d) ∷ []) ∙ ap (λ (ps : List Pair). pairs ++ ps) (sym one)
+
 pub more_pairs : (s : Parts) (place : ℕ) (q : RequestPart) (pairs new : List Pair) → place < length (listed s) → HoldsAt (λ x. x.request ≡ q) (listed s) place
     → pairs ≡ flat_map (λ x. pairs_of_request x.request) (take place (listed s)) → new ≡ pairs ++ pairs_of_request q
     → new ≡ flat_map (λ x. pairs_of_request x.request) (take (place + 1) (listed s))
@@ -41,10 +57,8 @@ more_pairs s place q pairs new l at so_far e =
     let x : Listed = record { group = 0; quota = None; request = q } in
     let y : Listed = slice_index_or (listed s) place x in
     let one : of_listed y ≡ pairs_of_request q = ap pairs_of_request (at x) in
-    let split : flat_map of_listed (take (place + 1) (listed s)) ≡ flat_map of_listed (take place (listed s)) ++ (of_listed y ++ []) =
-    ap (flat_map of_listed) (take_more (listed s) place x l) ∙ flat_map-append of_listed (take place (listed s)) (y ∷ []) in
-    let last : of_listed y ++ [] ≡ pairs_of_request q = append-nil (of_listed y) ∙ one in
-    e ∙ ap (λ (ps : List Pair). ps ++ pairs_of_request q) so_far ∙ sym (split ∙ ap (λ (ps : List Pair). flat_map of_listed (take place (listed s)) ++ ps) last)
+    e ∙ ap (λ (ps : List Pair). ps ++ pairs_of_request q) so_far
+    ∙ sym (flat_map_one_more of_listed (listed s) place x l ∙ ap (λ (ps : List Pair). flat_map of_listed (take place (listed s)) ++ ps) one)
 
 -- ---- the slices of one pair
 

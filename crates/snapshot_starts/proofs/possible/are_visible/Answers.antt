@@ -1,10 +1,12 @@
 use Rattle.std.proofs.Common.{List, slice_index_or, below_more, refl, subst, sym, ◌∙◌, arith}
-use Rattle.std.specs.Prelude.{HoldsAt}
+use Rattle.std.specs.Prelude.{All, HoldsAt}
 use Rattle.std.proofs.lemmas.Bool.{false≢true}
 use Rattle.std.proofs.lemmas.List.{get_or_default}
 use Rattle.plan_base.specs.declared.number.TargetNo.{TargetNo}
 use Rattle.plan_base.specs.declared.parts.Sky.{Sky}
 use Rattle.plan_base.proofs.Skies.{IsSeen}
+use Rattle.plan_base.specs.Snapshot.{IsSortedApart}
+use Rattle.plan_base.specs.Skies.{SkiesRise}
 use Rattle.snapshot_starts.proofs.possible.are_visible.Goals as goal
 
 pub returns-then-not-is_visible : goal.returns-then-not-is_visible
@@ -33,3 +35,9 @@ loop-target-preserved c =
 
 pub returns : goal.returns
 returns c = (λ _ k d l. c.loop-target.invariant k (omega arith) d, λ _. refl)
+
+pub is_visible-requires-clause-rise : goal.is_visible-requires-clause-rise
+is_visible-requires-clause-rise c = subst SkiesRise (sym c.as_slice.ensures) c.requires.skies_rise
+
+pub is_visible-requires-clause-apart : goal.is_visible-requires-clause-apart
+is_visible-requires-clause-apart c = subst (All (λ sky. IsSortedApart sky.spans)) (sym c.as_slice.ensures) c.requires.skies

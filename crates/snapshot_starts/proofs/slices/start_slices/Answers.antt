@@ -12,3 +12,9 @@ returns-in-Some c =
     IfOk-weaker c.open_slices.result _ _ (λ slices are. same_slices _ _ slices are
     (λ k (timely, is_open). open_can s q c.args.telescope k part c.in-Some.ensures.0 c.in-Some.ensures.1 able timely is_open)
     (λ k can. (can.timely, can_open s q c.args.telescope k part c.in-Some.ensures.0 c.in-Some.ensures.1 can))) c.open_slices.ensures
+
+pub open_slices-requires-clause-orderly : goal.open_slices-requires-clause-orderly
+open_slices-requires-clause-orderly c = c.requires.orderly
+
+pub open_slices-requires-clause-seconds : goal.open_slices-requires-clause-seconds
+open_slices-requires-clause-seconds c = c.requires.seconds
