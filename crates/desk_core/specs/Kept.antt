@@ -2,7 +2,8 @@
 use Rattle.std.specs.Prelude.{◌≡◌, ℕ, ◌+◌, ◌*◌, ◌^◌, ◌<◌, ◌≤◌, true, IsTrue, List, ◌++◌, length, All, IfSome, Option, Some, None, sum_by, if◌then◌else◌, nat_lt}
 use Rattle.std.specs.List.{AllZip, zip}
 use Rattle.std.specs.Option.{option_map_or}
-use Rattle.plan_base.specs.Limits.{most_version, least_len, most_len, most_slices, most_quota, most_value, most_seconds, most_lanes, most_rounds, most_workers, most_telescopes, most_pending, most_percent, most_fade, most_configurations}
+use Rattle.plan_base.specs.Limits.{most_version, least_len, most_len, most_slices, most_quota, most_value, most_seconds}
+use Rattle.plan_base.specs.Limits.{most_lanes, most_rounds, most_workers, most_telescopes, most_pending, most_percent, most_fade, most_configurations}
 use Rattle.plan_base.specs.Snapshot.{most_requests}
 use Rattle.plan_base.specs.Verdict.{IsCertified}
 use Rattle.plan_json.specs.Moment.{last_moment}

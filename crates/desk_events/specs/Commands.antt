@@ -1,6 +1,7 @@
 -- The commands: for each the members after `do`, in the order in which they are read, with their kinds and ranges.
 use Rattle.std.specs.Prelude.{is_some, if◌then◌else◌, Result, Ok}
-use Rattle.plan_base.specs.Limits.{most_version, least_len, most_len, most_slices, most_quota, most_seconds, most_lanes, most_rounds, most_workers, most_ms, most_carried, most_grant, most_percent, most_number}
+use Rattle.plan_base.specs.Limits.{most_version, least_len, most_len, most_slices, most_quota, most_seconds, most_ms, most_number}
+use Rattle.plan_base.specs.Limits.{most_lanes, most_rounds, most_workers, most_carried, most_grant, most_percent}
 use Rattle.serde_json.specs.Data.{Members}
 use Rattle.plan_base.specs.declared.number.GroupNo.{GroupNo}
 use Rattle.plan_json.specs.declared.member.Member.TheVariants as member

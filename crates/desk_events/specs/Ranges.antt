@@ -1,6 +1,7 @@
 -- The ranges of what is read: each command's texts, numbers, spans and counts.
 use Rattle.std.specs.Prelude.{◌≡◌, ℕ, ◌≤◌, List, [], length, All, Option, IfSome, ⊤}
-use Rattle.plan_base.specs.Limits.{most_version, least_len, most_len, most_slices, most_quota, most_seconds, most_lanes, most_rounds, most_workers, most_ms, most_carried, most_spans, most_grant, most_percent}
+use Rattle.plan_base.specs.Limits.{most_version, least_len, most_len, most_slices, most_quota, most_seconds, most_ms}
+use Rattle.plan_base.specs.Limits.{most_lanes, most_rounds, most_workers, most_carried, most_spans, most_grant, most_percent}
 use Rattle.plan_base.specs.declared.claim.Claim.{Claim}
 use Rattle.plan_base.specs.declared.number.Sec.{Sec}
 use Rattle.plan_base.specs.declared.span.Span.{Span}

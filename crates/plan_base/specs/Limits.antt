@@ -1,4 +1,4 @@
--- The greatest numbers of snapshots, plans and claims.
+-- The limits of what is planned and kept.
 use Rattle.std.specs.Prelude.{ℕ, ◌*◌, ◌^◌}
 
 -- the most changes that a desk accepts, and so its greatest version

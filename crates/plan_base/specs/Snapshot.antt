@@ -25,7 +25,9 @@ use Rattle.plan_base.specs.declared.fault.SnapshotFault.TheVariants.{
   NoSuchQuota,
   QuotaRange,
 }
-use Rattle.plan_base.specs.Limits.{most_moment, most_slices, most_seconds, most_value, most_quota, most_version, least_len, most_len, most_first, most_pending, most_members, most_asked, most_windows, most_configurations, most_telescopes, most_visibility, most_fade}
+use Rattle.plan_base.specs.Limits.{most_moment, most_slices, most_seconds, most_value, most_quota, most_version, least_len, most_len}
+use Rattle.plan_base.specs.Limits.{most_first, most_pending, most_members, most_asked, most_windows, most_configurations, most_telescopes}
+use Rattle.plan_base.specs.Limits.{most_visibility, most_fade}
 use Rattle.plan_base.specs.Requests.{listed}
 use Rattle.plan_base.specs.Skies.{SkiesRise}
 

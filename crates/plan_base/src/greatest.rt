@@ -1,4 +1,4 @@
-// The greatest numbers of snapshots, plans and claims, each named once.
+// The limits of what is planned and kept, each named once.
 
 /// The most changes that a desk accepts, and so its greatest version.
 pub const MOST_VERSION: u32 = 524_288;

@@ -12,7 +12,8 @@ use Rattle.plan_base.specs.declared.parts.GroupPart.{GroupPart}
 use Rattle.plan_base.specs.declared.parts.Parts.{Parts}
 use Rattle.plan_base.specs.Limits.{most_moment, most_seconds, most_value, most_slices, most_version, most_first, least_len, most_len, most_fade, most_number}
 use Rattle.plan_json.specs.Ranges.{IsBetween}
-use Rattle.plan_doc.specs.Limits.{most_items, highest_number, highest_quota, most_listed, most_quota_prices, highest_price, highest_quota_price, highest_value, highest_bound}
+use Rattle.plan_doc.specs.Limits.{most_items, most_listed, most_quota_prices}
+use Rattle.plan_doc.specs.Limits.{highest_number, highest_quota, highest_price, highest_quota_price, highest_value, highest_bound}
 
 -- ---- claims
 

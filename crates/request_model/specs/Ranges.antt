@@ -1,6 +1,7 @@
 -- Which groups have a document: their texts, numbers and counts are in the ranges in which they are read.
 use Rattle.std.specs.Prelude.{◌≡◌, ◌<◌, ◌≤◌, List, length, All, IfSome, true}
-use Rattle.plan_base.specs.Limits.{most_ms, most_period, most_exposures, most_configurations, most_windows, most_percent, most_fade, least_ipp, most_ipp, most_priority}
+use Rattle.plan_base.specs.Limits.{most_ms, most_period, most_exposures, most_configurations, most_windows}
+use Rattle.plan_base.specs.Limits.{most_percent, most_fade, least_ipp, most_ipp, most_priority}
 use Rattle.plan_base.specs.declared.span.Span.{Span}
 use Rattle.plan_json.specs.Moment.{last_moment}
 use Rattle.plan_json.specs.Ranges.{IsBetween, IsText}

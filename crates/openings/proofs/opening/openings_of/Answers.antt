@@ -5,7 +5,8 @@ use Rattle.openings.proofs.Flags.{rows_none, rows_more}
 use Rattle.openings.proofs.opening.openings_of.Goals as goal
 
 pub loop-telescope-init : goal.loop-telescope-init
-loop-telescope-init c = subst (AreRowsTo c.args.snapshot.now c.args.request.0 0) (sym c.in_ok-rows.ensures.items) (rows_none c.args.snapshot.now c.args.request.0)
+loop-telescope-init c =
+    subst (AreRowsTo c.args.snapshot.now c.args.request.0 0) (sym c.in_ok-rows.ensures.items) (rows_none c.args.snapshot.now c.args.request.0)
 
 pub loop-telescope-preserved : goal.loop-telescope-preserved
 loop-telescope-preserved c =
@@ -15,7 +16,8 @@ loop-telescope-preserved c =
 
 pub returns-clause-openings : goal.returns-clause-openings
 returns-clause-openings c =
-    let count : length c.parts-2.result.now.telescopes ≡ length c.args.snapshot.now.telescopes = ap (λ (s : Parts). length s.telescopes) c.parts-2.ensures.value in
+    let count : length c.parts-2.result.now.telescopes ≡ length c.args.snapshot.now.telescopes =
+    ap (λ (s : Parts). length s.telescopes) c.parts-2.ensures.value in
     let all : c.loop-telescope.telescope ≡ length c.args.snapshot.now.telescopes =
     omega (arith, c.loop-telescope-test.false, c.loop-telescope.auto.telescope-end, c.len-telescope-end.ensures) in
     record {

@@ -22,8 +22,8 @@ invariant_of-self-2 c =
     let place : c.from-place.result ≡ c.args.caller = c.from-place.ensures in
     let at : c.index.result.now ≡ get_or c.self.inside.done.items c.args.caller c.index.result.now =
     subst (λ (k : ℕ). c.index.result.now ≡ get_or c.self.inside.done.items k c.index.result.now) place c.index.ensures in
-    let x = take_fields b c.self.inside.done.items c.args.caller c.index.result.now c.version.result c.args.read.now c.in_ok-kept.kept c.push_reserved.new.self.items
-    c.self.invariant.sound c.self.invariant.counted low at shut next asks was named c.version.ensures.version
+    let x = take_fields b c.self.inside.done.items c.args.caller c.index.result.now c.version.result c.args.read.now c.in_ok-kept.kept
+    c.push_reserved.new.self.items c.self.invariant.sound c.self.invariant.counted low at shut next asks was named c.version.ensures.version
     (pushed c.self.inside.history.items c.reserve.new.self.items c.push_reserved.new.self.items _
     c.push_reserved.ensures.items c.in_ok-reserve.ensures.items) in
     let now : ℕ → BookSeen = λ k. book_with b c.push_reserved.new.self.items b.state (set b.takes k (Some c.in_ok-kept.kept)) in
