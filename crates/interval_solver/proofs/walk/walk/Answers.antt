@@ -237,3 +237,13 @@ returns g c =
       snapshot = c.loop-slice.invariant.snapshot;
       room = c.loop-slice.invariant.room;
     }
+
+pub busy_slice-slice-requires : goal.busy_slice-slice-requires
+busy_slice-slice-requires g c = (search rules, (c.requires.lane, (omega (arith, c.requires.length), c.requires.entries)))
+
+pub number_at-entry-requires : goal.number_at-entry-requires
+number_at-entry-requires g c =
+    (search rules, (c.requires.lane, (omega (arith, c.loop-slice-test.true, c.requires.length), λ k d l. (c.requires.entries k d l).count)))
+
+pub row-requires : goal.row-requires
+row-requires g c = omega (arith, c.loop-slice-test.true, c.len.ensures)
