@@ -63,24 +63,15 @@ fn check_mended<R: Threads + Sync + Abort>(
 }
 
 #[test]
-fn starts_before_the_clock_go(rt: HostRuntime) -> Result<(), Fail> {
-    let alloc = rt.alloc();
-    let wishes = [wish_of(300)];
-    let mut cache = StartCache::new();
-    let before = night_from(alloc, 0, &NIGHT, &wishes)?;
-    check_mended(&rt, alloc, &mut cache, &before, &[run(0, 12)])?;
-    let after = night_from(alloc, 1, &NIGHT, &wishes)?;
-    check_mended(&rt, alloc, &mut cache, &after, &[run(1, 11)])
-}
-
-#[test]
-fn starts_come_back_with_a_telescope(rt: HostRuntime) -> Result<(), Fail> {
+fn starts_go_with_the_clock_and_a_closure(rt: HostRuntime) -> Result<(), Fail> {
     let alloc = rt.alloc();
     let wishes = [wish_of(600)];
     let around = [(0, 900), (1800, 3600)];
     let mut cache = StartCache::new();
-    let closed = night_from(alloc, 0, &around, &wishes)?;
-    check_mended(&rt, alloc, &mut cache, &closed, &[run(0, 2), run(6, 5)])?;
-    let reopened = night_from(alloc, 0, &NIGHT, &wishes)?;
-    check_mended(&rt, alloc, &mut cache, &reopened, &[run(0, 11)])
+    let night = night_from(alloc, 0, &NIGHT, &wishes)?;
+    check_mended(&rt, alloc, &mut cache, &night, &[run(0, 11)])?;
+    let closed = night_from(alloc, 1, &around, &wishes)?;
+    check_mended(&rt, alloc, &mut cache, &closed, &[run(1, 1), run(6, 5)])?;
+    let reopened = night_from(alloc, 1, &NIGHT, &wishes)?;
+    check_mended(&rt, alloc, &mut cache, &reopened, &[run(1, 10)])
 }
