@@ -1,5 +1,4 @@
-use Rattle.std.proofs.Common.{rules, ◌≡◌, ◌+◌, ◌<◌, ◌≤◌, ℕ, ℤ, List, length, refl, sym, ◌∙◌, ap, subst, arith}
-use Rattle.interval_solver.proofs.Stepping.{next_room, walked_more}
+use Rattle.std.proofs.Common.{refl, arith}
 use Rattle.interval_solver.proofs.in_step.walk_all.Goals as goal
 
 pub loop-place-init : goal.loop-place-init

@@ -1,4 +1,4 @@
-use Rattle.std.proofs.Common.{◌≡◌, ◌<◌, ℕ, [], ℤ, pos, List, length, slice_index_or, ◌∙◌, ap, arith}
+use Rattle.std.proofs.Common.{◌≡◌, ◌<◌, [], pos, length, ◌∙◌, ap, arith}
 use Rattle.std.proofs.lemmas.List.{get_or-map, length-map, ext_get_or}
 use Rattle.interval_solver.specs.Lanes.{number_in, lane}
 use Rattle.interval_solver.proofs.solver.write_prices.Goals as goal

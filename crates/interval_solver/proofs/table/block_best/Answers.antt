@@ -1,4 +1,4 @@
-use Rattle.std.proofs.Common.{rules, ◌≡◌, ◌<◌, ◌+◌, List, length, take, subst, refl, arith}
+use Rattle.std.proofs.Common.{rules, ◌≡◌, List, take, subst, refl, arith}
 use Rattle.std.proofs.lemmas.List.{take_all}
 use Rattle.interval_solver.specs.declared.start.Start.{Start}
 use Rattle.interval_solver.specs.Blocks.{IsWholeAt}

@@ -1,14 +1,14 @@
-use Rattle.std.proofs.Common.{rules, ◌≡◌, ◌≢◌, ◌+◌, ◌<◌, ◌≤◌, ℕ, List, [], ◌∷◌, ◌++◌, length, w64, Contains, refl, sym, ◌∙◌, ap, subst, arith}
+use Rattle.std.proofs.Common.{rules, ◌≡◌, ◌+◌, ◌≤◌, ℕ, List, [], ◌∷◌, ◌++◌, length, w64, Contains, refl, sym, ◌∙◌, ap, subst, arith}
 use Rattle.std.proofs.lemmas.Int.{to_z-of_z}
 use Rattle.std.proofs.lemmas.List.{append-nil, append_assoc, length_push}
 use Rattle.plan_base.specs.declared.parts.Parts.{Parts}
 use Rattle.plan_base.specs.declared.claim.Placement.{Placement}
-use Rattle.plan_base.specs.Requests.{listed, place_of, IsKnown}
+use Rattle.plan_base.specs.Requests.{place_of, IsKnown}
 use Rattle.plan_base.specs.Tables.{entry, row}
 use Rattle.plan_base.proofs.Here.{IsHere, request_here}
 use Rattle.interval_solver.specs.declared.start.Start.{Start}
 use Rattle.interval_solver.specs.Uses.{Started}
-use Rattle.interval_solver.specs.Tables.{IsFirstTight, DoRowsFit}
+use Rattle.interval_solver.specs.Tables.{IsFirstTight}
 use Rattle.interval_solver.specs.Lanes.{lane}
 use Rattle.interval_solver.proofs.LaneFilling.{all_fit}
 use Rattle.interval_solver.proofs.Tabled.{rows_fit}
