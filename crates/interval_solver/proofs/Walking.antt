@@ -125,7 +125,7 @@ module _ (s : Parts) (t : TelescopeNo) (rows : List (List Start)) (orderly : IsO
         omega (arith, ap (λ (z : Start). z.place) one)
   ]
 
-  pub first_in_row : (i : ℕ) (x : Start) → IsFirstTight prices table (entry table i) (row rows i) x → Contains (row rows i) x
+  first_in_row : (i : ℕ) (x : Start) → IsFirstTight prices table (entry table i) (row rows i) x → Contains (row rows i) x
   first_in_row i x first = (first.place, first.within, first.at)
 
   -- where the table changes, the first start that gives its number starts
@@ -153,15 +153,21 @@ module _ (s : Parts) (t : TelescopeNo) (rows : List (List Start)) (orderly : IsO
       × (gain prices table x ≡ entry table i)
   tight_reached i l differ = elim ((recursion.each i l).reached) [ inl e ↦ absurd (differ e) | inr (x, has, e) ↦ (x, has, sym e) ]
 
-  -- what was read as the row and its number
-  pub first_read : (i : ℕ) (b : ℤ) (xs : List Start) (x : Start) → xs ≡ row rows i → b ≡ entry table i → IsFirstTight prices table b xs x
-      → IsFirstTight prices table (entry table i) (row rows i) x
-  first_read i b xs x same number first =
-      subst (λ (n : ℤ). IsFirstTight prices table n (row rows i) x) number (subst (λ (ys : List Start). IsFirstTight prices table b ys x) same first)
+  -- what is known of the start that was read where the table changes
+  pub record IsRead (i : ℕ) (x : Start) : Type 0 where
+    pub first : IsFirstTight prices table (entry table i) (row rows i) x
+    pub after : i < x.after
+    pub within : x.after ≤ length rows
+    pub place : x.place < length (listed s)
 
-  -- a start in a row ends after it and within the rows, and its place is that of a request
-  pub row_ends : (i : ℕ) (x : Start) → Contains (row rows i) x → (i < x.after) × (x.after ≤ length rows) × (x.place < length (listed s))
-  row_ends i x has = let fits = rows_fit s t.0 rows orderly listing (length (listed s)) refl i x has in (fits.after, fits.within, fits.place)
+  -- it is so of the first start of what was read as the row that gives what was read as its number
+  pub is_read : (i : ℕ) (b : ℤ) (xs : List Start) (x : Start) → xs ≡ row rows i → b ≡ entry table i → IsFirstTight prices table b xs x
+      → IsRead i x
+  is_read i b xs x same number tight =
+      let first : IsFirstTight prices table (entry table i) (row rows i) x =
+      subst (λ (n : ℤ). IsFirstTight prices table n (row rows i) x) number (subst (λ (ys : List Start). IsFirstTight prices table b ys x) same tight) in
+      let fits = rows_fit s t.0 rows orderly listing (length (listed s)) refl i x (first_in_row i x first) in
+      record { first = first; after = fits.after; within = fits.within; place = fits.place }
 
   -- the walk begins
   pub walk_begins : (i : ℕ) → i ≤ length rows → IsFlat table 0 i → IsWalked s prices t.0 i []

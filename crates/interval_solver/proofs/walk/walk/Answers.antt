@@ -4,15 +4,13 @@ use Rattle.std.proofs.lemmas.List.{append-nil, append_assoc, length_push}
 use Rattle.plan_base.specs.declared.parts.Parts.{Parts}
 use Rattle.plan_base.specs.declared.claim.Placement.{Placement}
 use Rattle.plan_base.specs.Requests.{place_of, IsKnown}
-use Rattle.plan_base.specs.Tables.{entry, row}
 use Rattle.plan_base.proofs.Here.{IsHere, request_here}
 use Rattle.interval_solver.specs.declared.start.Start.{Start}
 use Rattle.interval_solver.specs.Uses.{Started}
-use Rattle.interval_solver.specs.Tables.{IsFirstTight}
 use Rattle.interval_solver.specs.Lanes.{lane}
 use Rattle.interval_solver.proofs.LaneFilling.{all_fit}
 use Rattle.interval_solver.proofs.Tabled.{rows_fit}
-use Rattle.interval_solver.proofs.Walking.{placed_at, tight_reached, row_ends, first_in_row, first_read, walk_begins, walk_goes_on, walk_ends}
+use Rattle.interval_solver.proofs.Walking.{placed_at, tight_reached, is_read, walk_begins, walk_goes_on, walk_ends}
 use Rattle.interval_solver.proofs.walk.walk.Goals as goal
 use mir.Val.{SFits}
 
@@ -72,119 +70,65 @@ tight_start-start-requires g c =
 pub request_at-requires : goal.request_at-requires
 request_at-requires g c =
     let fit : SFits w64 c.number_at-entry.result = search rules in
-    let first : IsFirstTight (lane c.args.lane_place c.args.prices.now) (lane c.args.lane_place c.args.table.now)
-    (entry (lane c.args.lane_place c.args.table.now) c.loop-slice.slice) (row c.args.rows.now c.loop-slice.slice) c.tight_start-start.result
-    = first_read c.args.snapshot.now c.args.telescope c.args.rows.now c.parts.ensures.orderly c.requires.listing
+    let read = is_read c.args.snapshot.now c.args.telescope c.args.rows.now c.parts.ensures.orderly c.requires.listing
     (lane c.args.lane_place c.args.prices.now) (lane c.args.lane_place c.args.table.now) c.requires.recursion c.loop-slice.slice _
     c.row.result.now c.tight_start-start.result c.row.ensures
-    (to_z-of_z w64 c.number_at-entry.result fit ∙ c.number_at-entry.ensures) c.tight_start-start.ensures
-    in
-    let has = first_in_row c.args.snapshot.now c.args.telescope c.args.rows.now c.parts.ensures.orderly c.requires.listing
-    (lane c.args.lane_place c.args.prices.now) (lane c.args.lane_place c.args.table.now) c.requires.recursion c.loop-slice.slice
-    c.tight_start-start.result first in
-    let ends = row_ends c.args.snapshot.now c.args.telescope c.args.rows.now c.parts.ensures.orderly c.requires.listing
-    (lane c.args.lane_place c.args.prices.now) (lane c.args.lane_place c.args.table.now) c.requires.recursion c.loop-slice.slice
-    c.tight_start-start.result has in
-    ends.2
+    (to_z-of_z w64 c.number_at-entry.result fit ∙ c.number_at-entry.ensures) c.tight_start-start.ensures in
+    read.place
 
 pub add-requires-clause-known : goal.add-requires-clause-known
 add-requires-clause-known g c =
     let fit : SFits w64 c.number_at-entry.result = search rules in
-    let first : IsFirstTight (lane c.args.lane_place c.args.prices.now) (lane c.args.lane_place c.args.table.now)
-    (entry (lane c.args.lane_place c.args.table.now) c.loop-slice.slice) (row c.args.rows.now c.loop-slice.slice) c.tight_start-start.result
-    = first_read c.args.snapshot.now c.args.telescope c.args.rows.now c.parts.ensures.orderly c.requires.listing
+    let read = is_read c.args.snapshot.now c.args.telescope c.args.rows.now c.parts.ensures.orderly c.requires.listing
     (lane c.args.lane_place c.args.prices.now) (lane c.args.lane_place c.args.table.now) c.requires.recursion c.loop-slice.slice _
     c.row.result.now c.tight_start-start.result c.row.ensures
-    (to_z-of_z w64 c.number_at-entry.result fit ∙ c.number_at-entry.ensures) c.tight_start-start.ensures
-    in
-    let has = first_in_row c.args.snapshot.now c.args.telescope c.args.rows.now c.parts.ensures.orderly c.requires.listing
-    (lane c.args.lane_place c.args.prices.now) (lane c.args.lane_place c.args.table.now) c.requires.recursion c.loop-slice.slice
-    c.tight_start-start.result first in
-    let ends = row_ends c.args.snapshot.now c.args.telescope c.args.rows.now c.parts.ensures.orderly c.requires.listing
-    (lane c.args.lane_place c.args.prices.now) (lane c.args.lane_place c.args.table.now) c.requires.recursion c.loop-slice.slice
-    c.tight_start-start.result has in
+    (to_z-of_z w64 c.number_at-entry.result fit ∙ c.number_at-entry.ensures) c.tight_start-start.ensures in
     let here : IsHere c.args.snapshot.now c.tight_start-start.result.place c.request_at.result.now =
     request_here c.args.snapshot.now c.tight_start-start.result.place c.request_at.result.now c.parts.ensures.orderly
-    ends.2 c.request_at.ensures in
+    read.place c.request_at.ensures in
     subst (λ (s : Parts). IsKnown s c.request_at.result.now.request.0) (sym c.loop-slice.invariant.snapshot) here.known
 
 pub add-requires-clause-place : goal.add-requires-clause-place
 add-requires-clause-place g c =
     let fit : SFits w64 c.number_at-entry.result = search rules in
-    let first : IsFirstTight (lane c.args.lane_place c.args.prices.now) (lane c.args.lane_place c.args.table.now)
-    (entry (lane c.args.lane_place c.args.table.now) c.loop-slice.slice) (row c.args.rows.now c.loop-slice.slice) c.tight_start-start.result
-    = first_read c.args.snapshot.now c.args.telescope c.args.rows.now c.parts.ensures.orderly c.requires.listing
+    let read = is_read c.args.snapshot.now c.args.telescope c.args.rows.now c.parts.ensures.orderly c.requires.listing
     (lane c.args.lane_place c.args.prices.now) (lane c.args.lane_place c.args.table.now) c.requires.recursion c.loop-slice.slice _
     c.row.result.now c.tight_start-start.result c.row.ensures
-    (to_z-of_z w64 c.number_at-entry.result fit ∙ c.number_at-entry.ensures) c.tight_start-start.ensures
-    in
-    let has = first_in_row c.args.snapshot.now c.args.telescope c.args.rows.now c.parts.ensures.orderly c.requires.listing
-    (lane c.args.lane_place c.args.prices.now) (lane c.args.lane_place c.args.table.now) c.requires.recursion c.loop-slice.slice
-    c.tight_start-start.result first in
-    let ends = row_ends c.args.snapshot.now c.args.telescope c.args.rows.now c.parts.ensures.orderly c.requires.listing
-    (lane c.args.lane_place c.args.prices.now) (lane c.args.lane_place c.args.table.now) c.requires.recursion c.loop-slice.slice
-    c.tight_start-start.result has in
+    (to_z-of_z w64 c.number_at-entry.result fit ∙ c.number_at-entry.ensures) c.tight_start-start.ensures in
     let here : IsHere c.args.snapshot.now c.tight_start-start.result.place c.request_at.result.now =
     request_here c.args.snapshot.now c.tight_start-start.result.place c.request_at.result.now c.parts.ensures.orderly
-    ends.2 c.request_at.ensures in
+    read.place c.request_at.ensures in
     c.from.ensures ∙ sym here.at ∙ ap (λ (s : Parts). place_of s c.request_at.result.now.request.0) (sym c.loop-slice.invariant.snapshot)
 
 pub busy_slice-slice-requires-in-loop-slice : goal.busy_slice-slice-requires-in-loop-slice
 busy_slice-slice-requires-in-loop-slice g c =
     let fit : SFits w64 c.number_at-entry.result = search rules in
-    let first : IsFirstTight (lane c.args.lane_place c.args.prices.now) (lane c.args.lane_place c.args.table.now)
-    (entry (lane c.args.lane_place c.args.table.now) c.loop-slice.slice) (row c.args.rows.now c.loop-slice.slice) c.tight_start-start.result
-    = first_read c.args.snapshot.now c.args.telescope c.args.rows.now c.parts.ensures.orderly c.requires.listing
+    let read = is_read c.args.snapshot.now c.args.telescope c.args.rows.now c.parts.ensures.orderly c.requires.listing
     (lane c.args.lane_place c.args.prices.now) (lane c.args.lane_place c.args.table.now) c.requires.recursion c.loop-slice.slice _
     c.row.result.now c.tight_start-start.result c.row.ensures
-    (to_z-of_z w64 c.number_at-entry.result fit ∙ c.number_at-entry.ensures) c.tight_start-start.ensures
-    in
-    let has = first_in_row c.args.snapshot.now c.args.telescope c.args.rows.now c.parts.ensures.orderly c.requires.listing
-    (lane c.args.lane_place c.args.prices.now) (lane c.args.lane_place c.args.table.now) c.requires.recursion c.loop-slice.slice
-    c.tight_start-start.result first in
-    let ends = row_ends c.args.snapshot.now c.args.telescope c.args.rows.now c.parts.ensures.orderly c.requires.listing
-    (lane c.args.lane_place c.args.prices.now) (lane c.args.lane_place c.args.table.now) c.requires.recursion c.loop-slice.slice
-    c.tight_start-start.result has in
-    (search rules, (c.requires.lane, (omega (arith, ends.1, c.requires.length), c.requires.entries)))
+    (to_z-of_z w64 c.number_at-entry.result fit ∙ c.number_at-entry.ensures) c.tight_start-start.ensures in
+    (search rules, (c.requires.lane, (omega (arith, read.within, c.requires.length), c.requires.entries)))
 
 pub loop-slice-smaller : goal.loop-slice-smaller
 loop-slice-smaller g c =
     let fit : SFits w64 c.number_at-entry.result = search rules in
-    let first : IsFirstTight (lane c.args.lane_place c.args.prices.now) (lane c.args.lane_place c.args.table.now)
-    (entry (lane c.args.lane_place c.args.table.now) c.loop-slice.slice) (row c.args.rows.now c.loop-slice.slice) c.tight_start-start.result
-    = first_read c.args.snapshot.now c.args.telescope c.args.rows.now c.parts.ensures.orderly c.requires.listing
+    let read = is_read c.args.snapshot.now c.args.telescope c.args.rows.now c.parts.ensures.orderly c.requires.listing
     (lane c.args.lane_place c.args.prices.now) (lane c.args.lane_place c.args.table.now) c.requires.recursion c.loop-slice.slice _
     c.row.result.now c.tight_start-start.result c.row.ensures
-    (to_z-of_z w64 c.number_at-entry.result fit ∙ c.number_at-entry.ensures) c.tight_start-start.ensures
-    in
-    let has = first_in_row c.args.snapshot.now c.args.telescope c.args.rows.now c.parts.ensures.orderly c.requires.listing
-    (lane c.args.lane_place c.args.prices.now) (lane c.args.lane_place c.args.table.now) c.requires.recursion c.loop-slice.slice
-    c.tight_start-start.result first in
-    let ends = row_ends c.args.snapshot.now c.args.telescope c.args.rows.now c.parts.ensures.orderly c.requires.listing
-    (lane c.args.lane_place c.args.prices.now) (lane c.args.lane_place c.args.table.now) c.requires.recursion c.loop-slice.slice
-    c.tight_start-start.result has in
+    (to_z-of_z w64 c.number_at-entry.result fit ∙ c.number_at-entry.ensures) c.tight_start-start.ensures in
     let later = c.busy_slice-slice-in-loop-slice.ensures.from in
-    omega (arith, ends.0)
+    omega (arith, read.after)
 
 pub loop-slice-preserved : goal.loop-slice-preserved
 loop-slice-preserved g c =
     let fit : SFits w64 c.number_at-entry.result = search rules in
-    let first : IsFirstTight (lane c.args.lane_place c.args.prices.now) (lane c.args.lane_place c.args.table.now)
-    (entry (lane c.args.lane_place c.args.table.now) c.loop-slice.slice) (row c.args.rows.now c.loop-slice.slice) c.tight_start-start.result
-    = first_read c.args.snapshot.now c.args.telescope c.args.rows.now c.parts.ensures.orderly c.requires.listing
+    let read = is_read c.args.snapshot.now c.args.telescope c.args.rows.now c.parts.ensures.orderly c.requires.listing
     (lane c.args.lane_place c.args.prices.now) (lane c.args.lane_place c.args.table.now) c.requires.recursion c.loop-slice.slice _
     c.row.result.now c.tight_start-start.result c.row.ensures
-    (to_z-of_z w64 c.number_at-entry.result fit ∙ c.number_at-entry.ensures) c.tight_start-start.ensures
-    in
-    let has = first_in_row c.args.snapshot.now c.args.telescope c.args.rows.now c.parts.ensures.orderly c.requires.listing
-    (lane c.args.lane_place c.args.prices.now) (lane c.args.lane_place c.args.table.now) c.requires.recursion c.loop-slice.slice
-    c.tight_start-start.result first in
-    let ends = row_ends c.args.snapshot.now c.args.telescope c.args.rows.now c.parts.ensures.orderly c.requires.listing
-    (lane c.args.lane_place c.args.prices.now) (lane c.args.lane_place c.args.table.now) c.requires.recursion c.loop-slice.slice
-    c.tight_start-start.result has in
+    (to_z-of_z w64 c.number_at-entry.result fit ∙ c.number_at-entry.ensures) c.tight_start-start.ensures in
     let here : IsHere c.args.snapshot.now c.tight_start-start.result.place c.request_at.result.now =
     request_here c.args.snapshot.now c.tight_start-start.result.place c.request_at.result.now c.parts.ensures.orderly
-    ends.2 c.request_at.ensures in
+    read.place c.request_at.ensures in
     let walked = c.loop-slice.invariant.walked in
     let at : c.parts.result.now.first.0 ≡ c.args.snapshot.now.first.0 = ap (λ (s : Parts). s.first.0) c.parts.ensures.value in
     let placement : Placement = record {
@@ -208,7 +152,7 @@ loop-slice-preserved g c =
         walk_goes_on c.args.snapshot.now c.args.telescope c.args.rows.now c.parts.ensures.orderly c.requires.listing
             (lane c.args.lane_place c.args.prices.now) (lane c.args.lane_place c.args.table.now) c.requires.recursion c.loop-slice.slice
             c.busy_slice-slice-in-loop-slice.result c.tight_start-start.result c.request_at.result.now walked.0
-            here (omega arith) (c.loop-slice.invariant.busy (omega arith)) first c.busy_slice-slice-in-loop-slice.ensures.from
+            here (omega arith) (c.loop-slice.invariant.busy (omega arith)) read.first c.busy_slice-slice-in-loop-slice.ensures.from
             (omega arith) c.busy_slice-slice-in-loop-slice.ensures.idle walked.1,
         added ∙ ap (λ (p : Placement). c.loop-slice.uses.starts ++ p ∷ []) placed
             ∙ ap (λ (ps : List Placement). ps ++ placed_at c.args.snapshot.now c.args.telescope c.loop-slice.slice c.request_at.result.now.request
@@ -217,7 +161,7 @@ loop-slice-preserved g c =
             (placed_at c.args.snapshot.now c.args.telescope c.loop-slice.slice c.request_at.result.now.request ∷ []),
         let before : length walked.0 ≤ c.loop-slice.slice = walked.3 in
             let later = c.busy_slice-slice-in-loop-slice.ensures.from in
-            omega (arith, ends.0, length_push walked.0 (placed_at c.args.snapshot.now c.args.telescope c.loop-slice.slice c.request_at.result.now.request)),
+            omega (arith, read.after, length_push walked.0 (placed_at c.args.snapshot.now c.args.telescope c.loop-slice.slice c.request_at.result.now.request)),
       );
       snapshot = ap (λ (u : Started). u.snapshot) c.add.ensures ∙ c.loop-slice.invariant.snapshot;
       room = ap (λ (u : Started). u.room) c.add.ensures ∙ c.loop-slice.invariant.room;
